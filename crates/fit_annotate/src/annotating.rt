@@ -96,14 +96,16 @@ fn taken(alloc: Global, text: Vec<u8>) -> Result<Vec<u8>, Refusal>
     }
 }
 
-/// A source with all annotations that can be found: cells, fuel, params, results, where the source tells depths depths, and for each 0
-/// that stands for a function's stack room or budget its number. What it says already stays, and is taken for granted. Of a function
-/// of which a block's fuel is said no other block's is found. What isn't shown is noted, by line, and the verifier would refuse it there.
-/// What is made means an image, and without its annotations it is the source without its own.
+/// A source with all annotations that can be found: cells, fuel, params, results, where the source tells depths depths,
+/// and for each 0 that stands for a function's stack room or budget its number. What it says already stays, and is
+/// taken for granted. Of a function of which a block's fuel is said no other block's is found. What isn't shown is
+/// noted, by line, and the verifier would refuse it there. What is made means an image, and without its annotations it
+/// is the source without its own.
 ///
 /// # Errors
-/// `Source` as the assembler refuses the source. `Program` where a word has no place in a program, with its line, and where more is known
-/// of a block than an image may say. `Made` where the annotations pass another limit of the language. Asked of memory in each.
+/// `Source` as the assembler refuses the source. `Program` where a word has no place in a program, with its line, and
+/// where more is known of a block than an image may say. `Made` where the annotations pass another limit of the
+/// language. Asked of memory in each.
 pub fn annotate(alloc: Global, file: &str, source: &[u8]) -> Result<Annotated, Refusal>
     ensures stays { IfOk result (λ made. IsAnnotated (lines_of source.now) (lines_of made.text.items)) }
     ensures without { IfOk result (λ made. without (lines_of made.text.items) ≡ without (lines_of source.now)) }

@@ -1,4 +1,5 @@
-//! Annotations for the project's own assembly language: a source with none, or with some, gets the rest, and nothing else of it changes.
+//! Annotations for the project's own assembly language: a source with none, or with some, gets the rest, and nothing
+//! else of it changes.
 #![tactic(auto)]
 
 mod additions;

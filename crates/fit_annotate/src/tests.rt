@@ -80,7 +80,8 @@ fn what_isnt_shown(rt: HostRuntime) -> Result<(), Fail> {
     Ok(())
 }
 
-/// As many blocks as a function may have, each of one word but for the last one, which weighs a word and the three turns of `ta 0`.
+/// As many blocks as a function may have, each of one word but for the last one, which weighs a word and the three
+/// turns of `ta 0`.
 #[test]
 fn many_blocks(rt: HostRuntime) -> Result<(), Fail> {
     let head = ".services exit\n.function main,leaf,0,0,0\n nop\n";

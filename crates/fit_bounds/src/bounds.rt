@@ -77,8 +77,8 @@ fn better(found: Option<Bound>, other: Option<Bound>) -> Option<Bound> {
     }
 }
 
-/// The bound of a loop by the counter that changes by one number and gives the fewest rounds, else by another; none where no
-/// location counts.
+/// The bound of a loop by the counter that changes by one number and gives the fewest rounds, else by another; none
+/// where no location counts.
 fn bound_of(
     setting: &Setting<'_>,
     within: &Loop,
@@ -96,8 +96,8 @@ fn bound_of(
     Ok(found)
 }
 
-/// The loops of a function, an outer one before an inner one, each with its bound, where one was found. Of a function with a loop
-/// that is entered beside its head no bounds are looked for.
+/// The loops of a function, an outer one before an inner one, each with its bound, where one was found. Of a function
+/// with a loop that is entered beside its head no bounds are looked for.
 pub fn bounds_of(
     alloc: Global,
     program: &Program,

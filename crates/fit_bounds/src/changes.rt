@@ -47,8 +47,8 @@ fn added(cells: &[Cell], location: u16, times: i64) -> Option<Change> {
     None
 }
 
-/// By how much a form is more than the number that the location began with, where its other terms lie in these cells' ranges; nothing
-/// where it is something else.
+/// By how much a form is more than the number that the location began with, where its other terms lie in these cells'
+/// ranges; nothing where it is something else.
 fn change_of(form: &Lin, location: u16, cells: &[Cell]) -> Option<Change> {
     let mut change = Change {
         least: form.constant(),
@@ -215,7 +215,8 @@ fn least_of_round(
     Ok(found)
 }
 
-/// By how much a candidate changes in each round at least: below 0 where it falls. None where it doesn't change one way.
+/// By how much a candidate changes in each round at least: below 0 where it falls. None where it doesn't change one
+/// way.
 pub fn change_of_round(
     alloc: Global,
     passages: &[Passage],

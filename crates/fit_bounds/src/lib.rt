@@ -1,4 +1,5 @@
-//! Loops whose rounds are bounded by a counter of the program: a location that changes one way in each round, and lies in a range.
+//! Loops whose rounds are bounded by a counter of the program: a location that changes one way in each round, and lies
+//! in a range.
 #![tactic(auto)]
 
 mod bounds;

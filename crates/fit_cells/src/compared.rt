@@ -1,5 +1,5 @@
-//! The numbers that a function compares the words of its locations with: where a range that grows in a loop is to stop, one of these
-//! mostly ends it.
+//! The numbers that a function compares the words of its locations with: where a range that grows in a loop is to stop,
+//! one of these mostly ends it.
 use fit_code::{Block, Function, Step};
 use fit_live::effects_of;
 use sbx_domain::{LOCATIONS, frame_word_of};

@@ -28,8 +28,8 @@ fn gather(alloc: Global, blocks: &mut [usize], within: &Loop) -> Result<(), Allo
     Ok(())
 }
 
-/// The blocks that can be reached from the first one, each before those that follow it but where a loop goes back, and a loop's blocks with
-/// no others between them: a loop is left for good before what stands behind it is looked at.
+/// The blocks that can be reached from the first one, each before those that follow it but where a loop goes back, and
+/// a loop's blocks with no others between them: a loop is left for good before what stands behind it is looked at.
 pub fn order_by_loops(alloc: Global, function: &Function) -> Result<Order, AllocError> {
     let Order {
         mut blocks,
@@ -64,7 +64,8 @@ fn ends_of(alloc: Global, function: &Function, order: &Order) -> Result<Vec<usiz
     Ok(ends)
 }
 
-/// Where the stretches of an order begin: ways lead back within a stretch alone, so that what stands before it is looked at once.
+/// Where the stretches of an order begin: ways lead back within a stretch alone, so that what stands before it is
+/// looked at once.
 pub fn stretches_of(
     alloc: Global,
     function: &Function,

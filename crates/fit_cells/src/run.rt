@@ -93,8 +93,8 @@ pub fn run_steps(frame: u32, results: &[Vec<Range>], block: &Block, state: &mut 
     }
 }
 
-/// From behind a block's steps along one of its ways, where 0 is that of a jump or of a branch that is taken. Says whether that
-/// way can be gone.
+/// From behind a block's steps along one of its ways, where 0 is that of a jump or of a branch that is taken. Says
+/// whether that way can be gone.
 pub fn go_along(frame: u32, block: &Block, way: usize, state: &mut State) -> bool {
     let open = match block.end {
         End::Branch { cond, .. } if way == 0 => state.refine(cond),

@@ -19,7 +19,8 @@ pub struct Shape {
     pub live: Vec<Vec<u16>>,
 }
 
-/// The number of a block's way among all ways, where 0 is that of a jump or of a branch that is taken, and 1 the other one.
+/// The number of a block's way among all ways, where 0 is that of a jump or of a branch that is taken, and 1 the other
+/// one.
 pub fn way_of(block: usize, way: usize) -> usize {
     block.saturating_mul(2).saturating_add(way)
 }

@@ -15,7 +15,8 @@ pub struct Line {
 /// No line is known.
 pub const NO_LINE: Line = Line { file: 0, number: 0 };
 
-/// An instruction that isn't a branch, a return, SAVE, RESTORE or `ta 0`: those are ends of blocks, or what a function has.
+/// An instruction that isn't a branch, a return, SAVE, RESTORE or `ta 0`: those are ends of blocks, or what a function
+/// has.
 #[derive(Clone, Copy)]
 pub struct Step {
     /// The instruction. Of a call it is CALL with displacement 0.
@@ -35,7 +36,8 @@ pub struct Step {
 pub enum End {
     /// Control goes to a block.
     Jump(usize),
-    /// Control goes to one block where the condition holds of the codes that the block's steps leave, else to another one.
+    /// Control goes to one block where the condition holds of the codes that the block's steps leave, else to another
+    /// one.
     Branch {
         cond: Cond,
         taken: usize,
@@ -64,7 +66,8 @@ pub struct Function {
     pub name: String,
     /// Whether it has a window of its own: SAVE stands before its first step then, and is no step.
     pub framed: bool,
-    /// Bytes of its frame: 0 in a leaf, else a multiple of 8 from 64 on, which leaves word k of the frame at `%sp + 64 + 4 k`.
+    /// Bytes of its frame: 0 in a leaf, else a multiple of 8 from 64 on, which leaves word k of the frame at `%sp + 64
+    /// + 4 k`.
     pub frame: u32,
     pub blocks: Vec<Block>,
     /// What %o0, %o1, .. hold at its entry.

@@ -1,5 +1,5 @@
-//! The intermediate code between compiler-made assembly and an annotated source: functions of blocks, whose steps are instructions
-//! with every number resolved; objects of the data; and faults with lines.
+//! The intermediate code between compiler-made assembly and an annotated source: functions of blocks, whose steps are
+//! instructions with every number resolved; objects of the data; and faults with lines.
 #![tactic(auto)]
 
 mod code;

@@ -1,4 +1,5 @@
-//! The ranges of one function: what is known where its blocks begin, found by going along all ways until nothing new comes.
+//! The ranges of one function: what is known where its blocks begin, found by going along all ways until nothing new
+//! comes.
 use crate::known::{Known, replace};
 use fit_cells::{
     Shape, Thresholds, enter, go_along, hull, joined, range_in, return_from, run_steps,
@@ -12,7 +13,8 @@ use sbx_range::{Cell, Range, all};
 use std::alloc::{AllocError, Global};
 use std::mem;
 
-/// A loop's head is widened to thresholds from the third change of its cells on, and any block at once to all words from this one on.
+/// A loop's head is widened to thresholds from the third change of its cells on, and any block at once to all words
+/// from this one on.
 const PATIENCE: u32 = 400;
 
 /// A block is narrowed at most so often.
@@ -26,7 +28,8 @@ pub struct Setting<'a> {
     pub function: &'a Function,
     pub params: &'a [Range],
     pub results: &'a [Vec<Range>],
-    /// Of each block the cells that are said, by location: their ranges are those and no others. None of blocks that aren't named here.
+    /// Of each block the cells that are said, by location: their ranges are those and no others. None of blocks that
+    /// aren't named here.
     pub said: &'a [Vec<Cell>],
 }
 
@@ -198,14 +201,16 @@ impl Flow {
         self.mark(block);
     }
 
-    /// Some blocks are to be visited again: with the loops around them, and what stands behind these as far as what comes there changes.
+    /// Some blocks are to be visited again: with the loops around them, and what stands behind these as far as what
+    /// comes there changes.
     pub fn revisit(&mut self, blocks: &[usize]) {
         for block in blocks {
             self.mark(*block);
         }
     }
 
-    /// The blocks to which other ways lead than in another shape, and those from which ways lead to where other locations are live.
+    /// The blocks to which other ways lead than in another shape, and those from which ways lead to where other
+    /// locations are live.
     fn mark_reshaped(&mut self, before: &Shape) {
         for block in 0..self.shape.sources.len() {
             if self.shape.sources.get(block) != before.sources.get(block) {
@@ -234,7 +239,8 @@ impl Flow {
         }
     }
 
-    /// Takes over a function whose blocks `changed` are others than before, and at whose blocks other locations may be live.
+    /// Takes over a function whose blocks `changed` are others than before, and at whose blocks other locations may be
+    /// live.
     pub fn renew(
         &mut self,
         alloc: Global,
@@ -340,7 +346,8 @@ impl Flow {
         Ok(())
     }
 
-    /// What a head's cells become: what comes into its loop is joined, and what only grows by the ways back goes to thresholds.
+    /// What a head's cells become: what comes into its loop is joined, and what only grows by the ways back goes to
+    /// thresholds.
     fn raised_head(
         &self,
         alloc: Global,
@@ -520,7 +527,8 @@ impl Flow {
         Ok(())
     }
 
-    /// Forgets what is known of the blocks of the stretch from a place on, all of which are to be visited; gives the ways out of it.
+    /// Forgets what is known of the blocks of the stretch from a place on, all of which are to be visited; gives the
+    /// ways out of it.
     fn begin_stretch(&mut self, setting: &Setting, start: usize) -> Result<Vec<Exit>, AllocError> {
         let mut exits = Vec::new(setting.alloc);
         for place in start..self.end {
@@ -532,7 +540,8 @@ impl Flow {
         Ok(exits)
     }
 
-    /// Finds the ranges of a stretch anew, by what comes into it; where something else comes out of it than before, that is to be visited.
+    /// Finds the ranges of a stretch anew, by what comes into it; where something else comes out of it than before,
+    /// that is to be visited.
     fn settle_stretch(
         &mut self,
         setting: &Setting,

@@ -84,7 +84,8 @@ impl Known {
         !is_at(self.ways.as_slice(), way, cells)
     }
 
-    /// What the ways have in common that lead to a block from blocks before a place of the order; nothing where none of them can be gone.
+    /// What the ways have in common that lead to a block from blocks before a place of the order; nothing where none of
+    /// them can be gone.
     fn common(
         &self,
         alloc: Global,

@@ -202,9 +202,9 @@ fn notes_of_function(
     })
 }
 
-/// What one function without a meter declares, by its number, where the budgets of those that it calls are known and what they declare;
-/// its blocks weigh so many turns less than their steps and their ends. A loop that no counter bounds is refused, and a budget of 2^40
-/// turns or more.
+/// What one function without a meter declares, by its number, where the budgets of those that it calls are known and
+/// what they declare; its blocks weigh so many turns less than their steps and their ends. A loop that no counter
+/// bounds is refused, and a budget of 2^40 turns or more.
 pub fn declare_function(
     alloc: Global,
     program: &mut Program,

@@ -26,8 +26,8 @@ impl Symbols for Nameless {
     }
 }
 
-/// Puts a part of an address into the word of an instruction whose number is 0: the high 22 bits of SETHI, or the low 10 bits of another
-/// one.
+/// Puts a part of an address into the word of an instruction whose number is 0: the high 22 bits of SETHI, or the low
+/// 10 bits of another one.
 pub fn with_part(instr: u32, part: Part, word: u32) -> u32 {
     let field = match part {
         Part::High => word >> 10,

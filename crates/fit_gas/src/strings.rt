@@ -62,8 +62,8 @@ fn behind_octal(count: u32, value: u32, byte: u8, out: &mut Vec<u8>) -> Result<B
     plain(byte, out)
 }
 
-/// Appends the bytes of a string, which stands here without its quotes. `\x` isn't read: false then, as at a backslash that
-/// ends it.
+/// Appends the bytes of a string, which stands here without its quotes. `\x` isn't read: false then, as at a backslash
+/// that ends it.
 pub fn push_string(text: &[u8], out: &mut Vec<u8>) -> Result<bool, AllocError> {
     let mut before = Before::Plain;
     for byte in text {

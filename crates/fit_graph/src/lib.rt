@@ -1,4 +1,5 @@
-//! What the ends of a function's blocks say: which blocks follow which, which stand on each way to others, and its loops.
+//! What the ends of a function's blocks say: which blocks follow which, which stand on each way to others, and its
+//! loops.
 #![tactic(auto)]
 
 mod dominators;

@@ -122,7 +122,8 @@ fn parent_of(loops: &[Loop], number: usize) -> Option<usize> {
     found.map(|(place, _)| place)
 }
 
-/// The loops of a function whose heads are on each way to their blocks, one for each head, by their heads' order, without parents.
+/// The loops of a function whose heads are on each way to their blocks, one for each head, by their heads' order,
+/// without parents.
 fn plain_loops(alloc: Global, function: &Function) -> Result<Vec<Loop>, AllocError> {
     let dominators = dominators_of(alloc, function)?;
     let predecessors = predecessors_of(alloc, function)?;
@@ -135,7 +136,8 @@ fn plain_loops(alloc: Global, function: &Function) -> Result<Vec<Loop>, AllocErr
     Ok(loops)
 }
 
-/// The loops of a function whose heads are on each way to their blocks, one for each head, an outer one before an inner one.
+/// The loops of a function whose heads are on each way to their blocks, one for each head, an outer one before an inner
+/// one.
 pub fn loops_of(alloc: Global, function: &Function) -> Result<Vec<Loop>, AllocError> {
     let mut loops = plain_loops(alloc, function)?;
     for number in 0..loops.len() {
@@ -147,8 +149,8 @@ pub fn loops_of(alloc: Global, function: &Function) -> Result<Vec<Loop>, AllocEr
     Ok(loops)
 }
 
-/// A block that control goes back to, though it isn't on each way to where control comes from: a loop that has another entry
-/// beside it. None where each loop of the function has one entry, which is its head.
+/// A block that control goes back to, though it isn't on each way to where control comes from: a loop that has another
+/// entry beside it. None where each loop of the function has one entry, which is its head.
 pub fn enters_beside_head(alloc: Global, function: &Function) -> Result<Option<usize>, AllocError> {
     let dominators = dominators_of(alloc, function)?;
     for (place, from) in dominators.order.blocks.iter().enumerate() {

@@ -1,5 +1,6 @@
 -- What of a source stays where annotations are put into it, and what a source is without them.
-use Rattle.std.specs.Prelude.{◌≡◌, ◌⊎◌, ℕ, ◌+◌, ◌-◌, ◌*◌, Bool, true, false, if◌then◌else◌, List, [], ◌∷◌, ◌++◌, drop, length, slice_get, Option, Some, None, Ok, Err}
+use Rattle.std.specs.Prelude.{◌≡◌, ◌⊎◌, ℕ, ◌+◌, ◌-◌, ◌*◌, Bool, true, false, if◌then◌else◌, List, [], ◌∷◌, ◌++◌, drop}
+use Rattle.std.specs.Prelude.{length, slice_get, Option, Some, None, Ok, Err}
 use Rattle.sbx_text.specs.declared.Token.{Token}
 use Rattle.sbx_text.specs.Tokens.{tokens_of}
 use Rattle.v8_syntax.specs.Statements.{bytes_between}
@@ -29,16 +30,18 @@ is_annotation line = elim (tokens_of line) [ Ok ts ↦ annotates (statement_of l
 
 -- a `.function`
 abbrev pub declares_function : Statement → Bool
-declares_function s = elim s [ statements.Directive (directives.Function name kind frame room budget) ↦ true | _ ↦ false ]
+declares_function s =
+    elim s [ statements.Directive (directives.Function name kind frame room budget) ↦ true | _ ↦ false ]
 
 -- a line with 0 in the place of two of its tokens
 abbrev pub with_zeros : List ℕ → Option Token → Option Token → List ℕ
 with_zeros line (Some a) (Some b) =
-    bytes_between line 0 a.start ++ (48 ∷ []) ++ bytes_between line a.stop b.start ++ (48 ∷ []) ++ bytes_between line b.stop (length line)
+    bytes_between line 0 a.start ++ (48 ∷ []) ++ bytes_between line a.stop b.start ++ (48 ∷ [])
+    ++ bytes_between line b.stop (length line)
 with_zeros line _ _ = line
 
--- A line without what is found for a function: of a `.function` with 0 for its stack room and its budget, which is its last token and
--- has a comma before it; any other line as it is.
+-- A line without what is found for a function: of a `.function` with 0 for its stack room and its budget, which is its
+-- last token and has a comma before it; any other line as it is.
 unfoldable pub bare : List ℕ → List ℕ
 bare line = elim (tokens_of line) [
   | Ok ts ↦

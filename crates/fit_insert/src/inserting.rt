@@ -99,8 +99,8 @@ fn take_total(totals: &[Total], number: usize) -> (Option<Total>, &[Total]) {
     }
 }
 
-/// A source with more annotations, and with numbers for the stack room and the budgets of its functions. Additions and totals ascend by
-/// line; a total's line is left as it is where it isn't a `.function` of plain numbers.
+/// A source with more annotations, and with numbers for the stack room and the budgets of its functions. Additions and
+/// totals ascend by line; a total's line is left as it is where it isn't a `.function` of plain numbers.
 ///
 /// None where an addition is no annotation, or stands behind the last line.
 #[tactic(auto, using(crate::proofs::Annotating::all_taken, crate::proofs::Annotating::taken_out, crate::proofs::Annotating::none_taken, crate::proofs::Wholes::nothing_whole))]
@@ -110,8 +110,10 @@ pub fn insert(
     additions: &[Addition],
     totals: &[Total],
 ) -> Result<Option<Vec<u8>>, AllocError>
-    ensures stays { IfOk result (λ made. IfSome made (λ text. IsAnnotated (lines_of source.now) (lines_of text.items))) }
-    ensures without { IfOk result (λ made. IfSome made (λ text. without (lines_of text.items) ≡ without (lines_of source.now))) }
+    ensures stays { IfOk result
+        (λ made. IfSome made (λ text. IsAnnotated (lines_of source.now) (lines_of text.items))) }
+    ensures without { IfOk result
+        (λ made. IfSome made (λ text. without (lines_of text.items) ≡ without (lines_of source.now))) }
 {
     let mut text = Vec::new(alloc);
     let (mut additions, mut totals) = (additions, totals);

@@ -219,7 +219,8 @@ impl Liveness {
         Err(unsettled())
     }
 
-    /// Goes over all functions once, those that are called first. Says whether that asked for more params or results somewhere.
+    /// Goes over all functions once, those that are called first. Says whether that asked for more params or results
+    /// somewhere.
     fn pass_program(
         &mut self,
         alloc: Global,

@@ -1,5 +1,5 @@
-//! Loops that a counter bounds beside those that the meter counts. One that stands within such a loop has a place of the
-//! meter before it, so that what comes before pays for the way there alone, and not for its rounds. One that stands
+//! Loops that a counter bounds beside those that the meter counts. One that stands within such a loop has a place of
+//! the meter before it, so that what comes before pays for the way there alone, and not for its rounds. One that stands
 //! behind such a loop, and in none, is counted by the meter after all: else each round of the loop before would pay for
 //! it, since the run may go on there.
 use fit_code::Function;
@@ -48,7 +48,8 @@ fn is_behind(order: &Order, block: usize, others: &[usize]) -> bool {
     }
 }
 
-/// The heads of the loops that stand behind a block of `heads` and in no other loop, of those that go without the meter.
+/// The heads of the loops that stand behind a block of `heads` and in no other loop, of those that go without the
+/// meter.
 pub fn late_heads(
     alloc: Global,
     function: &Function,

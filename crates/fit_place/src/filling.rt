@@ -14,7 +14,8 @@ fn may_pass(step: &Step, later: &Step) -> bool {
     reads(&later.instr) & written == 0 && passed & (read | written) == 0
 }
 
-/// The place of the step that may go to the slot of a branch: the last one, or the one before the comparison that is the last.
+/// The place of the step that may go to the slot of a branch: the last one, or the one before the comparison that is
+/// the last.
 fn found_for_branch(steps: &[Step]) -> Option<usize> {
     let (last, before) = steps.split_last()?;
     if !sets_codes(&last.instr) {
@@ -94,8 +95,8 @@ fn fill_calls(steps: &mut Vec<Step>) {
     }
 }
 
-/// Fills slots: what stands before a branch, a jump or a call, and may as well stand behind it, goes to its slot. Blocks stand in
-/// their places then, and go on to the next one without a jump.
+/// Fills slots: what stands before a branch, a jump or a call, and may as well stand behind it, goes to its slot.
+/// Blocks stand in their places then, and go on to the next one without a jump.
 pub fn fill(program: &mut Program) {
     for function in program.functions.iter_mut() {
         for (place, block) in function.blocks.iter_mut().enumerate() {

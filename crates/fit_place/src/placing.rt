@@ -129,8 +129,8 @@ fn add_jump(
     Ok(number)
 }
 
-/// What has to stand behind a placed block; none where anything may. A branch whose next block stands elsewhere is turned, or
-/// gets a block that jumps there.
+/// What has to stand behind a placed block; none where anything may. A branch whose next block stands elsewhere is
+/// turned, or gets a block that jumps there.
 fn follower(
     alloc: Global,
     function: &mut Function,
@@ -235,8 +235,9 @@ fn fill_first(function: &mut Function) -> Result<(), AllocError> {
     Ok(())
 }
 
-/// Puts the blocks of a function in an order in which control mostly goes on to the next one, without those that nothing goes to
-/// and those that do nothing. The next block of a branch stands behind it; a jump to the block behind it is no instruction.
+/// Puts the blocks of a function in an order in which control mostly goes on to the next one, without those that
+/// nothing goes to and those that do nothing. The next block of a branch stands behind it; a jump to the block behind
+/// it is no instruction.
 pub fn place(alloc: Global, function: &mut Function) -> Result<(), AllocError> {
     straighten(function);
     let order = order_of(alloc, function)?;

@@ -1,4 +1,5 @@
-//! Which registers an instruction reads and writes: sets, in which a register has the bit of its number. %g0 is in none.
+//! Which registers an instruction reads and writes: sets, in which a register has the bit of its number. %g0 is in
+//! none.
 use v8_formats::{Instr, Operand};
 use v8_meaning::{Loading, MemoryOperand, Op, Operation, Transfer, operation_of};
 use v8_word::{Reg, Size};
@@ -117,7 +118,8 @@ fn is_simple(op: Op) -> bool {
     )
 }
 
-/// Whether an instruction has to do with registers and memory alone, so that it may stand in a slot: no codes, no Y, no service.
+/// Whether an instruction has to do with registers and memory alone, so that it may stand in a slot: no codes, no Y, no
+/// service.
 pub fn is_plain(instr: &Instr) -> bool {
     match operation_of(instr) {
         Operation::Compute(op, _) => is_simple(op),

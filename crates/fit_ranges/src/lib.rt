@@ -1,5 +1,5 @@
-//! What is known of a program's locations where its blocks begin: in what ranges they lie. Nothing rests on it, since the
-//! verifier asks all again.
+//! What is known of a program's locations where its blocks begin: in what ranges they lie. Nothing rests on it, since
+//! the verifier asks all again.
 #![tactic(auto)]
 
 mod ranges;

@@ -26,7 +26,8 @@ pub struct Ranges {
     params: Vec<Vec<Range>>,
     /// What each function gives back, in %o0, %o1, ..
     results: Vec<Vec<Range>>,
-    /// Of each function and each of its blocks the cells that are said, by location. None of those that aren't named here.
+    /// Of each function and each of its blocks the cells that are said, by location. None of those that aren't named
+    /// here.
     said: Vec<Vec<Vec<Cell>>>,
 }
 
@@ -96,8 +97,8 @@ impl Ranges {
         Ranges::beside(alloc, program, Vec::new(alloc), state)
     }
 
-    /// Finds the ranges of a program of which some are said: the first params and results of its functions, as they stand there, and
-    /// cells of its functions' blocks, by location.
+    /// Finds the ranges of a program of which some are said: the first params and results of its functions, as they
+    /// stand there, and cells of its functions' blocks, by location.
     pub fn beside(
         alloc: Global,
         program: &Program,
@@ -201,8 +202,8 @@ impl Ranges {
         Ok(ranges)
     }
 
-    /// Takes over what a function gives back, and looks at its callers again, where that is new: narrower in the first rounds, and
-    /// wider in all. Says whether it is.
+    /// Takes over what a function gives back, and looks at its callers again, where that is new: narrower in the first
+    /// rounds, and wider in all. Says whether it is.
     fn take_results(
         &mut self,
         program: &Program,
@@ -270,8 +271,8 @@ impl Ranges {
         ))
     }
 
-    /// Finds the ranges again, where some blocks of the program, each by its function and its own number, are others than before.
-    /// What can't be reached from them is not looked at.
+    /// Finds the ranges again, where some blocks of the program, each by its function and its own number, are others
+    /// than before. What can't be reached from them is not looked at.
     pub fn renew(
         &mut self,
         program: &Program,
@@ -324,8 +325,8 @@ impl Ranges {
         self.results.as_slice()
     }
 
-    /// What is known where a block begins, by location, of what is live there. Nothing of a block to which control doesn't come, and of
-    /// a function's first block, which begins with the function's params.
+    /// What is known where a block begins, by location, of what is live there. Nothing of a block to which control
+    /// doesn't come, and of a function's first block, which begins with the function's params.
     pub fn cells(&self, function: usize, block: usize) -> Option<&[Cell]> {
         match self.flows.get(function) {
             Some(flow) => flow.cells(block),
@@ -362,7 +363,8 @@ impl Ranges {
         })
     }
 
-    /// Begins a block in the verifier's domain, behind SAVE where it is a framed function's first one. Says whether control comes there.
+    /// Begins a block in the verifier's domain, behind SAVE where it is a framed function's first one. Says whether
+    /// control comes there.
     pub fn begin_block(
         &self,
         program: &Program,
@@ -376,8 +378,9 @@ impl Ranges {
         }
     }
 
-    /// Runs a block in the verifier's domain, from its beginning along one of its ways: 0 is that of a jump or of a branch that is taken,
-    /// 1 a branch's other one. Says whether that way can be gone. A return's and an exit's way is 0.
+    /// Runs a block in the verifier's domain, from its beginning along one of its ways: 0 is that of a jump or of a
+    /// branch that is taken, 1 a branch's other one. Says whether that way can be gone. A return's and an exit's way is
+    /// 0.
     pub fn run_block(
         &self,
         program: &Program,

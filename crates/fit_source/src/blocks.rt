@@ -21,8 +21,8 @@ pub struct Blocks<'r> {
     pub reading: Reading<'r>,
     pub function: &'r Function,
     pub end: u32,
-    /// Delay slots of branches that annul them where they aren't taken: each is a block behind the function's own, which the way to the
-    /// branch's target goes through.
+    /// Delay slots of branches that annul them where they aren't taken: each is a block behind the function's own,
+    /// which the way to the branch's target goes through.
     pub slots: Vec<Block>,
     /// The turns that each block weighs less than its steps and its end, since a slot counts at both places.
     pub spared: Vec<u64>,
@@ -77,7 +77,8 @@ fn unless_nop(instr: Instr) -> Option<Instr> {
     if is_nop(&instr) { None } else { Some(instr) }
 }
 
-/// Whether an instruction may be a step, or stand in a slot: no transfer of control, no SAVE or RESTORE, and no service.
+/// Whether an instruction may be a step, or stand in a slot: no transfer of control, no SAVE or RESTORE, and no
+/// service.
 fn is_plain(instr: &Instr) -> bool {
     let operation = operation_of(instr);
     is_admitted(&operation)
@@ -220,8 +221,8 @@ impl Blocks<'_> {
         Ok(number)
     }
 
-    /// The end that a branch is which is always taken. A jump to the next block is the way on, which has no words of its own, so such
-    /// a branch has two ways there.
+    /// The end that a branch is which is always taken. A jump to the next block is the way on, which has no words of
+    /// its own, so such a branch has two ways there.
     fn jump(&self, number: usize, to: usize, annul: bool, slot: Instr) -> Ended {
         let end = if to == number.saturating_add(1) {
             End::Branch {

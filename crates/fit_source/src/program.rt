@@ -7,7 +7,8 @@ use std::alloc::{AllocError, Global};
 use v8_formats::Instr;
 use v8_map::CODE_START;
 
-/// A program, each of whose functions has the blocks of the source first, in their order, and behind them such as are delay slots.
+/// A program, each of whose functions has the blocks of the source first, in their order, and behind them such as are
+/// delay slots.
 #[derive(Drop)]
 pub struct Read {
     pub program: Program,
@@ -128,12 +129,12 @@ impl<'r> Reading<'r> {
     }
 }
 
-/// The program of a source in a file of a name, by the image that the assembler makes of it. What its params and its results are
-/// said to be stands in its functions.
+/// The program of a source in a file of a name, by the image that the assembler makes of it. What its params and its
+/// results are said to be stands in its functions.
 ///
 /// # Errors
-/// The first word that has no place in a program, with its line: of an instruction that sandboxed code may not have, a transfer that
-/// ends no block or goes nowhere, a function that doesn't begin or return as its kind asks for.
+/// The first word that has no place in a program, with its line: of an instruction that sandboxed code may not have, a
+/// transfer that ends no block or goes nowhere, a function that doesn't begin or return as its kind asks for.
 pub fn program_of(alloc: Global, file: &str, image: &Image, lines: &Lines) -> Result<Read, Fault> {
     let reading = Reading {
         alloc,

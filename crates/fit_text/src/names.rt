@@ -42,8 +42,8 @@ fn ends_in_number(name: &str) -> bool {
     }
 }
 
-/// The name of each function: its own, with its number behind it where an earlier function has that name, as static ones of two
-/// files may, or a block might; a name that may not stand in a source is left out.
+/// The name of each function: its own, with its number behind it where an earlier function has that name, as static
+/// ones of two files may, or a block might; a name that may not stand in a source is left out.
 pub fn names_of(alloc: Global, program: &Program) -> Result<Vec<String>, AllocError> {
     let mut names = Vec::new(alloc);
     for (number, function) in program.functions.iter().enumerate() {

@@ -31,7 +31,8 @@ pub struct Setting<'s> {
     pub number: usize,
     /// Of each function; of those that it calls they are known.
     pub budgets: &'s [u64],
-    /// The turns that each block of the function weighs less than its steps and its end; none of blocks that aren't named here.
+    /// The turns that each block of the function weighs less than its steps and its end; none of blocks that aren't
+    /// named here.
     pub spared: &'s [u64],
 }
 
@@ -160,7 +161,8 @@ pub fn ways_of_loop(
     Ok(ways)
 }
 
-/// The ways out of all blocks of a function, which have these terms; `places` says which blocks are places of the meter.
+/// The ways out of all blocks of a function, which have these terms; `places` says which blocks are places of the
+/// meter.
 pub fn ways_of(
     setting: &Setting<'_>,
     terms: &[Vec<Term>],

@@ -15,7 +15,8 @@ fn asked(constants: &[Option<i64>], way: &Way) -> Option<i64> {
     }
 }
 
-/// Raises constants to what the ways ask for, once; says whether one rose. The way on from a place of the meter is left out.
+/// Raises constants to what the ways ask for, once; says whether one rose. The way on from a place of the meter is left
+/// out.
 fn raise(constants: &mut Vec<Option<i64>>, ways: &[Way]) -> bool {
     let mut has_risen = false;
     for way in ways.iter().rev() {

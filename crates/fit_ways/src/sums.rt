@@ -1,5 +1,5 @@
-//! Sums of multiples of locations, and the greatest value that they can have. A sum past the greatest number stays there, and is
-//! refused as a budget.
+//! Sums of multiples of locations, and the greatest value that they can have. A sum past the greatest number stays
+//! there, and is refused as a budget.
 use sbx_parts::{Cell, Range};
 use std::alloc::{AllocError, Global};
 

@@ -2,7 +2,8 @@
 use Rattle.std.specs.Prelude.{◌≡◌, ◌≢◌, ◌⊎◌, ℕ, ◌<◌, ◌≤◌, ◌==◌, Bool, true, false, List, Ok, Err}
 use Rattle.std.specs.Int.RustNames.{bit_and}
 use Rattle.sbx_image.specs.ImageFault.{ImageFault}
-use Rattle.sbx_image.specs.ImageFault.TheVariants.{Short, Magic, Version, Service, Limit, Trailing, Order, Range, Memory}
+use Rattle.sbx_image.specs.ImageFault.TheVariants.{Short, Magic, Version, Service, Limit, Trailing, Order, Range}
+use Rattle.sbx_image.specs.ImageFault.TheVariants.{Memory}
 use Rattle.sbx_image.specs.Parts.{Parts}
 use Rattle.sbx_image.specs.Reading.{reading}
 use Rattle.sbx_flat.specs.Runs.{FlatSafe, budget}
@@ -25,10 +26,12 @@ grants_services terms parts = bit_and terms.services parts.services.0 == parts.s
 abbrev pub HasWindows : Terms → Type 0
 HasWindows terms = (4 ≤ terms.windows) × (terms.windows ≤ 32)
 
--- The bytes spell this image, it is safe, it declares no service and no turn beyond the terms, and there is such a count of windows.
+-- The bytes spell this image, it is safe, it declares no service and no turn beyond the terms, and there is such a
+-- count of windows.
 abbrev pub IsAdmitted : List ℕ → Terms → Parts → Type 0
 IsAdmitted bytes terms parts =
-    (reading bytes ≡ Ok parts) × FlatSafe parts × (grants_services terms parts ≡ true) × (budget parts ≤ terms.turns) × HasWindows terms
+    (reading bytes ≡ Ok parts) × FlatSafe parts × (grants_services terms parts ≡ true) × (budget parts ≤ terms.turns)
+    × HasWindows terms
 
 -- ---- what is denied
 
@@ -37,7 +40,8 @@ abbrev pub Explains : List ℕ → Terms → Denial → Type 0
 Explains bytes terms (denials.Image fault) = fault ≢ Memory refused → reading bytes ≡ Err fault
 Explains bytes terms (denials.Refused refusal) = (parts : Parts) × (reading bytes ≡ Ok parts) × IsRefusal parts refusal
 Explains bytes terms denials.Windows = (terms.windows < 4) ⊎ (32 < terms.windows)
-Explains bytes terms denials.Services = (parts : Parts) × (reading bytes ≡ Ok parts) × (grants_services terms parts ≡ false)
+Explains bytes terms denials.Services = (parts : Parts) × (reading bytes ≡ Ok parts)
+    × (grants_services terms parts ≡ false)
 Explains bytes terms denials.Turns = (parts : Parts) × (reading bytes ≡ Ok parts) × (terms.turns < budget parts)
 
 -- ---- how it is told

@@ -20,22 +20,26 @@ pub record Tells (finished : Finished) (report : Report) : Type 0 where
 
 -- The report is of the image's run on this input, with the counts of its path on so many windows.
 abbrev pub HasReport : Parts → ℕ → List ℕ → Report → Type 0
-HasReport parts windows input report = (finished : Finished) × IsAnswer parts windows input finished × Tells finished report
+HasReport parts windows input report = (finished : Finished) × IsAnswer parts windows input finished
+    × Tells finished report
 
 -- The room begins with the output of that run, goes on as it was, and the report tells the rest.
 abbrev pub HasRun : Parts → ℕ → List ℕ → List ℕ → List ℕ → Report → Type 0
 HasRun parts windows input before after report =
-    (finished : Finished) × IsAnswer parts windows input finished × Hands finished.output.items before after × Tells finished report
+    (finished : Finished) × IsAnswer parts windows input finished × Hands finished.output.items before after
+    × Tells finished report
 
 -- ---- of an image that a handle holds, with counts on as many windows as its terms say
 
 abbrev pub HasReportOf : ImageSlot → List ℕ → Report → Type 0
-HasReportOf slot input report = (kept : Kept) × (slot.kept ≡ Some kept) × HasReport kept.accepted kept.terms.windows input report
+HasReportOf slot input report = (kept : Kept) × (slot.kept ≡ Some kept)
+    × HasReport kept.accepted kept.terms.windows input report
 
 -- its output is longer than its terms grant
 abbrev pub IsTooMuchOf : ImageSlot → List ℕ → Report → Type 0
 IsTooMuchOf slot input report =
-    (kept : Kept) × (slot.kept ≡ Some kept) × HasReport kept.accepted kept.terms.windows input report × (kept.terms.output < report.output)
+    (kept : Kept) × (slot.kept ≡ Some kept) × HasReport kept.accepted kept.terms.windows input report
+    × (kept.terms.output < report.output)
 
 -- the room begins with it, no more than its terms grant
 abbrev pub HasRunOf : ImageSlot → List ℕ → List ℕ → List ℕ → Report → Type 0

@@ -1,5 +1,6 @@
 -- What the handle of a run in pieces on the engine holds, and what a step does to it.
-use Rattle.std.specs.Prelude.{ℕ, ◌≡◌, ◌≢◌, ◌+◌, ◌≤◌, ◌^◌, ◌==◌, Bool, not, false, List, [], ◌++◌, drop, length, take, Some}
+use Rattle.std.specs.Prelude.{ℕ, ◌≡◌, ◌≢◌, ◌+◌, ◌≤◌, ◌^◌, ◌==◌, Bool, not, false, List, [], ◌++◌, drop, length, take}
+use Rattle.std.specs.Prelude.{Some}
 use Rattle.sbx_image.specs.Parts.{Parts}
 use Rattle.sbx_flat.specs.Runs.{budget}
 use Rattle.sbx_paced.specs.Going.{IsAllOf, IsFrontOf}
@@ -11,12 +12,14 @@ use Rattle.geyserpan.specs.declared.image_slot.Kept.{Kept}
 use Rattle.geyserpan.specs.declared.run_slot.Done.{Done}
 use Rattle.geyserpan.specs.declared.statuses.TheConstants.{ENDED, FULL, HANDLE, LOST, OUTPUT, PAUSED, WANTS}
 
--- A step of so many turns with a piece of the input, into a room. Of whatever image it was a run, which counts on n windows and had read
--- and written some bytes: it is one that has read those of the piece behind them, and written those at the front of the room. What was
--- written so far are the first bytes of the image's output on the bytes read so far, with each status, and where the run has ended all
--- of it; the turns are then those of its path on n windows. What is written is taken off what is granted, and behind it the room is as
--- it was. No more turns are made than were allowed, with those that the steps before put by; a pause has made or put by all.
-pub record GoesOn (old new : EngineRun) (asked : ℕ) (input : List ℕ) (last : Bool) (before after : List ℕ) (done : Done) (status : ℕ) : Type 0 where
+-- A step of so many turns with a piece of the input, into a room. Of whatever image it was a run, which counts on n
+-- windows and had read and written some bytes: it is one that has read those of the piece behind them, and written
+-- those at the front of the room. What was written so far are the first bytes of the image's output on the bytes read
+-- so far, with each status, and where the run has ended all of it; the turns are then those of its path on n windows.
+-- What is written is taken off what is granted, and behind it the room is as it was. No more turns are made than were
+-- allowed, with those that the steps before put by; a pause has made or put by all.
+pub record GoesOn (old new : EngineRun) (asked : ℕ) (input : List ℕ) (last : Bool) (before after : List ℕ) (done : Done)
+    (status : ℕ) : Type 0 where
   pub read : done.read ≤ length input
   pub written : done.written ≤ length after
   pub behind : drop done.written after ≡ drop done.written before
@@ -25,13 +28,16 @@ pub record GoesOn (old new : EngineRun) (asked : ℕ) (input : List ℕ) (last :
   pub front : (parts : Parts) (n : ℕ) (so_far all : List ℕ) → Goes parts n so_far all old.paced
       → IsFrontOf parts (so_far ++ take done.read input) new.paced.met (all ++ take done.written after)
   pub whole : status ≡ ENDED → (parts : Parts) (n : ℕ) (so_far all : List ℕ) → Goes parts n so_far all old.paced
-      → IsAllOf parts n (so_far ++ take done.read input) new.paced.met (all ++ take done.written after) done.exit new.paced.course.tally.traffic
-  pub within : (parts : Parts) (n : ℕ) (so_far all : List ℕ) → Goes parts n so_far all old.paced → done.turns ≤ budget parts
+      → IsAllOf parts n (so_far ++ take done.read input) new.paced.met
+      (all ++ take done.written after) done.exit new.paced.course.tally.traffic
+  pub within : (parts : Parts) (n : ℕ) (so_far all : List ℕ) → Goes parts n so_far all old.paced →
+      done.turns ≤ budget parts
   pub lost : status ≡ LOST → (parts : Parts) (n : ℕ) (so_far all : List ℕ) → Goes parts n so_far all old.paced → ⊥
   pub held : status ≢ HANDLE
   pub turns : done.turns ≡ turns_of new.paced.course
   pub most : allowed new.paced ≤ allowed old.paced + asked
-  pub paused : status ≡ PAUSED → asked ≤ 2 ^ 40 → (parts : Parts) (n : ℕ) (so_far all : List ℕ) → Goes parts n so_far all old.paced
+  pub paused : status ≡ PAUSED → asked ≤ 2 ^ 40 → (parts : Parts) (n : ℕ) (so_far all : List ℕ) →
+      Goes parts n so_far all old.paced
       → allowed new.paced ≡ allowed old.paced + asked
   pub granted : done.written + new.granted ≡ old.granted
   pub wants : status ≡ WANTS → (done.read ≡ length input) × (last ≡ false)
@@ -48,11 +54,12 @@ abbrev pub StepsSo : EngineRun → EngineSlot → ℕ → List ℕ → ℕ → L
 StepsSo run slot asked input last before after done status =
     (now : EngineRun) × (slot.run ≡ Some now) × GoesOn run now asked input (is_last last) before after done status
 
--- The handle holds a run of the kept image that counts on as many windows as its terms say, has read and written nothing, has no turns put
--- by, is granted as much output as the terms say, and wasn't told that its input has ended.
+-- The handle holds a run of the kept image that counts on as many windows as its terms say, has read and written
+-- nothing, has no turns put by, is granted as much output as the terms say, and wasn't told that its input has ended.
 abbrev pub Begins : Kept → EngineSlot → Type 0
 Begins kept slot =
-    (run : EngineRun) × (slot.run ≡ Some run) × IsBegun kept.accepted kept.terms.windows run.paced × (run.granted ≡ kept.terms.output)
+    (run : EngineRun) × (slot.run ≡ Some run) × IsBegun kept.accepted kept.terms.windows run.paced
+    × (run.granted ≡ kept.terms.output)
 
 -- and this handle held that image
 abbrev pub BeginsOf : ImageSlot → EngineSlot → Type 0

@@ -19,12 +19,14 @@ HasFactsOf slot facts = (kept : Kept) × (slot.kept ≡ Some kept) × HasFacts k
 
 -- it holds an image, and this is told of its run on this input, on as many windows as its terms say
 abbrev pub HasReportOf : ImageSlot → List ℕ → Report → Type 0
-HasReportOf slot input report = (kept : Kept) × (slot.kept ≡ Some kept) × HasReport kept.accepted kept.terms.windows input report
+HasReportOf slot input report = (kept : Kept) × (slot.kept ≡ Some kept)
+    × HasReport kept.accepted kept.terms.windows input report
 
 -- and its output is longer than its terms grant
 abbrev pub IsTooMuchOf : ImageSlot → List ℕ → Report → Type 0
 IsTooMuchOf slot input report =
-    (kept : Kept) × (slot.kept ≡ Some kept) × HasReport kept.accepted kept.terms.windows input report × (kept.terms.output < report.output)
+    (kept : Kept) × (slot.kept ≡ Some kept) × HasReport kept.accepted kept.terms.windows input report
+    × (kept.terms.output < report.output)
 
 -- and the room begins with the run's output, no more than its terms grant, and goes on as it was
 abbrev pub HasRunOf : ImageSlot → List ℕ → List ℕ → List ℕ → Report → Type 0

@@ -43,12 +43,14 @@ HasRunOn bytes terms input before after report =
 -- its output is longer than the terms grant
 abbrev pub IsTooMuchOn : List ℕ → Terms → List ℕ → Report → Type 0
 IsTooMuchOn bytes terms input report =
-    (parts : Parts) × IsAdmitted bytes terms parts × HasReport parts terms.windows input report × (terms.output < report.output)
+    (parts : Parts) × IsAdmitted bytes terms parts × HasReport parts terms.windows input report
+    × (terms.output < report.output)
 
 -- its output is longer than the room
 abbrev pub IsTooLongOn : List ℕ → Terms → List ℕ → List ℕ → Report → Type 0
 IsTooLongOn bytes terms input before report =
-    (parts : Parts) × IsAdmitted bytes terms parts × HasReport parts terms.windows input report × (length before < report.output)
+    (parts : Parts) × IsAdmitted bytes terms parts × HasReport parts terms.windows input report
+    × (length before < report.output)
 
 abbrev pub IsHandStatus : ℕ → Type 0
 IsHandStatus status = (status ≡ OK) ⊎ ((status ≡ ROOM) ⊎ (status ≡ OUTPUT))

@@ -1,5 +1,6 @@
 -- What the handle of a run in pieces holds, and what a step does to it.
-use Rattle.std.specs.Prelude.{ℕ, ◌≡◌, ◌≢◌, ◌+◌, ◌≤◌, Bool, false, List, [], ◌++◌, drop, length, take, Option, Some, None}
+use Rattle.std.specs.Prelude.{ℕ, ◌≡◌, ◌≢◌, ◌+◌, ◌≤◌, Bool, false, List, [], ◌++◌, drop, length, take, Option, Some}
+use Rattle.std.specs.Prelude.{None}
 use Rattle.sbx_image.specs.Parts.{Parts}
 use Rattle.sbx_session.specs.Going.{Goes, IsAllOf, IsFrontOf}
 use Rattle.geyserpan.specs.declared.image_slot.ImageSlot.{ImageSlot}
@@ -41,10 +42,10 @@ turns_of slot = turns_in slot.going
 abbrev pub IsVouched : ℕ → Type 0
 IsVouched status = (status ≢ LOST) × (status ≢ HANDLE)
 
--- A step with a piece of the input, into a room. Of whatever image the handle held a run, which had read and written some bytes: it now
--- holds one that has read those of the piece behind them, and written those at the front of the room. What was written so far are
--- the first bytes of the image's output on the bytes read so far, and where the run has ended all of it. What is written is taken off
--- what is granted.
+-- A step with a piece of the input, into a room. Of whatever image the handle held a run, which had read and written
+-- some bytes: it now holds one that has read those of the piece behind them, and written those at the front of the
+-- room. What was written so far are the first bytes of the image's output on the bytes read so far, and where the run
+-- has ended all of it. What is written is taken off what is granted.
 pub record StepsSo (old new : RunSlot) (input before after : List ℕ) (done : Done) (status : ℕ) : Type 0 where
   pub read : status ≢ HANDLE → done.read ≤ length input
   pub written : status ≢ HANDLE → done.written ≤ length after
@@ -62,8 +63,8 @@ pub record StepsSo (old new : RunSlot) (input before after : List ℕ) (done : D
   pub full : status ≡ FULL → done.written ≡ length after
   pub output : status ≡ OUTPUT → granted_of new ≡ 0
 
--- the handle holds a run of the kept image, which has read and written nothing, is granted as much output as its terms say, and wasn't
--- told that its input has ended
+-- the handle holds a run of the kept image, which has read and written nothing, is granted as much output as its terms
+-- say, and wasn't told that its input has ended
 abbrev pub Begins : Kept → RunSlot → Type 0
 Begins kept slot = Runs slot kept.accepted [] [] × (granted_of slot ≡ kept.terms.output) × (met_of slot ≡ false)
 

@@ -35,7 +35,8 @@ line_shown line = min line (2 ^ 32 - 1)
 -- the room begins with the image that the source means, goes on as it was, and its length is told
 abbrev pub HasImage : List ℕ → List ℕ → List ℕ → ℕ → Type 0
 HasImage source before after needed =
-    (parts : Parts) × (source_image source ≡ Ok parts) × (after ≡ spelling parts ++ drop needed before) × (needed ≡ length (spelling parts))
+    (parts : Parts) × (source_image source ≡ Ok parts) × (after ≡ spelling parts ++ drop needed before)
+    × (needed ≡ length (spelling parts))
 
 -- the length of the image that the source means is told, and the room is shorter
 abbrev pub NeedsMore : List ℕ → List ℕ → ℕ → Type 0
@@ -44,7 +45,8 @@ NeedsMore source before needed =
 
 -- what is told of a cause
 abbrev pub TellsCause : AsmFault → Why → Type 0
-TellsCause fault why = (why.number ≡ cause_number fault.cause) × (why.number ≢ 0) × (why.address ≡ line_shown fault.line)
+TellsCause fault why = (why.number ≡ cause_number fault.cause) × (why.number ≢ 0)
+    × (why.address ≡ line_shown fault.line)
 
 -- the source means no image, for this cause at this line
 pub record HasFault (source : List ℕ) (why : Why) : Type 0 where

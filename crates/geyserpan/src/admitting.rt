@@ -35,7 +35,8 @@ pub fn judge(alloc: Global, bytes: &[u8]) -> Result<Accepted, Denial>
     verify(alloc, image).map_err(|back| Denial::Refused(back.1))
 }
 
-/// The accepted image of these bytes, where it asks for no more than the terms grant; else the first reason not to run it.
+/// The accepted image of these bytes, where it asks for no more than the terms grant; else the first reason not to run
+/// it.
 pub fn admit(alloc: Global, bytes: &[u8], terms: &Terms) -> Result<Accepted, Denial>
     ensures admitted { IfOk result (IsAdmitted bytes.now terms.now) }
     ensures denied { IfErr result (Explains bytes.now terms.now) }

@@ -51,8 +51,8 @@ pub extern "C" fn geyserpan_engine_begin(
     }
 }
 
-/// Goes on with a run, at most so many turns: reads of the piece, behind which there is no input where `last` isn't 0, and writes to
-/// the front of the room.
+/// Goes on with a run, at most so many turns: reads of the piece, behind which there is no input where `last` isn't 0,
+/// and writes to the front of the room.
 #[unsafe(no_mangle)]
 pub extern "C" fn geyserpan_engine_step(
     engine: &mut EngineHandle,
@@ -62,8 +62,10 @@ pub extern "C" fn geyserpan_engine_step(
     room: &mut [u8],
     done: &mut Done,
 ) -> u32
-    ensures steps { (run : EngineRun) → engine.old.value.run ≡ Some run → StepsSo run engine.new.value turns input.now last room.old room.new done.new result }
-    ensures empty { engine.old.value.run ≡ None → (result ≡ HANDLE) × (room.new ≡ room.old) × (done.new ≡ done.old) × (engine.new.value ≡ engine.old.value) }
+    ensures steps { (run : EngineRun) → engine.old.value.run ≡ Some run →
+        StepsSo run engine.new.value turns input.now last room.old room.new done.new result }
+    ensures empty { engine.old.value.run ≡ None → (result ≡ HANDLE) × (room.new ≡ room.old) × (done.new ≡ done.old)
+        × (engine.new.value ≡ engine.old.value) }
 {
     match &mut engine.lent().run {
         Some(run) => run.step(turns, input, last != 0, room, done),
@@ -91,7 +93,8 @@ pub extern "C" fn geyserpan_engine_run(
     ensures ran { result ≡ OK → HasRunOf handle.old.value input.now room.old room.new report.new }
     ensures stays { result ≢ OK → room.new ≡ room.old }
     ensures longer { result ≡ OUTPUT → IsTooMuchOf handle.old.value input.now report.new }
-    ensures small { result ≡ ROOM → HasReportOf handle.old.value input.now report.new × (length room.old < report.new.output) }
+    ensures small { result ≡ ROOM →
+        HasReportOf handle.old.value input.now report.new × (length room.old < report.new.output) }
     ensures untold { result ≢ OK → result ≢ ROOM → result ≢ OUTPUT → report.new ≡ report.old }
     ensures empty { handle.old.value.kept ≡ None → result ≡ HANDLE }
     ensures kept { handle.new.value ≡ handle.old.value }

@@ -39,8 +39,10 @@ pub fn run_engine_into(
     ensures stays { result ≢ OK → room.new ≡ room.old }
     ensures granted { result ≡ OK → report.new.output ≤ terms.now.output }
     ensures untold { result ≢ OK → result ≢ ROOM → result ≢ OUTPUT → report.new ≡ report.old }
-    ensures longer { result ≡ OUTPUT → HasReport accepted.now terms.now.windows input.now report.new × (terms.now.output < report.new.output) }
-    ensures small { result ≡ ROOM → HasReport accepted.now terms.now.windows input.now report.new × (length room.old < report.new.output) }
+    ensures longer { result ≡ OUTPUT → HasReport accepted.now terms.now.windows input.now report.new
+        × (terms.now.output < report.new.output) }
+    ensures small { result ≡ ROOM → HasReport accepted.now terms.now.windows input.now report.new
+        × (length room.old < report.new.output) }
 {
     if terms.windows < LEAST_WINDOWS {
         return WINDOWS;

@@ -27,7 +27,8 @@ pub extern "C" fn geyserpan_check(
     facts: &mut Facts,
     why: &mut Why,
 ) -> u32
-    ensures accepted { result ≡ OK → (parts : Parts) × (reading image.now ≡ Ok parts) × FlatSafe parts × HasFacts parts facts.new }
+    ensures accepted { result ≡ OK → (parts : Parts) × (reading image.now ≡ Ok parts) × FlatSafe parts
+        × HasFacts parts facts.new }
     ensures denied { (terms : Terms) → IsDenial image.now terms result why.new }
     ensures untold { result ≢ OK → facts.new ≡ facts.old }
     ensures unsaid { result ≢ NO_IMAGE → result ≢ REFUSED → why.new ≡ why.old }
@@ -97,7 +98,8 @@ pub extern "C" fn geyserpan_open(
     terms: &Terms,
     why: &mut Why,
 ) -> u32
-    ensures opened { result ≡ OK → (parts : Parts) × IsAdmitted image.now terms.now parts × Holds handle.new.value parts terms.now }
+    ensures opened { result ≡ OK →
+        (parts : Parts) × IsAdmitted image.now terms.now parts × Holds handle.new.value parts terms.now }
     ensures stays { result ≢ OK → handle.new.value ≡ handle.old.value }
     ensures denied { IsDenial image.now terms.now result why.new }
     ensures unsaid { result ≢ NO_IMAGE → result ≢ REFUSED → why.new ≡ why.old }
@@ -142,7 +144,8 @@ pub extern "C" fn geyserpan_run_image(
     ensures ran { result ≡ OK → HasRunOf handle.old.value input.now room.old room.new report.new }
     ensures stays { result ≢ OK → room.new ≡ room.old }
     ensures longer { result ≡ OUTPUT → IsTooMuchOf handle.old.value input.now report.new }
-    ensures small { result ≡ ROOM → HasReportOf handle.old.value input.now report.new × (length room.old < report.new.output) }
+    ensures small { result ≡ ROOM →
+        HasReportOf handle.old.value input.now report.new × (length room.old < report.new.output) }
     ensures untold { result ≢ OK → result ≢ ROOM → result ≢ OUTPUT → report.new ≡ report.old }
     ensures empty { handle.old.value.kept ≡ None → result ≡ HANDLE }
     ensures kept { handle.new.value ≡ handle.old.value }

@@ -32,7 +32,8 @@ fn fault_number(fault: ImageFault) -> u32
 
 /// The status of a denial. What tells why is written where the status is NO_IMAGE or REFUSED.
 pub fn tell(denial: Denial, why: &mut Why) -> u32
-    ensures denied { (bytes : List ℕ) → (terms : Terms) → Explains bytes terms denial → IsDenial bytes terms result why.new }
+    ensures denied { (bytes : List ℕ) → (terms : Terms) → Explains bytes terms denial →
+        IsDenial bytes terms result why.new }
     ensures stays { result ≢ NO_IMAGE → result ≢ REFUSED → why.new ≡ why.old }
     ensures denies { result ≢ OK }
     ensures fits { result ≢ ROOM }

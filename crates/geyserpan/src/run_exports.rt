@@ -59,8 +59,8 @@ pub extern "C" fn geyserpan_restart(run: &mut RunHandle, image: &mut ImageHandle
     }
 }
 
-/// Goes on with a run, at most so many turns: reads of the piece, behind which there is no input where `last` isn't 0, and writes to
-/// the front of the room.
+/// Goes on with a run, at most so many turns: reads of the piece, behind which there is no input where `last` isn't 0,
+/// and writes to the front of the room.
 #[unsafe(no_mangle)]
 pub extern "C" fn geyserpan_step(
     run: &mut RunHandle,

@@ -10,8 +10,8 @@ use std::alloc::Global;
 /// So many windows a run in pieces has.
 const RUN_WINDOWS: u32 = 8;
 
-/// What a step did: the turns of the run so far, how many bytes of the piece were read, how many were written to the front of the room,
-/// and the exit word of a run that has ended.
+/// What a step did: the turns of the run so far, how many bytes of the piece were read, how many were written to the
+/// front of the room, and the exit word of a run that has ended.
 #[repr(C)]
 #[derive(Clone, Copy)]
 pub struct Done {

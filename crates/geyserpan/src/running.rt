@@ -11,8 +11,8 @@ use crate::terms::{Terms, Why};
 use sbx_run::{Accepted, Finished, run_windows};
 use std::alloc::Global;
 
-/// What a run gave: the turns, how often there was no window to save to or to restore from, the length of the output, which pages of
-/// code, data and stack were referenced and modified, and the exit word.
+/// What a run gave: the turns, how often there was no window to save to or to restore from, the length of the output,
+/// which pages of code, data and stack were referenced and modified, and the exit word.
 #[repr(C)]
 #[derive(Clone, Copy)]
 pub struct Report {
@@ -55,9 +55,12 @@ pub fn run_into(
     ensures stays { result ≢ OK → room.new ≡ room.old }
     ensures granted { result ≡ OK → report.new.output ≤ terms.now.output }
     ensures untold { result ≢ OK → result ≢ ROOM → result ≢ OUTPUT → report.new ≡ report.old }
-    ensures longer { result ≡ OUTPUT → HasReport accepted.now terms.now.windows input.now report.new × (terms.now.output < report.new.output) }
-    ensures small { result ≡ ROOM → HasReport accepted.now terms.now.windows input.now report.new × (length room.old < report.new.output) }
-    ensures denies_not { HasWindows terms.now → (bytes : List ℕ) → (of : Terms) → (why : Why) → IsDenial bytes of result why }
+    ensures longer { result ≡ OUTPUT → HasReport accepted.now terms.now.windows input.now report.new
+        × (terms.now.output < report.new.output) }
+    ensures small { result ≡ ROOM → HasReport accepted.now terms.now.windows input.now report.new
+        × (length room.old < report.new.output) }
+    ensures denies_not { HasWindows terms.now → (bytes : List ℕ) → (of : Terms) → (why : Why) →
+        IsDenial bytes of result why }
 {
     match run_windows(alloc, terms.windows, accepted, input) {
         None => WINDOWS,

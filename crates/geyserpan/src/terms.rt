@@ -3,7 +3,8 @@
 /// The least count of windows that a host may ask for.
 pub const LEAST_WINDOWS: u32 = 4;
 
-/// What a host grants: so many turns and bytes of output at most, these services, and on how many windows a run is made.
+/// What a host grants: so many turns and bytes of output at most, these services, and on how many windows a run is
+/// made.
 #[repr(C)]
 #[derive(Clone, Copy)]
 pub struct Terms {
@@ -13,8 +14,8 @@ pub struct Terms {
     pub windows: u32,
 }
 
-/// Why an image is denied, or a source has no image: the number of the fault, the rule or the cause, the rule's function, and the
-/// address, or the line.
+/// Why an image is denied, or a source has no image: the number of the fault, the rule or the cause, the rule's
+/// function, and the address, or the line.
 #[repr(C)]
 #[derive(Clone, Copy)]
 pub struct Why {

@@ -19,7 +19,8 @@ pub extern "C" fn geyserpan_abi() -> u32
     ABI
 }
 
-/// Writes the version of the sources to the front of the room, and gives its length. Where the room is smaller nothing is written.
+/// Writes the version of the sources to the front of the room, and gives its length. Where the room is smaller nothing
+/// is written.
 #[unsafe(no_mangle)]
 pub extern "C" fn geyserpan_version(room: &mut [u8]) -> usize
     ensures stays { length room.old < result → room.new ≡ room.old }
@@ -28,7 +29,8 @@ pub extern "C" fn geyserpan_version(room: &mut [u8]) -> usize
     VERSION.len()
 }
 
-/// Writes what a status means to the front of the room, and gives its length. Where the room is smaller nothing is written.
+/// Writes what a status means to the front of the room, and gives its length. Where the room is smaller nothing is
+/// written.
 #[unsafe(no_mangle)]
 pub extern "C" fn geyserpan_why_text(status: u32, why: &Why, room: &mut [u8]) -> usize
     ensures stays { length room.old < result → room.new ≡ room.old }

@@ -1,5 +1,6 @@
 -- What a host admits, and what is so of an image that it denies.
-use Rattle.std.specs.Prelude.{◌≡◌, ◌≢◌, ℕ, ◌≤◌, ◌<◌, ◌==◌, Bool, true, false, List, [], ◌∷◌, ◌++◌, Ok, Err, Option, IfSome}
+use Rattle.std.specs.Prelude.{◌≡◌, ◌≢◌, ℕ, ◌≤◌, ◌<◌, ◌==◌, Bool, true, false, List, [], ◌∷◌, ◌++◌, Ok, Err, Option}
+use Rattle.std.specs.Prelude.{IfSome}
 use Rattle.std.specs.Int.RustNames.{bit_and}
 use Rattle.sbx_image.specs.ImageFault.TheVariants.{Memory}
 use Rattle.sbx_image.specs.Parts.{Parts}
@@ -26,11 +27,13 @@ Explains policy bytes (Image fault) = fault ≢ Memory refused → reading bytes
 Explains policy bytes (Refused refusal) = (parts : Parts) × (reading bytes ≡ Ok parts) × IsRefusal parts refusal
 Explains policy bytes (Services asked) = (parts : Parts) × (reading bytes ≡ Ok parts) × (asked ≡ parts.services)
     × (grants_services policy parts ≡ false)
-Explains policy bytes (Turns asked) = (parts : Parts) × (reading bytes ≡ Ok parts) × (asked ≡ budget parts) × (policy.turns < asked)
+Explains policy bytes (Turns asked) = (parts : Parts) × (reading bytes ≡ Ok parts) × (asked ≡ budget parts)
+    × (policy.turns < asked)
 
 -- The list grew by the image that the bytes of a file spell, and it is admitted.
 abbrev pub AddsAdmitted : Policy → Option (List ℕ) → List Parts → List Parts → Type 0
-AddsAdmitted policy file old new = (parts : Parts) × (new ≡ old ++ parts ∷ []) × IfSome file (λ bytes. IsAdmitted policy bytes parts)
+AddsAdmitted policy file old new = (parts : Parts) × (new ≡ old ++ parts ∷ [])
+    × IfSome file (λ bytes. IsAdmitted policy bytes parts)
 
 -- What a denial tells is so of the bytes of a file.
 abbrev pub DeniesRightly : Policy → Option (List ℕ) → Denial → Type 0

@@ -14,19 +14,35 @@ abbrev pub told_of : Finished → Told
 told_of f = record { status = f.status; turns = f.turns; overflows = f.overflows; underflows = f.underflows }
 
 abbrev pub told_of_flow : Flowed → Told
-told_of_flow f = record { status = f.status; turns = f.counts.turns; overflows = f.counts.overflows; underflows = f.counts.underflows }
+told_of_flow f =
+    record {
+      status = f.status;
+      turns = f.counts.turns;
+      overflows = f.counts.overflows;
+      underflows =
+          f.counts.underflows;
+    }
 
--- On the flat machine: what was written is the image's output on the bytes read, and on whatever comes behind them, with its exit word and
--- the counts of its path on so many windows, within its budget; where a fault ended it, the first bytes of that output.
-abbrev pub EngineGives : ℕ → Parts → Option (List ℕ) → Option (List ℕ) → Option (List ℕ) → Option (List ℕ) → Result Flowed RunFault → Type 0
-EngineGives windows parts reader reader_now writer writer_now (Ok flowed) = Streamed reader reader_now writer writer_now (IsFlowed parts windows flowed)
-EngineGives windows parts reader reader_now writer writer_now (Err fault) = Streamed reader reader_now writer writer_now (IsCutOff parts fault)
+-- On the flat machine: what was written is the image's output on the bytes read, and on whatever comes behind them,
+-- with its exit word and the counts of its path on so many windows, within its budget; where a fault ended it, the
+-- first bytes of that output.
+abbrev pub EngineGives : ℕ → Parts → Option (List ℕ) → Option (List ℕ) → Option (List ℕ) → Option (List ℕ) →
+    Result Flowed RunFault → Type 0
+EngineGives windows parts reader reader_now writer writer_now (Ok flowed) =
+    Streamed reader reader_now writer writer_now (IsFlowed parts windows flowed)
+EngineGives windows parts reader reader_now writer writer_now (Err fault) =
+    Streamed reader reader_now writer writer_now (IsCutOff parts fault)
 
 -- what is told is what one of the two gave
-abbrev pub RunsSo : Bool → ℕ → Parts → Option (List ℕ) → Option (List ℕ) → Option (List ℕ) → Option (List ℕ) → Result Told RunFault → Type 0
+abbrev pub RunsSo : Bool → ℕ → Parts → Option (List ℕ) → Option (List ℕ) → Option (List ℕ) → Option (List ℕ) →
+    Result Told RunFault → Type 0
 RunsSo true windows parts reader reader_now writer writer_now (Ok told) =
-    (flowed : Flowed) × (told ≡ told_of_flow flowed) × EngineGives windows parts reader reader_now writer writer_now (Ok flowed)
-RunsSo true windows parts reader reader_now writer writer_now (Err fault) = EngineGives windows parts reader reader_now writer writer_now (Err fault)
+    (flowed : Flowed) × (told ≡ told_of_flow flowed)
+    × EngineGives windows parts reader reader_now writer writer_now (Ok flowed)
+RunsSo true windows parts reader reader_now writer writer_now (Err fault) =
+    EngineGives windows parts reader reader_now writer writer_now (Err fault)
 RunsSo false windows parts reader reader_now writer writer_now (Ok told) =
-    (finished : Finished) × (told ≡ told_of finished) × RunGives windows parts reader reader_now writer writer_now (Ok finished)
-RunsSo false windows parts reader reader_now writer writer_now (Err fault) = RunGives windows parts reader reader_now writer writer_now (Err fault)
+    (finished : Finished) × (told ≡ told_of finished)
+    × RunGives windows parts reader reader_now writer writer_now (Ok finished)
+RunsSo false windows parts reader reader_now writer writer_now (Err fault) =
+    RunGives windows parts reader reader_now writer writer_now (Err fault)

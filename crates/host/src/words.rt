@@ -266,7 +266,8 @@ struct Reading<'a> {
 }
 
 impl<'a> Reading<'a> {
-    /// Takes a word that is no option's value: an option, with its value behind `=` or in the next word, or without one, or a path.
+    /// Takes a word that is no option's value: an option, with its value behind `=` or in the next word, or without
+    /// one, or a path.
     fn take_first(&mut self, word: &'a str) -> Result<(), Lack<'a>> {
         if let Some((name, text)) = word.split_once('=')
             && let Some(name) = Name::of(name)

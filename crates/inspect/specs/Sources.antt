@@ -15,4 +15,5 @@ IsCheckReport Json findings told = (text : List ℕ) × IsLine (check_json findi
 
 -- the verdict is that on the source, and what is told is the report of what is wrong with it
 abbrev pub CheckTold : Form → List ℕ → Verdict → List ℕ → Type 0
-CheckTold form source verdict told = (findings : List Finding) × IsCheck source verdict findings × IsCheckReport form findings told
+CheckTold form source verdict told = (findings : List Finding) × IsCheck source verdict findings
+    × IsCheckReport form findings told

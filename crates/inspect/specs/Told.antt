@@ -37,16 +37,19 @@ IsVerdictReport Json found line = (text : List ℕ) × Tells found [] text × Is
 
 -- The output grew by the report of the image that the bytes spell.
 abbrev pub Shown : Form → Option (List ℕ) → Option (List ℕ) → Option (List ℕ) → Type 0
-Shown form file old new = IfSome file (λ bytes. (parts : Parts) × (reading bytes ≡ Ok parts) × Wrote old new (IsImageReport form parts))
+Shown form file old new =
+    IfSome file (λ bytes. (parts : Parts) × (reading bytes ≡ Ok parts) × Wrote old new (IsImageReport form parts))
 
 -- The output grew by the report of a run of an image on an input.
 abbrev pub TellsRun : Form → ℕ → ℕ → Parts → List ℕ → Option (List ℕ) → Option (List ℕ) → Type 0
-TellsRun form windows limit parts input old new = (run : Run) × IsRun windows parts input limit run × Wrote old new (IsRunReport form windows limit run)
+TellsRun form windows limit parts input old new = (run : Run) × IsRun windows parts input limit run
+    × Wrote old new (IsRunReport form windows limit run)
 
 -- The output grew by the report of a run of the image that the bytes spell, on all of the input.
 abbrev pub Ran : Form → ℕ → ℕ → Option (List ℕ) → Option (List ℕ) → Option (List ℕ) → Option (List ℕ) → Type 0
 Ran form windows limit file input old new = IfSome file (λ bytes. IfSome input (λ all. (parts : Parts) × (run : Run)
-    × (reading bytes ≡ Ok parts) × IsRun windows parts all limit run × Wrote old new (IsRunReport form windows limit run)))
+    × (reading bytes ≡ Ok parts) × IsRun windows parts all limit run
+    × Wrote old new (IsRunReport form windows limit run)))
 
 -- The output grew by a text that tells each turn of such a run.
 abbrev pub Traced : ℕ → ℕ → Option (List ℕ) → Option (List ℕ) → Option (List ℕ) → Option (List ℕ) → Type 0

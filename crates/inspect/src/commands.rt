@@ -80,7 +80,8 @@ fn tell_run<O: Write>(
     run: &Run,
     out: &mut O,
 ) -> Result<(), Stop>
-    ensures told { OnOk result (Wrote (O.contents out.old) (O.contents out.new) (IsRunReport form windows limit run.now)) }
+    ensures told { OnOk result
+        (Wrote (O.contents out.old) (O.contents out.new) (IsRunReport form windows limit run.now)) }
     ensures stop { IfErr result (λ stop. (stop ≡ Stop.Memory refused) ⊎ (stop ≡ Stop.Output)) }
 {
     match run_report(alloc, form, windows, limit, run) {
@@ -100,7 +101,8 @@ fn run_on<O: Write, P: Progress>(
     out: &mut O,
     progress: &mut P,
 ) -> Result<(), Stop>
-    ensures told { OnOk result (TellsRun form windows limit image.now input.now (O.contents out.old) (O.contents out.new)) }
+    ensures told { OnOk result
+        (TellsRun form windows limit image.now input.now (O.contents out.old) (O.contents out.new)) }
     ensures stop { IfErr result (λ stop. (stop ≡ Stop.Memory refused) ⊎ (stop ≡ Stop.Output)) }
 {
     let count = windows.count();
@@ -119,7 +121,9 @@ fn run_read<I: Read, O: Write, P: Progress>(
     out: &mut O,
     progress: &mut P,
 ) -> Result<(), Stop>
-    ensures told { OnOk result (IfSome (I.remaining input.old) (λ all. TellsRun form windows limit image.now all (O.contents out.old) (O.contents out.new))) }
+    ensures told { OnOk result
+        (IfSome (I.remaining input.old)
+        (λ all. TellsRun form windows limit image.now all (O.contents out.old) (O.contents out.new))) }
     ensures stop { IfErr result (λ stop. (stop ≡ Stop.Memory refused) ⊎ (stop ≡ Stop.Input) ⊎ (stop ≡ Stop.Output)) }
 {
     let bytes = input_of(alloc, input)?;
@@ -135,7 +139,8 @@ fn run_read<I: Read, O: Write, P: Progress>(
     )
 }
 
-/// Runs the image of a file on the input, which is read whole first, on so many windows, up to so many turns, and tells its run.
+/// Runs the image of a file on the input, which is read whole first, on so many windows, up to so many turns, and tells
+/// its run.
 pub fn run_image<F: Read, I: Read, O: Write, P: Progress>(
     alloc: Global,
     form: Form,
@@ -146,7 +151,9 @@ pub fn run_image<F: Read, I: Read, O: Write, P: Progress>(
     out: &mut O,
     progress: &mut P,
 ) -> Result<(), Stop>
-    ensures ran { OnOk result (Ran form windows limit (F.remaining file.old) (I.remaining input.old) (O.contents out.old) (O.contents out.new)) }
+    ensures ran { OnOk result
+        (Ran form windows limit (F.remaining file.old) (I.remaining input.old) (O.contents out.old)
+        (O.contents out.new)) }
     ensures stop { IfErr result (λ stop. IfSome (F.remaining file.old) (IsTrueOfImage stop)) }
 {
     let image = image_in(alloc, file)?;
@@ -163,7 +170,8 @@ fn trace_on<O: Write, P: Progress>(
     out: &mut O,
     progress: &mut P,
 ) -> Result<(), Stop>
-    ensures told { OnOk result (Wrote (O.contents out.old) (O.contents out.new) (IsWatched windows image.now input.now limit)) }
+    ensures told { OnOk result
+        (Wrote (O.contents out.old) (O.contents out.new) (IsWatched windows image.now input.now limit)) }
     ensures stop { IfErr result IsOfTrace }
 {
     match watch_windows(alloc, windows.count(), image, input, limit, out, progress) {
@@ -182,7 +190,9 @@ fn trace_read<I: Read, O: Write, P: Progress>(
     out: &mut O,
     progress: &mut P,
 ) -> Result<(), Stop>
-    ensures told { OnOk result (IfSome (I.remaining input.old) (λ all. Wrote (O.contents out.old) (O.contents out.new) (IsWatched windows image.now all limit))) }
+    ensures told { OnOk result
+        (IfSome (I.remaining input.old)
+        (λ all. Wrote (O.contents out.old) (O.contents out.new) (IsWatched windows image.now all limit))) }
     ensures stop { IfErr result IsOfTrace }
 {
     let bytes = input_of(alloc, input)?;
@@ -197,7 +207,8 @@ fn trace_read<I: Read, O: Write, P: Progress>(
     )
 }
 
-/// Runs the image of a file on the input, which is read whole first, on so many windows, up to so many turns, and tells each turn.
+/// Runs the image of a file on the input, which is read whole first, on so many windows, up to so many turns, and tells
+/// each turn.
 pub fn trace_image<F: Read, I: Read, O: Write, P: Progress>(
     alloc: Global,
     windows: Windows,
@@ -207,14 +218,17 @@ pub fn trace_image<F: Read, I: Read, O: Write, P: Progress>(
     out: &mut O,
     progress: &mut P,
 ) -> Result<(), Stop>
-    ensures traced { OnOk result (Traced windows limit (F.remaining file.old) (I.remaining input.old) (O.contents out.old) (O.contents out.new)) }
+    ensures traced { OnOk result
+        (Traced windows limit (F.remaining file.old) (I.remaining input.old) (O.contents out.old)
+        (O.contents out.new)) }
     ensures stop { IfErr result (λ stop. IfSome (F.remaining file.old) (IsTrueOfImage stop)) }
 {
     let image = image_in(alloc, file)?;
     trace_read(alloc, windows, limit, &image, input, out, progress)
 }
 
-/// Tells why the image of a file is refused, and gives the refusal; none of an image that breaks no rule, of which it says so.
+/// Tells why the image of a file is refused, and gives the refusal; none of an image that breaks no rule, of which it
+/// says so.
 #[tactic(auto, using(crate::proofs::Telling::explained_on))]
 pub fn explain_image<F: Read, O: Write>(
     alloc: Global,
@@ -222,7 +236,8 @@ pub fn explain_image<F: Read, O: Write>(
     file: &mut F,
     out: &mut O,
 ) -> Result<Option<Refusal>, Stop>
-    ensures explained { IfOk result (λ found. Explained form (F.remaining file.old) found (O.contents out.old) (O.contents out.new)) }
+    ensures explained { IfOk result
+        (λ found. Explained form (F.remaining file.old) found (O.contents out.old) (O.contents out.new)) }
     ensures stop { IfErr result (λ stop. IfSome (F.remaining file.old) (IsTrueOfImage stop)) }
 {
     let image = image_in(alloc, file)?;

@@ -20,7 +20,8 @@ pub enum MachineFault {
     Start(StartFault),
 }
 
-/// What a machine is made of, beside the lines of its file: its windows, the most turns, and a binary from an address on.
+/// What a machine is made of, beside the lines of its file: its windows, the most turns, and a binary from an address
+/// on.
 #[derive(Clone, Copy)]
 pub struct Setting<'a> {
     pub windows: Windows,
@@ -29,8 +30,8 @@ pub struct Setting<'a> {
     pub at: u64,
 }
 
-/// Runs a machine from the start that the bytes of a binary and of a file spell, and tells its states, and the words of RAM that it
-/// changed; or what is wrong with the file, and then nothing is written.
+/// Runs a machine from the start that the bytes of a binary and of a file spell, and tells its states, and the words of
+/// RAM that it changed; or what is wrong with the file, and then nothing is written.
 pub fn tell_machine<O: Write>(
     alloc: Global,
     setting: &Setting<'_>,
@@ -38,7 +39,8 @@ pub fn tell_machine<O: Write>(
     file: &[u8],
     out: &mut O,
 ) -> Result<(), MachineFault>
-    ensures { MachineOf setting.now.windows setting.now.limit setting.now.at binary.now file.now (O.contents out.old) (O.contents out.new) result }
+    ensures { MachineOf setting.now.windows setting.now.limit setting.now.at binary.now file.now (O.contents out.old)
+        (O.contents out.new) result }
 {
     let windows = setting.windows.count();
     let start = match read_start(alloc, windows, setting.at, binary, file) {

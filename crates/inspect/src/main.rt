@@ -1,4 +1,5 @@
-//! The second program: it tells of an image file what it declares, what its run gives, turn by turn where that is asked for, and why it is refused.
+//! The second program: it tells of an image file what it declares, what its run gives, turn by turn where that is asked
+//! for, and why it is refused.
 #![tactic(auto)]
 
 mod by_source;

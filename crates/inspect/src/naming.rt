@@ -143,7 +143,8 @@ fn names_for<'s>(
     }
 }
 
-/// Does a job on the image of a file with the names and the lines of a source, or of a map that was made of it, if it is that image's.
+/// Does a job on the image of a file with the names and the lines of a source, or of a map that was made of it, if it
+/// is that image's.
 pub fn tell_by_source<F: Read, I: Read, O: Write, P: Progress>(
     alloc: Global,
     text: &[u8],

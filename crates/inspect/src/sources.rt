@@ -60,7 +60,9 @@ pub fn tell_check<F: Read, O: Write>(
     file: &mut F,
     out: &mut O,
 ) -> Result<Verdict, Stop>
-    ensures { IfOk result (λ verdict. IfSome (F.remaining file.old) (λ source. Wrote (O.contents out.old) (O.contents out.new) (CheckTold form source verdict))) }
+    ensures { IfOk result
+        (λ verdict. IfSome (F.remaining file.old)
+        (λ source. Wrote (O.contents out.old) (O.contents out.new) (CheckTold form source verdict))) }
 {
     let source = source_in(alloc, file)?;
     let (verdict, report) = match report_of(alloc, form, name, source.as_slice()) {

@@ -21,7 +21,8 @@ fn states_on<O: Write>(
     input: &[u8],
     out: &mut O,
 ) -> Result<(), Stop>
-    ensures told { OnOk result (Wrote (O.contents out.old) (O.contents out.new) (IsStated windows image.now input.now limit)) }
+    ensures told { OnOk result
+        (Wrote (O.contents out.old) (O.contents out.new) (IsStated windows image.now input.now limit)) }
     ensures stop { IfErr result IsOfTrace }
 {
     match state_windows(alloc, windows.count(), image, input, limit, out) {
@@ -30,7 +31,8 @@ fn states_on<O: Write>(
     }
 }
 
-/// Runs an image on the input, which is read whole first, on so many windows, up to so many turns, and tells its states.
+/// Runs an image on the input, which is read whole first, on so many windows, up to so many turns, and tells its
+/// states.
 fn states_read<I: Read, O: Write>(
     alloc: Global,
     windows: Windows,
@@ -39,14 +41,17 @@ fn states_read<I: Read, O: Write>(
     input: &mut I,
     out: &mut O,
 ) -> Result<(), Stop>
-    ensures told { OnOk result (IfSome (I.remaining input.old) (λ all. Wrote (O.contents out.old) (O.contents out.new) (IsStated windows image.now all limit))) }
+    ensures told { OnOk result
+        (IfSome (I.remaining input.old)
+        (λ all. Wrote (O.contents out.old) (O.contents out.new) (IsStated windows image.now all limit))) }
     ensures stop { IfErr result IsOfTrace }
 {
     let bytes = input_of(alloc, input)?;
     states_on(alloc, windows, limit, image, bytes.as_slice(), out)
 }
 
-/// Runs the image of a file on the input, which is read whole first, on so many windows, up to so many turns, and tells its states.
+/// Runs the image of a file on the input, which is read whole first, on so many windows, up to so many turns, and tells
+/// its states.
 pub fn state_image<F: Read, I: Read, O: Write>(
     alloc: Global,
     windows: Windows,
@@ -55,7 +60,9 @@ pub fn state_image<F: Read, I: Read, O: Write>(
     input: &mut I,
     out: &mut O,
 ) -> Result<(), Stop>
-    ensures told { OnOk result (StatesOf windows limit (F.remaining file.old) (I.remaining input.old) (O.contents out.old) (O.contents out.new)) }
+    ensures told { OnOk result
+        (StatesOf windows limit (F.remaining file.old) (I.remaining input.old) (O.contents out.old)
+        (O.contents out.new)) }
     ensures stop { IfErr result (λ stop. IfSome (F.remaining file.old) (IsTrueOfImage stop)) }
 {
     let image = image_in(alloc, file)?;

@@ -25,7 +25,8 @@ use Rattle.sbx_asm.specs.Laws.{RegionsBeginWhereLabelsSay}
 use Rattle.sbx_asm.proofs.Nils.{cons_nil, nil_left, nil_right, nil_map}
 use Rattle.sbx_asm.proofs.ValueCounts.{SaysCount, ItemCounts}
 use Rattle.sbx_asm.proofs.Unfilled.{Unfilled, or_left, or_right, stays_out, unfilled_more}
-use Rattle.sbx_asm.proofs.Lying.{which_region, no_size, filled_length, filled_pages, begins_behind, newest, newest_more, length_is, line_clean, size_more, room_more, start_same, regions_here, clean_here, counts_here, worth}
+use Rattle.sbx_asm.proofs.Lying.{which_region, no_size, filled_length, filled_pages, begins_behind, newest, newest_more, length_is, line_clean, size_more}
+use Rattle.sbx_asm.proofs.Lying.{room_more, start_same, regions_here, clean_here, counts_here, worth}
 
 -- ---- bytes
 
@@ -86,9 +87,14 @@ module _ (values : Values) where
   -- data in the code have a fault, so what stands there has no bytes
   pub none_in_code : (before : List Item) (number : ℕ) (labels : List (List ℕ)) (bytes : List ℕ) (tokens : List Token) (s : Said)
       → in_code before ≡ true → line_rules values before (item number labels bytes tokens s) s ≡ [] → bytes_at values before (item number labels bytes tokens s) [] ≡ []
-  none_in_code before number labels bytes tokens (Ok (statements.Directive (directives.Values w n))) e clean = cons_nil (sym (ap (λ (x : Bool). when x causes.Directive) e) ∙ nil_left (when (in_code before) causes.Directive) _ (nil_left (data_rules before (bytes_of_width w * n)) (value_rules (result_err (data_of values bytes w tokens))) clean))
-  none_in_code before number labels bytes tokens (Ok (statements.Directive (directives.Skip n))) e clean = cons_nil (sym (ap (λ (x : Bool). when x causes.Directive) e) ∙ nil_left (when (in_code before) causes.Directive) _ clean)
-  none_in_code before number labels bytes tokens (Ok (statements.Directive (directives.Align n))) e clean = cons_nil (sym (ap (λ (x : Bool). when x causes.Directive) e) ∙ nil_left (when (in_code before) causes.Directive) _ clean)
+  none_in_code before number labels bytes tokens (Ok (statements.Directive (directives.Values w n))) e clean =
+      cons_nil (sym (ap (λ (x : Bool). when x causes.Directive) e)
+      ∙ nil_left (when (in_code before) causes.Directive) _
+      (nil_left (data_rules before (bytes_of_width w * n)) (value_rules (result_err (data_of values bytes w tokens))) clean))
+  none_in_code before number labels bytes tokens (Ok (statements.Directive (directives.Skip n))) e clean =
+      cons_nil (sym (ap (λ (x : Bool). when x causes.Directive) e) ∙ nil_left (when (in_code before) causes.Directive) _ clean)
+  none_in_code before number labels bytes tokens (Ok (statements.Directive (directives.Align n))) e clean =
+      cons_nil (sym (ap (λ (x : Bool). when x causes.Directive) e) ∙ nil_left (when (in_code before) causes.Directive) _ clean)
   none_in_code before number labels bytes tokens (Ok (statements.Directive _)) e clean = refl
   none_in_code before number labels bytes tokens (Ok _) e clean = refl
   none_in_code before number labels bytes tokens (Err f) e clean = refl
@@ -107,9 +113,12 @@ module _ (values : Values) where
   some_later : (n front rest : ℕ) → 0 < rest → n ≡ front + rest → 0 < n
   some_later n front rest some all = omega arith
 
-  some_ahead : (after before : List Item) → AllByRecursion ItemCounts after → each (faults_at values) before after ≡ [] → list_any has_bytes (up_to leaves_region after) ≡ true → 0 < length (ahead before after)
+  some_ahead : (after before : List Item) → AllByRecursion ItemCounts after → each (faults_at values) before after ≡ [] →
+      list_any has_bytes (up_to leaves_region after) ≡ true → 0 < length (ahead before after)
   some_ahead [] before says clean h = absurd (false≢true h)
-  some_ahead (i ∷ after) before says clean h = by (leaves_region i) (has_bytes i) refl refl h (some_ahead after (i ∷ before) says.1 (nil_right (faults_at values before i after) (each (faults_at values) (i ∷ before) after) clean))
+  some_ahead (i ∷ after) before says clean h =
+      by (leaves_region i) (has_bytes i) refl refl h
+      (some_ahead after (i ∷ before) says.1 (nil_right (faults_at values before i after) (each (faults_at values) (i ∷ before) after) clean))
     where
       by : (t u : Bool) → leaves_region i ≡ t → has_bytes i ≡ u → list_any has_bytes (if t then [] else i ∷ up_to leaves_region after) ≡ true
           → (list_any has_bytes (up_to leaves_region after) ≡ true → 0 < length (ahead (i ∷ before) after)) → 0 < length (ahead before (i ∷ after))
@@ -125,11 +134,14 @@ module _ (values : Values) where
           let all = ap length (ahead_more before i after (or_right (is_text i) (is_region i) e)) ∙ length-append (bytes_at values before i []) (ahead (i ∷ before) after) in
           some_later (length (ahead before (i ∷ after))) (length (bytes_at values before i [])) (length (ahead (i ∷ before) after)) later all
 
-  region_has : (before : List Item) (i : Item) (after : List Item) → AllByRecursion ItemCounts after → each (faults_at values) before (i ∷ after) ≡ [] → is_region i ≡ true → 0 < length (ahead (i ∷ before) after)
+  region_has : (before : List Item) (i : Item) (after : List Item) → AllByRecursion ItemCounts after → each (faults_at values) before (i ∷ after) ≡ [] →
+      is_region i ≡ true → 0 < length (ahead (i ∷ before) after)
   region_has before i after says clean e =
       let mine = nil_left (faults_at values before i after) (each (faults_at values) (i ∷ before) after) clean in
-      let told = nil_left (when (is_region i && not (list_any has_bytes (up_to leaves_region after))) causes.Directive) _ (nil_right (line_rules values before i i.said) _ (nil_right (when (nat_lt 1000000 i.number) causes.Limit) _ (nil_map (at i.number) _ mine))) in
-      some_ahead after (i ∷ before) says (nil_right (faults_at values before i after) (each (faults_at values) (i ∷ before) after) clean) (wanted (is_region i) (list_any has_bytes (up_to leaves_region after)) e told)
+      let told = nil_left (when (is_region i && not (list_any has_bytes (up_to leaves_region after))) causes.Directive) _
+      (nil_right (line_rules values before i i.said) _ (nil_right (when (nat_lt 1000000 i.number) causes.Limit) _ (nil_map (at i.number) _ mine))) in
+      some_ahead after (i ∷ before) says (nil_right (faults_at values before i after) (each (faults_at values) (i ∷ before) after) clean)
+      (wanted (is_region i) (list_any has_bytes (up_to leaves_region after)) e told)
 
   -- ---- the start of a region, by those before it
 
@@ -137,7 +149,8 @@ module _ (values : Values) where
   starts_at writable bs before after n there = start_in (slice_get (placed_from (region_start before) (newest values writable bs before after)) n) ≡ Some (region_start there)
 
   -- the newest region, behind which the lines begin another one
-  module _ (before : List Item) (bs : List ℕ) (size : data_offset before ≡ length bs) (room : length bs ≤ section_room) (number : ℕ) (labels : List (List ℕ)) (bytes : List ℕ) (tokens : List Token) (right : Bool) (clean : another_region before ≡ []) (unfilled : Unfilled before) where
+  module _ (before : List Item) (bs : List ℕ) (size : data_offset before ≡ length bs) (room : length bs ≤ section_room) (number : ℕ) (labels : List (List ℕ))
+      (bytes : List ℕ) (tokens : List Token) (right : Bool) (clean : another_region before ≡ []) (unfilled : Unfilled before) where
     abbrev new : Item
     new = item number labels bytes tokens (Ok (statements.Directive (directives.Region right)))
 
@@ -147,7 +160,8 @@ module _ (values : Values) where
         ∙ sym (begins_behind before clean unfilled)
 
     -- where it has bytes
-    behind_bytes : (writable : Bool) (after : List Item) (n : ℕ) (there : List Item) → 0 < length (bs ++ []) → starts_at right [] (new ∷ before) after n there → starts_at writable bs before (new ∷ after) (n + 1) there
+    behind_bytes : (writable : Bool) (after : List Item) (n : ℕ) (there : List Item) → 0 < length (bs ++ []) → starts_at right [] (new ∷ before) after n there →
+        starts_at writable bs before (new ∷ after) (n + 1) there
     behind_bytes writable after n there some h =
         behind_one writable (filled (bs ++ [])) (newest values right [] (new ∷ before) after) (region_start before) n (some_filled (bs ++ []) some)
         ∙ ap (λ (s : ℕ). start_in (slice_get (placed_from s (newest values right [] (new ∷ before) after)) n)) next ∙ h
@@ -167,28 +181,34 @@ module _ (values : Values) where
   asks before i (Ok _) h = absurd (cc)
   asks before i (Err f) h = absurd (cc)
 
-  module _ (before : List Item) (bs : List ℕ) (size : data_offset before ≡ length bs) (room : length bs ≤ section_room) (j : Item) (rest : List Item) (mine : line_rules values before j j.said ≡ []) (unfilled : Unfilled before) where
+  module _ (before : List Item) (bs : List ℕ) (size : data_offset before ≡ length bs) (room : length bs ≤ section_room) (j : Item) (rest : List Item)
+      (mine : line_rules values before j j.said ≡ []) (unfilled : Unfilled before) where
     abbrev it : Said → Item
     it s = item j.number j.labels j.bytes j.tokens s
 
-    over_region : is_region j ≡ true → (writable : Bool) (n : ℕ) (there : List Item) → 0 < length (bs ++ ahead before (j ∷ rest)) → ((right : Bool) → starts_at right [] (j ∷ before) rest n there) → starts_at writable bs before (j ∷ rest) (n + 1) there
+    over_region : is_region j ≡ true → (writable : Bool) (n : ℕ) (there : List Item) → 0 < length (bs ++ ahead before (j ∷ rest)) →
+        ((right : Bool) → starts_at right [] (j ∷ before) rest n there) → starts_at writable bs before (j ∷ rest) (n + 1) there
     over_region e writable n there some h =
         let region = which_region j j.said e in
         let clean = sym (asks before j j.said e) ∙ mine in
-        subst (λ (s : Said). 0 < length (bs ++ ahead before (it s ∷ rest)) → starts_at region.0 [] (it s ∷ before) rest n there → starts_at writable bs before (it s ∷ rest) (n + 1) there) (sym region.1)
+        subst (λ (s : Said). 0 < length (bs ++ ahead before (it s ∷ rest)) → starts_at region.0 [] (it s ∷ before) rest n there →
+        starts_at writable bs before (it s ∷ rest) (n + 1) there) (sym region.1)
         (behind_bytes before bs size room j.number j.labels j.bytes j.tokens region.0 clean unfilled writable rest n there) some (h region.0)
 
-    over_nothing : is_region j ≡ true → (writable : Bool) (n : ℕ) (there : List Item) → bs ≡ [] → ((right : Bool) → starts_at right [] (j ∷ before) rest n there) → starts_at writable bs before (j ∷ rest) n there
+    over_nothing : is_region j ≡ true → (writable : Bool) (n : ℕ) (there : List Item) → bs ≡ [] →
+        ((right : Bool) → starts_at right [] (j ∷ before) rest n there) → starts_at writable bs before (j ∷ rest) n there
     over_nothing e writable n there none h =
         let region = which_region j j.said e in
         let clean = sym (asks before j j.said e) ∙ mine in
         subst (λ (s : Said). starts_at region.0 [] (it s ∷ before) rest n there → starts_at writable bs before (it s ∷ rest) n there) (sym region.1)
         (behind_nothing before bs size room j.number j.labels j.bytes j.tokens region.0 clean unfilled writable rest n there none) (h region.0)
 
-    over_other : (says : ItemCounts j) (e : is_region j ≡ false) (writable : Bool) (n : ℕ) (there : List Item) → starts_at writable (bs ++ bytes_at values before j []) (j ∷ before) rest n there → starts_at writable bs before (j ∷ rest) n there
+    over_other : (says : ItemCounts j) (e : is_region j ≡ false) (writable : Bool) (n : ℕ) (there : List Item) →
+        starts_at writable (bs ++ bytes_at values before j []) (j ∷ before) rest n there → starts_at writable bs before (j ∷ rest) n there
     over_other says e writable n there h =
         ap (λ (rs : List Region). start_in (slice_get (placed_from (region_start before) rs) n)) (newest_more values writable bs before j rest e)
-        ∙ ap (λ (s : ℕ). start_in (slice_get (placed_from s (newest values writable (bs ++ bytes_at values before j []) (j ∷ before) rest)) n)) (sym (start_same values before bs size room j says mine e))
+        ∙ ap (λ (s : ℕ). start_in (slice_get (placed_from s (newest values writable (bs ++ bytes_at values before j []) (j ∷ before) rest)) n))
+        (sym (start_same values before bs size room j says mine e))
         ∙ h
 
     -- no data stand before the first region
@@ -202,7 +222,9 @@ module _ (values : Values) where
         )
 
   its_own : (before : List Item) (j : Item) (rest : List Item) (right : Bool) → 0 < length (ahead (j ∷ before) rest) → starts_at right [] (j ∷ before) rest 0 (j ∷ before)
-  its_own before j rest right some = its_start right (filled (ahead (j ∷ before) rest)) (each (region_at values) (j ∷ before) rest) (region_start (j ∷ before)) (some_filled (ahead (j ∷ before) rest) some)
+  its_own before j rest right some =
+      its_start right (filled (ahead (j ∷ before) rest)) (each (region_at values) (j ∷ before) rest) (region_start (j ∷ before))
+      (some_filled (ahead (j ∷ before) rest) some)
 
   one_more : (j : Item) (front : List Item) → is_region j ≡ true → count is_region (j ∷ front) ≡ count is_region front + 1
   one_more j front e = λ k. if e k then count is_region front + 1 else count is_region front
@@ -213,7 +235,8 @@ module _ (values : Values) where
   module _ (i : Item) (after : List Item) (begins : is_region i ≡ true) where
     -- from within a region that has bytes
     AfterOne : List Item → List Item → Type 0
-    AfterOne front before = (bs : List ℕ) (writable : Bool) → data_offset before ≡ length bs → length bs ≤ section_room → Unfilled before → AllByRecursion ItemCounts (front ++ i ∷ after) → each (faults_at values) before (front ++ i ∷ after) ≡ []
+    AfterOne front before = (bs : List ℕ) (writable : Bool) → data_offset before ≡ length bs → length bs ≤ section_room → Unfilled before →
+        AllByRecursion ItemCounts (front ++ i ∷ after) → each (faults_at values) before (front ++ i ∷ after) ≡ []
         → 0 < length (bs ++ ahead before (front ++ i ∷ after)) → starts_at writable bs before (front ++ i ∷ after) (count is_region front + 1) (i ∷ behind before front)
 
     after_one : (front before : List Item) → AfterOne front before
@@ -236,24 +259,32 @@ module _ (values : Values) where
             (λ right. more [] right (no_size before j e) (omega arith) (unfilled_more values before j mine unfilled) says.1 later (region_has before j (front ++ i ∷ after) says.1 clean e)))
         by more false e =
             let own = bytes_at values before j [] in
-            let same : bs ++ ahead before (j ∷ (front ++ i ∷ after)) ≡ (bs ++ own) ++ ahead (j ∷ before) (front ++ i ∷ after) = ap (λ (ys : List ℕ). bs ++ ys) (ahead_more before j (front ++ i ∷ after) e) ∙ sym (append_assoc bs own (ahead (j ∷ before) (front ++ i ∷ after))) in
+            let same : bs ++ ahead before (j ∷ (front ++ i ∷ after)) ≡ (bs ++ own) ++ ahead (j ∷ before) (front ++ i ∷ after) =
+            ap (λ (ys : List ℕ). bs ++ ys) (ahead_more before j (front ++ i ∷ after) e)
+            ∙ sym (append_assoc bs own (ahead (j ∷ before) (front ++ i ∷ after))) in
             subst (λ (n : ℕ). starts_at writable bs before (j ∷ (front ++ i ∷ after)) (n + 1) (i ∷ behind (j ∷ before) front)) (sym (no_more j front e))
             (over_other before bs size room j (front ++ i ∷ after) mine unfilled says.0 e writable (count is_region front + 1) (i ∷ behind (j ∷ before) front)
-            (more (bs ++ own) writable (size_more values before bs size room j says.0 mine e) (room_more values before bs size room j says.0 mine e) (unfilled_more values before j mine unfilled) says.1 later (subst (λ (ys : List ℕ). 0 < length ys) same some)))
+            (more (bs ++ own) writable (size_more values before bs size room j says.0 mine e) (room_more values before bs size room j says.0 mine e)
+            (unfilled_more values before j mine unfilled) says.1 later (subst (λ (ys : List ℕ). 0 < length ys) same some)))
 
     -- from before the first one
     AfterNone : List Item → List Item → Type 0
-    AfterNone front before = (bs : List ℕ) (writable : Bool) → data_offset before ≡ length bs → length bs ≤ section_room → Unfilled before → AllByRecursion ItemCounts (front ++ i ∷ after) → each (faults_at values) before (front ++ i ∷ after) ≡ []
+    AfterNone front before = (bs : List ℕ) (writable : Bool) → data_offset before ≡ length bs → length bs ≤ section_room → Unfilled before →
+        AllByRecursion ItemCounts (front ++ i ∷ after) → each (faults_at values) before (front ++ i ∷ after) ≡ []
         → (list_any is_data before ≡ false → (in_code before ≡ true) × (bs ≡ [])) → starts_at writable bs before (front ++ i ∷ after) (count is_region front) (i ∷ behind before front)
 
     no_data : (before : List Item) (j : Item) → is_region j ≡ true → line_rules values before j j.said ≡ [] → list_any is_data before ≡ false
-    no_data before j e mine = no_cause (list_any is_data before) (nil_left (when (list_any is_data before) causes.Directive) (when (nat_le 8 (count is_region before)) causes.Limit) (sym (asks before j j.said e) ∙ mine))
+    no_data before j e mine =
+        no_cause (list_any is_data before)
+        (nil_left (when (list_any is_data before) causes.Directive) (when (nat_le 8 (count is_region before)) causes.Limit)
+        (sym (asks before j j.said e) ∙ mine))
 
     after_none : (front before : List Item) → AfterNone front before
     unfolding AfterNone AfterOne
     after_none [] before bs writable size room unfilled says clean none =
         let mine = line_clean values before i after (nil_left (faults_at values before i after) (each (faults_at values) (i ∷ before) after) clean) in
-        over_nothing before bs size room i after mine unfilled begins writable 0 (i ∷ before) (none (no_data before i begins mine)).1 (λ right. its_own before i after right (region_has before i after says.1 clean begins))
+        over_nothing before bs size room i after mine unfilled begins writable 0 (i ∷ before) (none (no_data before i begins mine)).1
+        (λ right. its_own before i after right (region_has before i after says.1 clean begins))
     after_none (j ∷ front) before bs writable size room unfilled says clean none = by (after_none front (j ∷ before)) (is_region j) refl
       where
         mine : line_rules values before j j.said ≡ []
@@ -266,11 +297,14 @@ module _ (values : Values) where
         by more true e =
             subst (λ (n : ℕ). starts_at writable bs before (j ∷ (front ++ i ∷ after)) n (i ∷ behind (j ∷ before) front)) (sym (one_more j front e))
             (over_nothing before bs size room j (front ++ i ∷ after) mine unfilled e writable (count is_region front + 1) (i ∷ behind (j ∷ before) front) (none (no_data before j e mine)).1
-            (λ right. after_one front (j ∷ before) [] right (no_size before j e) (omega arith) (unfilled_more values before j mine unfilled) says.1 later (region_has before j (front ++ i ∷ after) says.1 clean e)))
+            (λ right. after_one front (j ∷ before) [] right (no_size before j e) (omega arith) (unfilled_more values before j mine unfilled) says.1 later
+            (region_has before j (front ++ i ∷ after) says.1 clean e)))
         by more false e =
             subst (λ (n : ℕ). starts_at writable bs before (j ∷ (front ++ i ∷ after)) n (i ∷ behind (j ∷ before) front)) (sym (no_more j front e))
             (over_other before bs size room j (front ++ i ∷ after) mine unfilled says.0 e writable (count is_region front) (i ∷ behind (j ∷ before) front)
-            (more (bs ++ bytes_at values before j []) writable (size_more values before bs size room j says.0 mine e) (room_more values before bs size room j says.0 mine e) (unfilled_more values before j mine unfilled) says.1 later (none_yet before bs size room j (front ++ i ∷ after) mine unfilled e none)))
+            (more (bs ++ bytes_at values before j []) writable (size_more values before bs size room j says.0 mine e)
+            (room_more values before bs size room j says.0 mine e) (unfilled_more values before j mine unfilled) says.1 later
+            (none_yet before bs size room j (front ++ i ∷ after) mine unfilled e none)))
 
 -- ---- the law
 
@@ -284,5 +318,6 @@ pub regions_begin : RegionsBeginWhereLabelsSay
 unfolding AfterNone
 regions_begin source parts means front after i lines e =
     ap (λ (rs : List Region). start_of rs (count is_region front)) (sym (regions_here source parts means front after i lines))
-    ∙ after_none (worth source parts means) i after e front [] [] true refl (omega arith) (λ _ _. refl) (counts_here source parts means front after i lines) (clean_here source parts means front after i lines) (λ _. (refl, refl))
+    ∙ after_none (worth source parts means) i after e front [] [] true refl (omega arith) (λ _ _. refl) (counts_here source parts means front after i lines)
+    (clean_here source parts means front after i lines) (λ _. (refl, refl))
     ∙ ap Some (sym (label_of_start (behind [] front) i e))

@@ -25,7 +25,9 @@ use Rattle.sbx_directives.specs.declared.directive.Statement.{Statement}
 use Rattle.sbx_directives.specs.declared.directive.Statement.TheVariants as statements
 use Rattle.sbx_directives.specs.declared.operand.Operand.{Operand}
 use Rattle.sbx_directives.specs.declared.operand.Operand.TheVariants as operands
-use Rattle.sbx_directives.specs.Directives.{text_of, label_count, ◌>>=◌, is_comma, operand_of, operands_of, is_between, integer_in, natural_in, range_of, coefficient, plain_name, slot, location, names, named_services, is_service, services_of, frames_of, right_of, value_count, directive_of, called, told, keyword_named, begun, statement_of}
+use Rattle.sbx_directives.specs.Directives.{text_of, label_count, ◌>>=◌, is_comma, operand_of, operands_of, is_between, integer_in, natural_in, range_of}
+use Rattle.sbx_directives.specs.Directives.{coefficient, plain_name, slot, location, names, named_services, is_service, services_of, frames_of, right_of}
+use Rattle.sbx_directives.specs.Directives.{value_count, directive_of, called, told, keyword_named, begun, statement_of}
 use Rattle.sbx_asm.specs.Items.{Item, Said, read_line, item_of, items_of, lines_of}
 use Rattle.sbx_asm.proofs.StatementWords.{IsSmall, AreSmall, words_are_small}
 use Rattle.sbx_asm.proofs.Wholes.{map_all}
@@ -60,7 +62,8 @@ parts_small w (p ∷ ps) h k = ((h, k.0), k.1)
 split_small : (ws : List Word) → AreSmall ws → AllByRecursion AreSmall (slice_split is_comma ws)
 split_small [] h = (tt, tt)
 split_small (w ∷ ws) h =
-    cond_both (is_comma w) ([] ∷ slice_split is_comma ws) (onto_first w (slice_split is_comma ws)) (AllByRecursion AreSmall) (λ _. (tt, split_small ws h.1)) (λ _. parts_small w (slice_split is_comma ws) h.0 (split_small ws h.1))
+    cond_both (is_comma w) ([] ∷ slice_split is_comma ws) (onto_first w (slice_split is_comma ws)) (AllByRecursion AreSmall) (λ _. (tt, split_small ws h.1))
+    (λ _. parts_small w (slice_split is_comma ws) h.0 (split_small ws h.1))
 
 all_low : (parts : List (List Word)) → AllByRecursion AreSmall parts → AreLow (map operand_of parts)
 all_low [] h = tt
@@ -182,10 +185,12 @@ directive_keeps line keywords.Result os low = then_all (λ r. range_keeps r ≡ 
 directive_keeps line keywords.Depth (o ∷ []) low = then_all (λ n. between 0 256 n ≡ true) Keeps (natural_in 0 256 o) _ (natural_between 0 256 o) (λ n h. (and_parts (nat_le 0 n) (nat_le n 256) h).1)
 directive_keeps line keywords.Block (o ∷ []) low = then_any Keeps (plain_name o) _ (λ _. tt)
 directive_keeps line keywords.Cell (o ∷ os) low =
-    then_all (λ n. is_location n ≡ true) Keeps (location line o) _ (location_between line o low.0) (λ place l. then_all (λ r. range_keeps r ≡ Ok tt) Keeps (range_of os) _ (range_between os) (λ r h. (l, h)))
+    then_all (λ n. is_location n ≡ true) Keeps (location line o) _ (location_between line o low.0)
+    (λ place l. then_all (λ r. range_keeps r ≡ Ok tt) Keeps (range_of os) _ (range_between os) (λ r h. (l, h)))
 directive_keeps line keywords.Fuel (o ∷ []) low = then_all (λ z. is_fuel z ≡ true) Keeps (integer_in (negsuc 1099511627774) (pos 1099511627775) o) _ (fuel_between o) (λ z h. h)
 directive_keeps line keywords.Term (o ∷ p ∷ []) low =
-    then_all (λ n. is_location n ≡ true) Keeps (location line o) _ (location_between line o low.0) (λ place l. then_all (λ z. is_coefficient z ≡ true) Keeps (coefficient p) _ (coefficient_some p) (λ z h. (l, h)))
+    then_all (λ n. is_location n ≡ true) Keeps (location line o) _ (location_between line o low.0)
+    (λ place l. then_all (λ z. is_coefficient z ≡ true) Keeps (coefficient p) _ (coefficient_some p) (λ z h. (l, h)))
 directive_keeps line keywords.Word os low = then_any Keeps (value_count os) _ (λ _. tt)
 directive_keeps line keywords.Half os low = then_any Keeps (value_count os) _ (λ _. tt)
 directive_keeps line keywords.Byte os low = then_any Keeps (value_count os) _ (λ _. tt)

@@ -56,7 +56,8 @@ module _ (values : Values) (before : List Item) (number : ℕ) (labels : List (L
   length_is : (s : Said) → line_rules values before (it s) s ≡ [] → 4 * length (words_at values before (it s) []) ≡ code_length (it s)
   length_is (Ok statements.Instruction) clean =
       as_many (source_meaning values (code_address before) bytes tokens) (statement_length bytes tokens) (counts_instructions values (code_address before) bytes tokens)
-      (nil_right (when (not (fits_behind (code_offset before) (4 * statement_length bytes tokens))) causes.Limit) _ (nil_right (when (not (in_code before && in_function before)) causes.Directive) _ clean))
+      (nil_right (when (not (fits_behind (code_offset before) (4 * statement_length bytes tokens))) causes.Limit) _
+      (nil_right (when (not (in_code before && in_function before)) causes.Directive) _ clean))
   length_is (Ok _) clean = refl
   length_is (Err f) clean = cons_nil clean
 
@@ -64,7 +65,10 @@ module _ (values : Values) (before : List Item) (number : ℕ) (labels : List (L
   pub room_is : (s : Said) → line_rules values before (it s) s ≡ [] → code_offset before + code_length (it s) ≤ section_room
   room_is (Ok statements.Instruction) clean =
       let n = 4 * statement_length bytes tokens in
-      let fits : fits_behind (code_offset before) n ≡ true = no_cause (fits_behind (code_offset before) n) causes.Limit (nil_left (when (not (fits_behind (code_offset before) n)) causes.Limit) _ (nil_right (when (not (in_code before && in_function before)) causes.Directive) _ clean)) in
+      let fits : fits_behind (code_offset before) n ≡ true =
+      no_cause (fits_behind (code_offset before) n) causes.Limit
+      (nil_left (when (not (fits_behind (code_offset before) n)) causes.Limit) _
+      (nil_right (when (not (in_code before && in_function before)) causes.Directive) _ clean)) in
       let k = leb-true n (section_room - code_offset before) fits in
       let size = code_within before in
       omega (arith, k, size)
@@ -76,17 +80,22 @@ module _ (values : Values) (before : List Item) (number : ℕ) (labels : List (L
 
   -- what has words stands in the code
   in_its_section : (s : Said) (k w : ℕ) → line_rules values before (it s) s ≡ [] → slice_get (words_at values before (it s) []) k ≡ Some w → in_code before ≡ true
-  in_its_section (Ok statements.Instruction) k w clean h = stands (no_cause (in_code before && in_function before) causes.Directive (nil_left (when (not (in_code before && in_function before)) causes.Directive) _ clean))
+  in_its_section (Ok statements.Instruction) k w clean h =
+      stands (no_cause (in_code before && in_function before) causes.Directive
+      (nil_left (when (not (in_code before && in_function before)) causes.Directive) _ clean))
   in_its_section (Ok _) k w clean h = nothing_at k w h
   in_its_section (Err f) k w clean h = nothing_at k w h
 
 -- ---- so many words stand before a line
 
 module _ (values : Values) where
-  pub words_before : (front before more : List Item) → each (faults_at values) before (front ++ more) ≡ [] → code_offset (behind before front) ≡ code_offset before + 4 * length (each (words_at values) before front)
+  pub words_before : (front before more : List Item) → each (faults_at values) before (front ++ more) ≡ [] →
+      code_offset (behind before front) ≡ code_offset before + 4 * length (each (words_at values) before front)
   words_before [] before more clean = omega arith
   words_before (i ∷ front) before more clean =
-      let mine : line_rules values before i i.said ≡ [] = line_clean values before i (front ++ more) (nil_left (faults_at values before i (front ++ more)) (each (faults_at values) (i ∷ before) (front ++ more)) clean) in
+      let mine : line_rules values before i i.said ≡ [] =
+      line_clean values before i (front ++ more)
+      (nil_left (faults_at values before i (front ++ more)) (each (faults_at values) (i ∷ before) (front ++ more)) clean) in
       let rest = words_before front (i ∷ before) more (nil_right (faults_at values before i (front ++ more)) (each (faults_at values) (i ∷ before) (front ++ more)) clean) in
       let own = length_is values before i.number i.labels i.bytes i.tokens i.said mine in
       let here = in_room (code_offset before + code_length i) (room_is values before i.number i.labels i.bytes i.tokens i.said mine) in
@@ -158,7 +167,8 @@ entry_is : (front before : List Item) (i : Item) (after : List Item) → starts_
     → slice_get (entries (each function_at before (front ++ i ∷ after))) (count starts_function front) ≡ Some (code_address (behind before front))
 entry_is [] before i after h = its_own before i after i.said (each function_at (i ∷ before) after) h
 entry_is (j ∷ front) before i after h =
-    one_more before j (front ++ i ∷ after) j.said (each function_at (j ∷ before) (front ++ i ∷ after)) (count starts_function front) (code_address (behind (j ∷ before) front)) (entry_is front (j ∷ before) i after h)
+    one_more before j (front ++ i ∷ after) j.said (each function_at (j ∷ before) (front ++ i ∷ after)) (count starts_function front)
+    (code_address (behind (j ∷ before) front)) (entry_is front (j ∷ before) i after h)
 
 their_functions : (source : List ℕ) (parts : Parts) → source_image source ≡ Ok parts → parts.functions ≡ each function_at [] (items_of source)
 unfolding source_image image_of

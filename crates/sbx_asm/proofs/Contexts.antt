@@ -25,4 +25,6 @@ module _ (values : Values) (before : List Item) (i : Item) where
       → (let b : BlockContext = record { has_acted = acting || self.has_acted; has_fuel = fuel; cells = own_cells; terms = own_terms } in b) ≡ (context_at values (i ∷ before)).block
   in_block self acting fuel own_cells own_terms goes_on h a f c t =
       (λ j. let b : BlockContext = record { has_acted = a j || (h j).has_acted; has_fuel = f j; cells = c j; terms = t j } in b)
-      ∙ (λ j. let mine : List Item = own (sym goes_on j) in let b : BlockContext = record { has_acted = list_any (acts values) mine; has_fuel = has_fuel values (i ∷ before); cells = cells_of mine; terms = terms_of mine } in b)
+      ∙ (λ j. let mine : List Item = own (sym goes_on j) in
+      let b : BlockContext =
+      record { has_acted = list_any (acts values) mine; has_fuel = has_fuel values (i ∷ before); cells = cells_of mine; terms = terms_of mine } in b)

@@ -12,7 +12,8 @@ first_of default None xs = get_or xs 0 default
 first_of default (Some x) xs = x
 
 -- the same behind the last line
-pub first_found : {A : Type 0} (default : A) (f : Item → List A) (found : Option A) (total : A) (is : List Item) (k : ℕ) → length is ≤ k → first_of default found (flat_map f (drop k is)) ≡ total → unwrap_or found default ≡ total
+pub first_found : {A : Type 0} (default : A) (f : Item → List A) (found : Option A) (total : A) (is : List Item) (k : ℕ) → length is ≤ k →
+    first_of default found (flat_map f (drop k is)) ≡ total → unwrap_or found default ≡ total
 first_found {A = A} default f found total is k h so_far = by found ∙ sym (at_drop_all (λ (js : List Item). first_of default found (flat_map f js)) is k h) ∙ so_far
   where
     by : (o : Option A) → unwrap_or o default ≡ first_of default o []

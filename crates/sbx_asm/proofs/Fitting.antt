@@ -209,7 +209,8 @@ module _ (values : Values) where
 
   regions_fit : (is : List Item) → Fit is → AllByRecursion IsTypedRegion (regions_of values is)
   regions_fit is h =
-      append_all IsTypedRegion (region_with true (filled (each (bytes_at values) [] (up_to is_region is)))) (each (region_at values) [] is) (region_fits true [] (up_to is_region is) (up_to_fits is_region is h))
+      append_all IsTypedRegion (region_with true (filled (each (bytes_at values) [] (up_to is_region is)))) (each (region_at values) [] is)
+      (region_fits true [] (up_to is_region is) (up_to_fits is_region is h))
       (each_fits IsTypedRegion (region_at values) (λ b i a _ k. region_at_fits b i a i.said k) [] is h)
 
 -- ---- the image

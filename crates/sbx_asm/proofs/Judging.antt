@@ -11,7 +11,8 @@ use Rattle.sbx_asm.proofs.Views.{all_labels}
 use Rattle.sbx_asm.proofs.Surveys.{fold_append}
 
 -- the fault that is told of the labels, and then of the lines, is the least of all
-pub all_told : (items : List Item) (values : Values) (first all : Option AsmFault) → values ≡ values_of items → first ≡ fold told None (duplicates [] (all_labels items)) → all ≡ fold told first (each (faults_at values) [] items)
+pub all_told : (items : List Item) (values : Values) (first all : Option AsmFault) → values ≡ values_of items →
+    first ≡ fold told None (duplicates [] (all_labels items)) → all ≡ fold told first (each (faults_at values) [] items)
     → all ≡ least_of (faults_of items)
 all_told items values first all v f e =
     e

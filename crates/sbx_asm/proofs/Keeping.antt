@@ -34,7 +34,8 @@ adds_tokens old new (Ok ts) n h is =
 
 -- what the lines so far give, with what those of the rest do
 module _ {A : Type 0} (give : List (List ℕ) → List A) (old total : List A) (rest : List ℕ) (so_far : old ++ give (lines_of rest) ≡ total) where
-  pub one_more : (line after : List ℕ) (more new : List A) → lines_of rest ≡ line ∷ lines_of after → give (line ∷ lines_of after) ≡ more ++ give (lines_of after) → new ≡ old ++ more → new ++ give (lines_of after) ≡ total
+  pub one_more : (line after : List ℕ) (more new : List A) → lines_of rest ≡ line ∷ lines_of after →
+      give (line ∷ lines_of after) ≡ more ++ give (lines_of after) → new ≡ old ++ more → new ++ give (lines_of after) ≡ total
   one_more line after more new first splits is =
       ap (λ (xs : List A). xs ++ give (lines_of after)) is
       ∙ append_assoc old more (give (lines_of after))

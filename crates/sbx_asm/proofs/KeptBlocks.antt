@@ -95,12 +95,15 @@ module _ (values : Values) where
   -- ---- no more than a rule allows
 
   module _ {A : Type 0} (of : Item → List A) (ends : Item → Bool) (most : ℕ)
-      (room : (before : List Item) (i : Item) → line_rules values before i i.said ≡ [] → length (flat_map of (up_to ends before)) ≤ most → length (of i) + length (flat_map of (up_to ends before)) ≤ most) where
-    few_more : (after before : List Item) → each (faults_at values) before after ≡ [] → length (flat_map of (up_to ends before)) ≤ most → length (flat_map of (up_to ends before)) + length (flat_map of (up_to ends after)) ≤ most
+      (room : (before : List Item) (i : Item) → line_rules values before i i.said ≡ [] → length (flat_map of (up_to ends before)) ≤ most →
+      length (of i) + length (flat_map of (up_to ends before)) ≤ most) where
+    few_more : (after before : List Item) → each (faults_at values) before after ≡ [] → length (flat_map of (up_to ends before)) ≤ most →
+        length (flat_map of (up_to ends before)) + length (flat_map of (up_to ends after)) ≤ most
     few_more [] before clean few = omega (arith, few)
     few_more (i ∷ after) before clean few = by (few_more after (i ∷ before)) (ends i) refl
       where
-        by : (each (faults_at values) (i ∷ before) after ≡ [] → length (flat_map of (up_to ends (i ∷ before))) ≤ most → length (flat_map of (up_to ends (i ∷ before))) + length (flat_map of (up_to ends after)) ≤ most)
+        by : (each (faults_at values) (i ∷ before) after ≡ [] → length (flat_map of (up_to ends (i ∷ before))) ≤ most →
+            length (flat_map of (up_to ends (i ∷ before))) + length (flat_map of (up_to ends after)) ≤ most)
             → (t : Bool) → ends i ≡ t → length (flat_map of (up_to ends before)) + length (flat_map of (if t then [] else i ∷ up_to ends after)) ≤ most
         by more true e = omega (arith, few)
         by more false e =
@@ -127,22 +130,26 @@ module _ (values : Values) where
 
   param_room : (before : List Item) (i : Item) (s : Said) → line_rules values before (record i { said = s }) s ≡ [] → length (flat_map params (up_to ends_function before)) ≤ 6
       → length (params (record i { said = s })) + length (flat_map params (up_to ends_function before)) ≤ 6
-  param_room before i (Ok (statements.Directive (directives.Param r))) clean few = let k = not_full 6 (length (flat_map params (up_to ends_function before))) (placed (takes_ranges values before) _ clean) in omega (arith, k)
+  param_room before i (Ok (statements.Directive (directives.Param r))) clean few = let k =
+      not_full 6 (length (flat_map params (up_to ends_function before))) (placed (takes_ranges values before) _ clean) in omega (arith, k)
   param_room before i (Ok (statements.Directive _)) clean few = omega (arith, few)
   param_room before i (Ok _) clean few = omega (arith, few)
   param_room before i (Err f) clean few = omega (arith, few)
 
   result_room : (before : List Item) (i : Item) (s : Said) → line_rules values before (record i { said = s }) s ≡ [] → length (flat_map results (up_to ends_function before)) ≤ 6
       → length (results (record i { said = s })) + length (flat_map results (up_to ends_function before)) ≤ 6
-  result_room before i (Ok (statements.Directive (directives.Result r))) clean few = let k = not_full 6 (length (flat_map results (up_to ends_function before))) (placed (takes_ranges values before) _ clean) in omega (arith, k)
+  result_room before i (Ok (statements.Directive (directives.Result r))) clean few = let k =
+      not_full 6 (length (flat_map results (up_to ends_function before))) (placed (takes_ranges values before) _ clean) in omega (arith, k)
   result_room before i (Ok (statements.Directive _)) clean few = omega (arith, few)
   result_room before i (Ok _) clean few = omega (arith, few)
   result_room before i (Err f) clean few = omega (arith, few)
 
-  pub params_few : (before : List Item) (i : Item) (after : List Item) → ends_function i ≡ true → each (faults_at values) (i ∷ before) after ≡ [] → length (flat_map params (up_to ends_function after)) ≤ 6
+  pub params_few : (before : List Item) (i : Item) (after : List Item) → ends_function i ≡ true → each (faults_at values) (i ∷ before) after ≡ [] →
+      length (flat_map params (up_to ends_function after)) ≤ 6
   params_few = few_from params ends_function 6 (λ before i. param_room before i i.said)
 
-  pub results_few : (before : List Item) (i : Item) (after : List Item) → ends_function i ≡ true → each (faults_at values) (i ∷ before) after ≡ [] → length (flat_map results (up_to ends_function after)) ≤ 6
+  pub results_few : (before : List Item) (i : Item) (after : List Item) → ends_function i ≡ true → each (faults_at values) (i ∷ before) after ≡ [] →
+      length (flat_map results (up_to ends_function after)) ≤ 6
   results_few = few_from results ends_function 6 (λ before i. result_room before i i.said)
 
   -- ---- cells and terms: their locations ascend
@@ -152,7 +159,9 @@ module _ (values : Values) where
 
   above : (most location : ℕ) (locations : List ℕ) → ascending most locations location ≡ [] → nat_lt (get_or locations 0 0) location ≡ true
   above most location locations h =
-      let no : nat_le location (get_or locations 0 0) ≡ false = no_cause (nat_le location (get_or locations 0 0)) causes.Directive (nil_right (when (nat_le most (length locations)) causes.Limit) (when (nat_le location (get_or locations 0 0)) causes.Directive) h) in
+      let no : nat_le location (get_or locations 0 0) ≡ false =
+      no_cause (nat_le location (get_or locations 0 0)) causes.Directive
+      (nil_right (when (nat_le most (length locations)) causes.Limit) (when (nat_le location (get_or locations 0 0)) causes.Directive) h) in
       lt-ltb _ _ (leb-false location (get_or locations 0 0) no)
 
   fewer : (most location : ℕ) (locations : List ℕ) → ascending most locations location ≡ [] → length locations + 1 ≤ most
@@ -178,44 +187,56 @@ module _ (values : Values) where
       (passes (is_coefficient t.coefficient) fault.Limit (λ _. Ok t.location) t.location h.1 refl)
 
   module _ {A : Type 0} (of : Item → List A) (location : A → ℕ) (keeps : ℕ → A → Result ℕ ImageFault)
-      (one : (before : List Item) (i : Item) → ItemKeeps i → line_rules values before i i.said ≡ [] → keep_each keeps (last location (flat_map of (up_to ends_block before))) (of i) ≡ Ok (last location (of i ++ flat_map of (up_to ends_block before)))) where
-    ascend : (after before : List Item) → Keep after → each (faults_at values) before after ≡ [] → (end : ℕ) × (keep_each keeps (last location (flat_map of (up_to ends_block before))) (flat_map of (up_to ends_block after)) ≡ Ok end)
+      (one : (before : List Item) (i : Item) → ItemKeeps i → line_rules values before i i.said ≡ [] →
+      keep_each keeps (last location (flat_map of (up_to ends_block before))) (of i) ≡
+      Ok (last location (of i ++ flat_map of (up_to ends_block before)))) where
+    ascend : (after before : List Item) → Keep after → each (faults_at values) before after ≡ [] →
+        (end : ℕ) × (keep_each keeps (last location (flat_map of (up_to ends_block before))) (flat_map of (up_to ends_block after)) ≡ Ok end)
     ascend [] before keep clean = (last location (flat_map of (up_to ends_block before)), each_none keeps _)
     ascend (i ∷ after) before keep clean = by (ascend after (i ∷ before)) (ends_block i) refl
       where
-        by : (Keep after → each (faults_at values) (i ∷ before) after ≡ [] → (end : ℕ) × (keep_each keeps (last location (flat_map of (up_to ends_block (i ∷ before)))) (flat_map of (up_to ends_block after)) ≡ Ok end))
-            → (t : Bool) → ends_block i ≡ t → (end : ℕ) × (keep_each keeps (last location (flat_map of (up_to ends_block before))) (flat_map of (if t then [] else i ∷ up_to ends_block after)) ≡ Ok end)
+        by : (Keep after → each (faults_at values) (i ∷ before) after ≡ [] →
+            (end : ℕ) × (keep_each keeps (last location (flat_map of (up_to ends_block (i ∷ before)))) (flat_map of (up_to ends_block after)) ≡ Ok end))
+            → (t : Bool) → ends_block i ≡ t →
+            (end : ℕ) × (keep_each keeps (last location (flat_map of (up_to ends_block before)))
+            (flat_map of (if t then [] else i ∷ up_to ends_block after)) ≡ Ok end)
         by more true e = (last location (flat_map of (up_to ends_block before)), each_none keeps _)
         by more false e =
             let rest = more keep.1 (clean_rest values before i after clean) in
             let from : last location (flat_map of (up_to ends_block (i ∷ before))) ≡ last location (of i ++ flat_map of (up_to ends_block before)) =
             (λ j. last location (flat_map of (if e j then [] else i ∷ up_to ends_block before))) in (
               rest.0,
-              each_append keeps (of i) (flat_map of (up_to ends_block after)) (last location (flat_map of (up_to ends_block before))) (last location (of i ++ flat_map of (up_to ends_block before))) rest.0
+              each_append keeps (of i) (flat_map of (up_to ends_block after)) (last location (flat_map of (up_to ends_block before)))
+                  (last location (of i ++ flat_map of (up_to ends_block before))) rest.0
                   (one before i keep.0 (clean_first values before i after clean))
                   (subst (λ (n : ℕ). keep_each keeps n (flat_map of (up_to ends_block after)) ≡ Ok rest.0) from rest.1),
             )
 
-    ascend_from : (before : List Item) (i : Item) (after : List Item) → ends_block i ≡ true → Keep after → each (faults_at values) (i ∷ before) after ≡ [] → (end : ℕ) × (keep_each keeps 0 (flat_map of (up_to ends_block after)) ≡ Ok end)
+    ascend_from : (before : List Item) (i : Item) (after : List Item) → ends_block i ≡ true → Keep after → each (faults_at values) (i ∷ before) after ≡ [] →
+        (end : ℕ) × (keep_each keeps 0 (flat_map of (up_to ends_block after)) ≡ Ok end)
     ascend_from before i after e keep clean =
         let none : last location (flat_map of (up_to ends_block (i ∷ before))) ≡ 0 = (λ j. last location (flat_map of (if e j then [] else i ∷ up_to ends_block before))) in
         let all = ascend after (i ∷ before) keep clean in
         (all.0, subst (λ (n : ℕ). keep_each keeps n (flat_map of (up_to ends_block after)) ≡ Ok all.0) none all.1)
 
   one_cell : (before : List Item) (i : Item) (s : Said) → SaidKeeps s → line_rules values before (record i { said = s }) s ≡ []
-      → keep_each cell_keeps (last (λ (c : Cell). c.location) (flat_map cells (up_to ends_block before))) (cells (record i { said = s })) ≡ Ok (last (λ (c : Cell). c.location) (cells (record i { said = s }) ++ flat_map cells (up_to ends_block before)))
+      → keep_each cell_keeps (last (λ (c : Cell). c.location) (flat_map cells (up_to ends_block before))) (cells (record i { said = s })) ≡
+      Ok (last (λ (c : Cell). c.location) (cells (record i { said = s }) ++ flat_map cells (up_to ends_block before)))
   one_cell before i (Ok (statements.Directive (directives.Cell c))) h clean =
       let others : List ℕ = map (λ (d : Cell). d.location) (flat_map cells (up_to ends_block before)) in
-      each_first cell_keeps (get_or others 0 0) c [] c.location c.location (cell_kept (get_or others 0 0) c h (above 64 c.location others (placed (takes_annotations values before) _ clean))) (each_none cell_keeps c.location)
+      each_first cell_keeps (get_or others 0 0) c [] c.location c.location
+      (cell_kept (get_or others 0 0) c h (above 64 c.location others (placed (takes_annotations values before) _ clean))) (each_none cell_keeps c.location)
   one_cell before i (Ok (statements.Directive _)) h clean = each_none cell_keeps _
   one_cell before i (Ok _) h clean = each_none cell_keeps _
   one_cell before i (Err f) h clean = each_none cell_keeps _
 
   one_term : (before : List Item) (i : Item) (s : Said) → SaidKeeps s → line_rules values before (record i { said = s }) s ≡ []
-      → keep_each term_keeps (last (λ (t : Term). t.location) (flat_map terms (up_to ends_block before))) (terms (record i { said = s })) ≡ Ok (last (λ (t : Term). t.location) (terms (record i { said = s }) ++ flat_map terms (up_to ends_block before)))
+      → keep_each term_keeps (last (λ (t : Term). t.location) (flat_map terms (up_to ends_block before))) (terms (record i { said = s })) ≡
+      Ok (last (λ (t : Term). t.location) (terms (record i { said = s }) ++ flat_map terms (up_to ends_block before)))
   one_term before i (Ok (statements.Directive (directives.Term t))) h clean =
       let others : List ℕ = map (λ (u : Term). u.location) (flat_map terms (up_to ends_block before)) in
-      each_first term_keeps (get_or others 0 0) t [] t.location t.location (term_kept (get_or others 0 0) t h (above 8 t.location others (placed (takes_annotations values before) _ clean))) (each_none term_keeps t.location)
+      each_first term_keeps (get_or others 0 0) t [] t.location t.location
+      (term_kept (get_or others 0 0) t h (above 8 t.location others (placed (takes_annotations values before) _ clean))) (each_none term_keeps t.location)
   one_term before i (Ok (statements.Directive _)) h clean = each_none term_keeps _
   one_term before i (Ok _) h clean = each_none term_keeps _
   one_term before i (Err f) h clean = each_none term_keeps _
@@ -251,14 +272,17 @@ module _ (values : Values) where
   no_fuel : is_fuel (pos 0) ≡ true
   no_fuel = refl
 
-  pub block_kept : (end : ℕ) (next : Next) (address : ℕ) (before : List Item) (i : Item) (after : List Item) → ends_block i ≡ true → Keep after → each (faults_at values) (i ∷ before) after ≡ [] → admits end next address ≡ true
+  pub block_kept : (end : ℕ) (next : Next) (address : ℕ) (before : List Item) (i : Item) (after : List Item) → ends_block i ≡ true → Keep after →
+      each (faults_at values) (i ∷ before) after ≡ [] → admits end next address ≡ true
       → block_keeps end next (block_with address (up_to ends_block after)) ≡ Ok (Above address)
   unfolding block_keeps
   block_kept end next address before i after e keep clean here =
       let own : List Item = up_to ends_block after in
       let cell_count = few_from cells ends_block 64 (λ b j. cell_room b j j.said) before i after e clean in
       let term_count = few_from terms ends_block 8 (λ b j. term_room b j j.said) before i after e clean in
-      let fuel : is_fuel (get_or (flat_map fuels own) 0 (pos 0)) ≡ true = first_keeps (λ z. is_fuel z ≡ true) (pos 0) (flat_map fuels own) no_fuel (flat_keeps (λ z. is_fuel z ≡ true) fuels (λ j. fuels_keep j.said) own (up_to_keeps ends_block after keep)) in
+      let fuel : is_fuel (get_or (flat_map fuels own) 0 (pos 0)) ≡ true =
+      first_keeps (λ z. is_fuel z ≡ true) (pos 0) (flat_map fuels own) no_fuel
+      (flat_keeps (λ z. is_fuel z ≡ true) fuels (λ j. fuels_keep j.said) own (up_to_keeps ends_block after keep)) in
       let their_cells = ascend_from cells (λ (c : Cell). c.location) cell_keeps (λ b j h. one_cell b j j.said h) before i after e keep clean in
       let their_terms = ascend_from terms (λ (t : Term). t.location) term_keeps (λ b j h. one_term b j j.said h) before i after e keep clean in
       passes (admits end next address) fault.Order _ (Above address) here

@@ -1,5 +1,6 @@
 -- The functions and the blocks of lines without faults keep the rules of an image: in each a line acts, so they follow one another in the code.
-use Rattle.std.proofs.Common.{◌≡◌, ◌⊎◌, inl, inr, ℕ, ◌+◌, ◌-◌, ◌*◌, ◌%◌, ◌≤◌, ◌<◌, Bool, true, false, List, [], ◌∷◌, ◌++◌, length, get_or, Option, None, Some, Result, Ok, Err, IfOk, refl, sym, ap, subst, ◌∙◌, arith}
+use Rattle.std.proofs.Common.{◌≡◌, ◌⊎◌, inl, inr, ℕ, ◌+◌, ◌-◌, ◌*◌, ◌%◌, ◌≤◌, ◌<◌, Bool, true, false, List, [], ◌∷◌, ◌++◌, length, get_or, Option, None, Some}
+use Rattle.std.proofs.Common.{Result, Ok, Err, IfOk, refl, sym, ap, subst, ◌∙◌, arith}
 use Rattle.std.specs.Prelude.{not, ◌&&◌, ◌||◌, ◌==◌, nat_le, nat_lt, if◌then◌else◌, codes}
 use Rattle.std.specs.List.{AllByRecursion, flat_map, list_any}
 use Rattle.std.specs.Option.{option_map_or}
@@ -31,7 +32,8 @@ use Rattle.sbx_directives.specs.declared.fault.DataFault.{DataFault}
 use Rattle.sbx_directives.specs.declared.fault.DataFault.TheVariants as data_faults
 use Rattle.sbx_directives.specs.Data.{data_of, bytes_of_width}
 use Rattle.sbx_asm.specs.declared.fault.Cause.TheVariants as causes
-use Rattle.sbx_asm.specs.Items.{Item, Said, each, up_to, count, starts_function, ends_function, is_block, ends_block, is_region, is_text, has_bytes, in_function, begins_block, block_count, params, results, depths, has}
+use Rattle.sbx_asm.specs.Items.{Item, Said, each, up_to, count, starts_function, ends_function, is_block, ends_block, is_region, is_text, has_bytes}
+use Rattle.sbx_asm.specs.Items.{in_function, begins_block, block_count, params, results, depths, has}
 use Rattle.sbx_asm.specs.Addresses.{code_length, code_offset, code_address, section_room, in_code}
 use Rattle.sbx_asm.specs.Rules.{Values, at, when, data_rules, value_rules, block_rules, acts, line_rules, faults_at}
 use Rattle.sbx_asm.specs.Images.{block_with, block_at, function_at}
@@ -52,13 +54,16 @@ abbrev Some_of : List Instr → Type 0
 Some_of is = 1 ≤ length is
 
 set_some : (symbolic : Bool) (w rd : ℕ) → Some_of (set_instructions symbolic w rd)
-set_some symbolic w rd = cond_both (not symbolic && (nat_lt w 4096 || nat_le 4294963200 w)) _ _ Some_of (λ _. omega arith) (λ _. cond_both (not symbolic && w % 1024 == 0) _ _ Some_of (λ _. omega arith) (λ _. omega arith))
+set_some symbolic w rd =
+    cond_both (not symbolic && (nat_lt w 4096 || nat_le 4294963200 w)) _ _ Some_of (λ _. omega arith)
+    (λ _. cond_both (not symbolic && w % 1024 == 0) _ _ Some_of (λ _. omega arith) (λ _. omega arith))
 
 made_some : (symbolic : Bool) (rd : ℕ) (r : Result ℕ SyntaxFault) → IfOk (r >>= λ w. Ok (set_instructions symbolic w rd)) Some_of
 made_some symbolic rd (Ok w) = set_some symbolic w rd
 made_some symbolic rd (Err f) = tt
 
-set_made : (o : Option ((Expression × ℕ) × List Word)) → IfOk (option_map_or (λ x. word_in ranges.Whole x.0.0 >>= λ w. Ok (set_instructions (is_symbolic x.0.0.base) w x.0.1)) o (Err syntax.Shape)) Some_of
+set_made : (o : Option ((Expression × ℕ) × List Word)) →
+    IfOk (option_map_or (λ x. word_in ranges.Whole x.0.0 >>= λ w. Ok (set_instructions (is_symbolic x.0.0.base) w x.0.1)) o (Err syntax.Shape)) Some_of
 set_made (Some x) = made_some (is_symbolic x.0.0.base) x.0.1 (word_in ranges.Whole x.0.0)
 set_made None = tt
 
@@ -90,7 +95,8 @@ up_rises : (test : Item → Bool) (after before : List Item) → code_offset (be
 up_rises test [] before = omega arith
 up_rises test (i ∷ after) before = by (test i) (up_rises test after (i ∷ before))
   where
-    by : (t : Bool) → code_offset (behind (i ∷ before) (up_to test after)) ≤ code_offset (behind (i ∷ before) after) → code_offset (behind before (if t then [] else i ∷ up_to test after)) ≤ code_offset (behind (i ∷ before) after)
+    by : (t : Bool) → code_offset (behind (i ∷ before) (up_to test after)) ≤ code_offset (behind (i ∷ before) after) →
+        code_offset (behind before (if t then [] else i ∷ up_to test after)) ≤ code_offset (behind (i ∷ before) after)
     by true h = code_rises (i ∷ after) before
     by false h = h
 
@@ -158,7 +164,8 @@ record IsFunctionWith (before : List Item) (i : Item) (after : List Item) : Type
   is : function_at before i after ≡ function_with before i after head ∷ []
 
 which_function : (before : List Item) (i : Item) (s : Said) (after : List Item) → SaidKeeps s → starts_function (record i { said = s }) ≡ true → IsFunctionWith before (record i { said = s }) after
-which_function before i (Ok (statements.Directive (directives.Function name kind frame room budget))) after k e = record { head = record { kind = kind; frame = frame; room = room; budget = budget }; keeps = k; is = refl }
+which_function before i (Ok (statements.Directive (directives.Function name kind frame room budget))) after k e =
+    record { head = record { kind = kind; frame = frame; room = room; budget = budget }; keeps = k; is = refl }
 which_function before i (Ok (statements.Directive _)) after k e = absurd (cc)
 which_function before i (Ok _) after k e = absurd (cc)
 which_function before i (Err f) after k e = absurd (cc)
@@ -180,7 +187,8 @@ module _ (values : Values) where
   -- ---- a line without faults
 
   -- begins no function, or is a `.function`
-  no_end : (before : List Item) (i : Item) (s : Said) → line_rules values before (record i { said = s }) s ≡ [] → starts_function (record i { said = s }) ≡ false → ends_function (record i { said = s }) ≡ false
+  no_end : (before : List Item) (i : Item) (s : Said) → line_rules values before (record i { said = s }) s ≡ [] →
+      starts_function (record i { said = s }) ≡ false → ends_function (record i { said = s }) ≡ false
   no_end before i (Ok (statements.Directive (directives.Function name kind frame room budget))) clean e = absurd (cc)
   no_end before i (Ok (statements.Directive _)) clean e = refl
   no_end before i (Ok (statements.Malformed keywords.Function name)) clean e = cons_nil clean
@@ -195,8 +203,15 @@ module _ (values : Values) where
   fewer true n e h = cons_nil h
   fewer false n e h = let k = leb-false 4096 n e in omega (arith, k)
 
-  which_block : (before : List Item) (i : Item) (s : Said) (after : List Item) → line_rules values before (record i { said = s }) s ≡ [] → is_block (record i { said = s }) ≡ true → IsBlockWith before (record i { said = s }) after
-  which_block before i (Ok (statements.Directive (directives.Block name))) after clean e = record { is = refl; few = fewer (nat_le 4096 (block_count before)) (block_count before) refl (placed (in_function before) (when (nat_le 4096 (block_count before)) causes.Limit) clean) }
+  which_block : (before : List Item) (i : Item) (s : Said) (after : List Item) → line_rules values before (record i { said = s }) s ≡ [] →
+      is_block (record i { said = s }) ≡ true → IsBlockWith before (record i { said = s }) after
+  which_block before i (Ok (statements.Directive (directives.Block name))) after clean e =
+      record {
+        is = refl;
+        few =
+            fewer (nat_le 4096 (block_count before)) (block_count before) refl
+            (placed (in_function before) (when (nat_le 4096 (block_count before)) causes.Limit) clean);
+      }
   which_block before i (Ok (statements.Directive _)) after clean e = absurd (cc)
   which_block before i (Ok (statements.Malformed keywords.Block name)) after clean e = cons_nil (nil_right (block_rules before) (causes.Directive ∷ []) clean)
   which_block before i (Ok _) after clean e = absurd (cc)
@@ -208,7 +223,8 @@ module _ (values : Values) where
   not_acting (Some _) clean e = absurd (cc)
 
   -- what acts takes a word
-  acts_long : (before : List Item) (i : Item) (s : Said) → line_rules values before (record i { said = s }) s ≡ [] → acts values (record i { said = s }) ≡ true → 4 ≤ code_length (record i { said = s })
+  acts_long : (before : List Item) (i : Item) (s : Said) → line_rules values before (record i { said = s }) s ≡ [] →
+      acts values (record i { said = s }) ≡ true → 4 ≤ code_length (record i { said = s })
   acts_long before i (Ok statements.Instruction) clean e = let some = statement_some i.bytes i.tokens in omega (arith, some)
   acts_long before i (Ok (statements.Directive (directives.Values w n))) clean e =
       absurd (not_acting (result_err (data_of values i.bytes w i.tokens)) (nil_right (data_rules before (bytes_of_width w * n)) (value_rules (result_err (data_of values i.bytes w i.tokens))) clean) e)
@@ -220,11 +236,14 @@ module _ (values : Values) where
   code_more before i mine = in_room (code_offset before + code_length i) (room_is values before i.number i.labels i.bytes i.tokens i.said mine)
 
   -- and so do lines in which one acts
-  acts_ahead : (test : Item → Bool) (after before : List Item) → each (faults_at values) before after ≡ [] → list_any (acts values) (up_to test after) ≡ true → code_offset before + 4 ≤ code_offset (behind before (up_to test after))
+  acts_ahead : (test : Item → Bool) (after before : List Item) → each (faults_at values) before after ≡ [] → list_any (acts values) (up_to test after) ≡ true →
+      code_offset before + 4 ≤ code_offset (behind before (up_to test after))
   acts_ahead test [] before clean h = absurd (cc)
   acts_ahead test (i ∷ after) before clean h = by (acts_ahead test after (i ∷ before) (clean_rest values before i after clean)) (test i) h
     where
-      one : (u : Bool) → acts values i ≡ u → (list_any (acts values) (up_to test after) ≡ true → code_offset (i ∷ before) + 4 ≤ code_offset (behind (i ∷ before) (up_to test after))) → (u || list_any (acts values) (up_to test after)) ≡ true
+      one : (u : Bool) → acts values i ≡ u →
+          (list_any (acts values) (up_to test after) ≡ true → code_offset (i ∷ before) + 4 ≤ code_offset (behind (i ∷ before) (up_to test after))) →
+          (u || list_any (acts values) (up_to test after)) ≡ true
           → code_offset before + 4 ≤ code_offset (behind (i ∷ before) (up_to test after))
       one true e more k =
           let mine = clean_first values before i after clean in
@@ -240,7 +259,8 @@ module _ (values : Values) where
       by more false k = one (acts values i) refl more k
 
   -- in a block a line acts
-  begun_acts : (before : List Item) (i : Item) (after : List Item) → each (faults_at values) before (i ∷ after) ≡ [] → begins_block before i ≡ true → list_any (acts values) (up_to ends_block after) ≡ true
+  begun_acts : (before : List Item) (i : Item) (after : List Item) → each (faults_at values) before (i ∷ after) ≡ [] → begins_block before i ≡ true →
+      list_any (acts values) (up_to ends_block after) ≡ true
   begun_acts before i after clean e =
       let mine = nil_map (at i.number) _ (nil_left (faults_at values before i after) (each (faults_at values) (i ∷ before) after) clean) in
       wanted (begins_block before i) (list_any (acts values) (up_to ends_block after)) e
@@ -266,7 +286,8 @@ module _ (values : Values) where
   admitted end a before h k = let whole = code_whole before in and_from _ _ (lt-ltb a (code_address before) h) (and_from _ _ (eq-eqb _ _ (omega (arith, whole))) (lt-ltb (code_address before) end k))
 
   -- where a block begins, the code goes on
-  not_last : (end : ℕ) (before : List Item) (i : Item) (after : List Item) → EndsAt end before (i ∷ after) → each (faults_at values) before (i ∷ after) ≡ [] → begins_block before i ≡ true → code_address before < end
+  not_last : (end : ℕ) (before : List Item) (i : Item) (after : List Item) → EndsAt end before (i ∷ after) → each (faults_at values) before (i ∷ after) ≡ [] →
+      begins_block before i ≡ true → code_address before < end
   not_last end before i after ends clean e =
       let more = acts_ahead ends_block after (i ∷ before) (clean_rest values before i after clean) (begun_acts before i after clean e) in
       let first = code_rises (i ∷ []) before in
@@ -274,9 +295,11 @@ module _ (values : Values) where
       omega (arith, more, first, rest, ends)
 
   BlocksFollow : List Item → List Item → Type 0
-  BlocksFollow before after = (end a : ℕ) → each (faults_at values) before after ≡ [] → Keep after → EndsAt end before after → in_function before ≡ true → a ≤ code_address before → Acted a before after → Blocks end a before after
+  BlocksFollow before after = (end a : ℕ) → each (faults_at values) before after ≡ [] → Keep after → EndsAt end before after → in_function before ≡ true →
+      a ≤ code_address before → Acted a before after → Blocks end a before after
 
-  acted_more : (a : ℕ) (before : List Item) (i : Item) (after : List Item) → line_rules values before i i.said ≡ [] → a ≤ code_address before → ends_block i ≡ false → Acted a before (i ∷ after) → Acted a (i ∷ before) after
+  acted_more : (a : ℕ) (before : List Item) (i : Item) (after : List Item) → line_rules values before i i.said ≡ [] → a ≤ code_address before →
+      ends_block i ≡ false → Acted a before (i ∷ after) → Acted a (i ∷ before) after
   acted_more a before i after mine le e (inl h) = inl (let next = code_rises (i ∷ []) before in omega (arith, h, next))
   acted_more a before i after mine le e (inr h) = by (acts values i) refl (sym (λ j. list_any (acts values) (if e j then [] else i ∷ up_to ends_block after)) ∙ h)
     where
@@ -304,7 +327,9 @@ module _ (values : Values) where
       own = up_to ends_function after
 
       -- the block that a `.block` begins, and those behind it
-      another : (e : ends_function i ≡ false) → is_block i ≡ true → Blocks end (code_address before) (i ∷ before) after → (last : ℕ) × (keep_each (block_keeps end) (Above a) (block_at before i own ++ each block_at (i ∷ before) own) ≡ Ok (Above last)) × (last < code_address (behind (i ∷ before) own))
+      another : (e : ends_function i ≡ false) → is_block i ≡ true → Blocks end (code_address before) (i ∷ before) after →
+          (last : ℕ) × (keep_each (block_keeps end) (Above a) (block_at before i own ++ each block_at (i ∷ before) own) ≡ Ok (Above last))
+          × (last < code_address (behind (i ∷ before) own))
       another e f later =
           let ending : ends_block i ≡ true = (λ j. ends_function i || f j) ∙ (λ j. e j || true) in
           let begins : begins_block before i ≡ true = (λ j. starts_function i || (f j && inside j)) ∙ (λ j. or_left (starts_function i) _ e j || true) in
@@ -316,7 +341,8 @@ module _ (values : Values) where
           ∙ block_kept values end (Above a) (code_address before) before i after ending keep.1 rest (admitted end a before there high) in (
             later.last,
             subst (λ (bs : List Block). keep_each (block_keeps end) (Above a) (bs ++ each block_at (i ∷ before) own) ≡ Ok (Above later.last)) (sym it.is)
-                (each_first (block_keeps end) (Above a) (block_with (code_address before) (up_to ends_block own)) (each block_at (i ∷ before) own) (Above (code_address before)) (Above later.last) block later.keep),
+                (each_first (block_keeps end) (Above a) (block_with (code_address before) (up_to ends_block own)) (each block_at (i ∷ before) own)
+                (Above (code_address before)) (Above later.last) block later.keep),
             later.low,
           )
 
@@ -370,7 +396,8 @@ module _ (values : Values) where
       own : List Item
       own = up_to ends_function after
 
-      with_all : up_to ends_function (i ∷ after) ≡ i ∷ own → (n : ℕ) → length (block_at before i own) ≡ n → block_count (i ∷ before) ≡ block_count before + n → Counted (i ∷ before) after → Counted before (i ∷ after)
+      with_all : up_to ends_function (i ∷ after) ≡ i ∷ own → (n : ℕ) → length (block_at before i own) ≡ n → block_count (i ∷ before) ≡ block_count before + n →
+          Counted (i ∷ before) after → Counted before (i ∷ after)
       with_all same n one count later =
           let sum = length-append (block_at before i own) (each block_at (i ∷ before) own) in
           let total : length (each block_at before (i ∷ own)) + block_count before ≡ block_count (behind (i ∷ before) own) = (let l = later.all in omega (arith, sum, one, count, l)) in
@@ -379,7 +406,8 @@ module _ (values : Values) where
             few = subst (λ (is : List Item). block_count (behind before is) ≤ 4096) (sym same) later.few;
           }
 
-      by : (each (faults_at values) (i ∷ before) after ≡ [] → in_function (i ∷ before) ≡ true → block_count (i ∷ before) ≤ 4096 → Counted (i ∷ before) after) → (t : Bool) → ends_function i ≡ t → (u : Bool) → is_block i ≡ u → Counted before (i ∷ after)
+      by : (each (faults_at values) (i ∷ before) after ≡ [] → in_function (i ∷ before) ≡ true → block_count (i ∷ before) ≤ 4096 → Counted (i ∷ before) after) →
+          (t : Bool) → ends_function i ≡ t → (u : Bool) → is_block i ≡ u → Counted before (i ∷ after)
       by more true e u f =
           let none : up_to ends_function (i ∷ after) ≡ [] = λ j. if e j then [] else i ∷ own in
           record {
@@ -395,7 +423,8 @@ module _ (values : Values) where
       by more false e false f =
           let begins : begins_block before i ≡ false = (λ j. starts_function i || (f j && in_function before)) ∙ (λ j. or_left (starts_function i) _ e j || false) in
           let count : block_count (i ∷ before) ≡ block_count before + 0 = (λ j. if begins j then block_count before + 1 else block_count before) ∙ (omega arith) in
-          with_all (λ j. if e j then [] else i ∷ own) 0 (ap (λ (bs : List Block). length bs) (block_begun before i i.said own f)) count (more rest (stays_in before i e ∙ inside) (omega (arith, count, few)))
+          with_all (λ j. if e j then [] else i ∷ own) 0 (ap (λ (bs : List Block). length bs) (block_begun before i i.said own f)) count
+          (more rest (stays_in before i e ∙ inside) (omega (arith, count, few)))
 
   -- ---- depths
 
@@ -446,7 +475,8 @@ module _ (values : Values) where
   pair_same : (last n m : ℕ) → n ≡ m → stands (Above last, n) ≡ stands (Above last, m)
   pair_same last n m h = ap (λ (k : ℕ). stands (Above last, k)) h
 
-  function_kept : (version end : ℕ) (next : Next) (before : List Item) (i : Item) (after : List Item) → starts_function i ≡ true → SaidKeeps i.said → Keep after → each (faults_at values) before (i ∷ after) ≡ []
+  function_kept : (version end : ℕ) (next : Next) (before : List Item) (i : Item) (after : List Item) → starts_function i ≡ true → SaidKeeps i.said →
+      Keep after → each (faults_at values) before (i ∷ after) ≡ []
       → EndsAt end before (i ∷ after) → Says version after → admits end next (code_address before) ≡ true → block_count before + 1 ≤ 4096 → Kept version end next before i after
   unfolding function_keeps BlocksFollow
   function_kept version end next before i after e own_keeps keep clean ends says here room =
@@ -466,7 +496,8 @@ module _ (values : Values) where
       let all = blocks.all in
       let few = blocks.few in
       let first : block_keeps end (Exactly entry) (block_with entry (up_to ends_block own)) ≡ Ok (Above entry) =
-      ap (λ (is : List Item). block_keeps end (Exactly entry) (block_with entry is)) (up_to_twice after) ∙ block_kept values end (Exactly entry) entry before i after ending_block keep rest (eq-eqb entry entry refl) in
+      ap (λ (is : List Item). block_keeps end (Exactly entry) (block_with entry is)) (up_to_twice after)
+      ∙ block_kept values end (Exactly entry) entry before i after ending_block keep rest (eq-eqb entry entry refl) in
       let their_blocks : keep_each (block_keeps end) (Exactly entry) f.blocks ≡ Ok (Above later.last) =
       each_first (block_keeps end) (Exactly entry) (block_with entry (up_to ends_block own)) (each block_at (i ∷ before) own) (Above entry) (Above later.last) first later.keep in
       let total : block_count before + length f.blocks ≡ block_count (behind (i ∷ before) own) = omega (arith, all, count) in
@@ -499,10 +530,13 @@ module _ (values : Values) where
       → a < code_address (behind before (up_to ends_function after)) → n ≡ block_count (behind before (up_to ends_function after))
       → (place : Place) × (keep_each (function_keeps version end) (Above a, n) (each function_at before after) ≡ Ok place)
 
-  room_for : (before : List Item) (i : Item) (s : Said) → line_rules values before (record i { said = s }) s ≡ [] → starts_function (record i { said = s }) ≡ true → (count starts_function before + 1 ≤ 256) × (block_count before + 1 ≤ 4096)
+  room_for : (before : List Item) (i : Item) (s : Said) → line_rules values before (record i { said = s }) s ≡ [] →
+      starts_function (record i { said = s }) ≡ true → (count starts_function before + 1 ≤ 256) × (block_count before + 1 ≤ 4096)
   room_for before i (Ok (statements.Directive (directives.Function name kind frame room budget))) clean e = (
-    few_functions (nat_le 256 (count starts_function before)) (count starts_function before) refl (nil_left (when (nat_le 256 (count starts_function before)) causes.Limit) (when (nat_le 4096 (block_count before)) causes.Limit) clean),
-    fewer (nat_le 4096 (block_count before)) (block_count before) refl (nil_right (when (nat_le 256 (count starts_function before)) causes.Limit) (when (nat_le 4096 (block_count before)) causes.Limit) clean),
+    few_functions (nat_le 256 (count starts_function before)) (count starts_function before) refl
+        (nil_left (when (nat_le 256 (count starts_function before)) causes.Limit) (when (nat_le 4096 (block_count before)) causes.Limit) clean),
+    fewer (nat_le 4096 (block_count before)) (block_count before) refl
+        (nil_right (when (nat_le 256 (count starts_function before)) causes.Limit) (when (nat_le 4096 (block_count before)) causes.Limit) clean),
   )
     where
       few_functions : (t : Bool) (n : ℕ) → nat_le 256 n ≡ t → when t causes.Limit ≡ [] → n + 1 ≤ 256
@@ -514,7 +548,8 @@ module _ (values : Values) where
 
   -- one more function, and those behind it
   one_function : (version end : ℕ) (next : Next) (before : List Item) (i : Item) (after : List Item) → Kept version end next before i after
-      → ((a n : ℕ) → a < code_address (behind (i ∷ before) (up_to ends_function after)) → n ≡ block_count (behind (i ∷ before) (up_to ends_function after)) → (place : Place) × (keep_each (function_keeps version end) (Above a, n) (each function_at (i ∷ before) after) ≡ Ok place))
+      → ((a n : ℕ) → a < code_address (behind (i ∷ before) (up_to ends_function after)) → n ≡ block_count (behind (i ∷ before) (up_to ends_function after)) →
+      (place : Place) × (keep_each (function_keeps version end) (Above a, n) (each function_at (i ∷ before) after) ≡ Ok place))
       → (place : Place) × (keep_each (function_keeps version end) (next, block_count before) (each function_at before (i ∷ after)) ≡ Ok place)
   one_function version end next before i after it more =
       let total : ℕ = block_count (behind (i ∷ before) (up_to ends_function after)) in
@@ -535,7 +570,8 @@ module _ (values : Values) where
       rest : each (faults_at values) (i ∷ before) after ≡ []
       rest = clean_rest values before i after clean
 
-      by : FunctionsFollow (i ∷ before) after → (t : Bool) → starts_function i ≡ t → (place : Place) × (keep_each (function_keeps version end) (Above a, n) (each function_at before (i ∷ after)) ≡ Ok place)
+      by : FunctionsFollow (i ∷ before) after → (t : Bool) → starts_function i ≡ t →
+          (place : Place) × (keep_each (function_keeps version end) (Above a, n) (each function_at before (i ∷ after)) ≡ Ok place)
       by more true e =
           let ending : ends_function i ≡ true = ends_by_start i e in
           let none : up_to ends_function (i ∷ after) ≡ [] = λ j. if ending j then [] else i ∷ up_to ends_function after in
@@ -549,12 +585,15 @@ module _ (values : Values) where
       by more false e =
           let quiet : ends_function i ≡ false = no_end before i i.said mine e in
           let all : up_to ends_function (i ∷ after) ≡ i ∷ up_to ends_function after = λ j. if quiet j then [] else i ∷ up_to ends_function after in
-          let later = more version end a n rest keep.1 ends (says_more version i after says) (stays_in before i quiet ∙ inside) (subst (λ (is : List Item). a < code_address (behind before is)) all low) (count ∙ ap (λ (is : List Item). block_count (behind before is)) all) in
+          let later = more version end a n rest keep.1 ends (says_more version i after says) (stays_in before i quiet ∙ inside)
+          (subst (λ (is : List Item). a < code_address (behind before is)) all low) (count ∙ ap (λ (is : List Item). block_count (behind before is)) all) in
           (later.0, ap (λ (fs : List Function). keep_each (function_keeps version end) (Above a, n) (fs ++ each function_at (i ∷ before) after)) (function_begun before i i.said after e) ∙ later.1)
 
   -- before any function there is no code, and no block
   no_code : (before : List Item) (i : Item) (s : Said) → line_rules values before (record i { said = s }) s ≡ [] → in_function before ≡ false → code_length (record i { said = s }) ≡ 0
-  no_code before i (Ok statements.Instruction) clean outside = cons_nil (sym (outside_told (in_code before) (in_function before) outside) ∙ nil_left (when (not (in_code before && in_function before)) causes.Directive) _ clean)
+  no_code before i (Ok statements.Instruction) clean outside =
+      cons_nil (sym (outside_told (in_code before) (in_function before) outside)
+      ∙ nil_left (when (not (in_code before && in_function before)) causes.Directive) _ clean)
     where
       outside_told : (c f : Bool) → f ≡ false → when (not (c && f)) causes.Directive ≡ causes.Directive ∷ []
       outside_told true f k = λ j. when (not (k j)) causes.Directive
@@ -562,7 +601,8 @@ module _ (values : Values) where
   no_code before i (Ok _) clean outside = refl
   no_code before i (Err f) clean outside = cons_nil clean
 
-  pub functions_kept : (after before : List Item) (version end : ℕ) → each (faults_at values) before after ≡ [] → Keep after → EndsAt end before after → Says version after → in_function before ≡ false → code_offset before ≡ 0 → block_count before ≡ 0
+  pub functions_kept : (after before : List Item) (version end : ℕ) → each (faults_at values) before after ≡ [] → Keep after → EndsAt end before after →
+      Says version after → in_function before ≡ false → code_offset before ≡ 0 → block_count before ≡ 0
       → (place : Place) × (keep_each (function_keeps version end) (Exactly code_start, 0) (each function_at before after) ≡ Ok place)
   unfolding FunctionsFollow
   functions_kept [] before version end clean keep ends says outside first none = ((Exactly code_start, 0), each_none (function_keeps version end) (Exactly code_start, 0))
@@ -574,22 +614,27 @@ module _ (values : Values) where
       rest : each (faults_at values) (i ∷ before) after ≡ []
       rest = clean_rest values before i after clean
 
-      by : (each (faults_at values) (i ∷ before) after ≡ [] → Keep after → EndsAt end (i ∷ before) after → Says version after → in_function (i ∷ before) ≡ false → code_offset (i ∷ before) ≡ 0 → block_count (i ∷ before) ≡ 0
+      by : (each (faults_at values) (i ∷ before) after ≡ [] → Keep after → EndsAt end (i ∷ before) after → Says version after →
+          in_function (i ∷ before) ≡ false → code_offset (i ∷ before) ≡ 0 → block_count (i ∷ before) ≡ 0
           → (place : Place) × (keep_each (function_keeps version end) (Exactly code_start, 0) (each function_at (i ∷ before) after) ≡ Ok place))
           → (t : Bool) → starts_function i ≡ t → (place : Place) × (keep_each (function_keeps version end) (Exactly code_start, 0) (each function_at before (i ∷ after)) ≡ Ok place)
       by more true e =
           let here : admits end (Exactly code_start) (code_address before) ≡ true = eq-eqb _ _ (omega (arith, first)) in
           let it = function_kept version end (Exactly code_start) before i after e keep.0 keep.1 clean ends (says_more version i after says) here (omega (arith, none)) in
           subst (λ (m : ℕ). (place : Place) × (keep_each (function_keeps version end) (Exactly code_start, m) (each function_at before (i ∷ after)) ≡ Ok place)) none
-          (one_function version end (Exactly code_start) before i after it (λ b m l k. functions_follow after (i ∷ before) version end b m rest keep.1 ends (says_more version i after says) (goes_in before i e) l k))
+          (one_function version end (Exactly code_start) before i after it
+          (λ b m l k. functions_follow after (i ∷ before) version end b m rest keep.1 ends (says_more version i after says) (goes_in before i e) l k))
       by more false e =
           let quiet : ends_function i ≡ false = no_end before i i.said mine e in
           let own = no_code before i i.said mine outside in
           let next = code_more before i mine in
           let begins : begins_block before i ≡ false = (λ j. e j || (is_block i && in_function before)) ∙ both_false (is_block i) (in_function before) outside in
           let count : block_count (i ∷ before) ≡ block_count before = λ j. if begins j then block_count before + 1 else block_count before in
-          let later = more rest keep.1 ends (says_more version i after says) (stays_in before i quiet ∙ outside) (omega (arith, own, next, first)) (count ∙ none) in
-          (later.0, ap (λ (fs : List Function). keep_each (function_keeps version end) (Exactly code_start, 0) (fs ++ each function_at (i ∷ before) after)) (function_begun before i i.said after e) ∙ later.1)
+          let later = more rest keep.1 ends (says_more version i after says) (stays_in before i quiet ∙ outside) (omega (arith, own, next, first)) (count ∙ none) in (
+            later.0,
+            ap (λ (fs : List Function). keep_each (function_keeps version end) (Exactly code_start, 0) (fs ++ each function_at (i ∷ before) after))
+                (function_begun before i i.said after e) ∙ later.1,
+          )
         where
           both_false : (u v : Bool) → v ≡ false → (u && v) ≡ false
           both_false true v h = h
@@ -607,7 +652,9 @@ module _ (values : Values) where
       one_begun before i (Ok _) after e = absurd (cc)
       one_begun before i (Err f) after e = absurd (cc)
 
-      by : (t : Bool) → starts_function i ≡ t → length (each function_at (i ∷ before) after) ≡ count starts_function after → length (function_at before i after ++ each function_at (i ∷ before) after) ≡ length (function_at before i after) + length (each function_at (i ∷ before) after)
+      by : (t : Bool) → starts_function i ≡ t → length (each function_at (i ∷ before) after) ≡ count starts_function after →
+          length (function_at before i after ++ each function_at (i ∷ before) after) ≡
+          length (function_at before i after) + length (each function_at (i ∷ before) after)
           → length (each function_at before (i ∷ after)) ≡ (if t then count starts_function after + 1 else count starts_function after)
       by true e more sum = let one = one_begun before i i.said after e in omega (arith, more, sum, one)
       by false e more sum = let none = ap (λ (fs : List Function). length fs) (function_begun before i i.said after e) in omega (arith, more, sum, none)

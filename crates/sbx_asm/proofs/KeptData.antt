@@ -48,7 +48,8 @@ at_most_one writable (b ∷ bs) = omega arith
 one_kept : (pages : ℕ) (r : Region) → Sized r → pages + pages_for (length r.bytes) ≤ 64 → region_keeps pages r ≡ Ok (pages + pages_for (length r.bytes))
 unfolding region_keeps
 one_kept pages r h few =
-    passes (is_length_behind pages (length r.bytes)) fault.Limit (λ _. Ok (pages + pages_for (length r.bytes))) (pages + pages_for (length r.bytes)) (and_from _ _ h.some (and_from _ _ h.whole (le-leb _ _ few))) refl
+    passes (is_length_behind pages (length r.bytes)) fault.Limit (λ _. Ok (pages + pages_for (length r.bytes))) (pages + pages_for (length r.bytes))
+    (and_from _ _ h.some (and_from _ _ h.whole (le-leb _ _ few))) refl
 
 all_kept : (rs : List Region) (pages : ℕ) → AllByRecursion Sized rs → pages + length (page_rights rs) ≤ 64 → (last : ℕ) × (keep_each region_keeps pages rs ≡ Ok last)
 all_kept [] pages h few = (pages, each_none region_keeps pages)
@@ -76,12 +77,16 @@ module _ (values : Values) where
   new_region P writable bs before i after e h =
       let region = which_region i i.said e in
       let it = λ (s : Said). item i.number i.labels i.bytes i.tokens s in
-      subst (λ (s : Said). P (region_with writable (filled (bs ++ [])) ++ newest values region.0 [] (it s ∷ before) after) → P (newest values writable bs before (it s ∷ after))) (sym region.1) (λ k. k) (h region.0)
+      subst (λ (s : Said). P (region_with writable (filled (bs ++ [])) ++ newest values region.0 [] (it s ∷ before) after) →
+      P (newest values writable bs before (it s ∷ after))) (sym region.1) (λ k. k) (h region.0)
 
   -- each is sized
-  pub are_sized : (after before : List Item) (writable : Bool) (bs : List ℕ) → data_offset before ≡ length bs → length bs ≤ section_room → AllByRecursion ItemCounts after → each (faults_at values) before after ≡ []
+  pub are_sized : (after before : List Item) (writable : Bool) (bs : List ℕ) → data_offset before ≡ length bs → length bs ≤ section_room →
+      AllByRecursion ItemCounts after → each (faults_at values) before after ≡ []
       → AllByRecursion Sized (newest values writable bs before after)
-  are_sized [] before writable bs size room says clean = append_all Sized (region_with writable (filled (bs ++ []))) [] (subst (λ (ys : List ℕ). AllByRecursion Sized (region_with writable (filled ys))) (sym (append-nil bs)) (filled_sized writable bs room)) tt
+  are_sized [] before writable bs size room says clean =
+      append_all Sized (region_with writable (filled (bs ++ []))) []
+      (subst (λ (ys : List ℕ). AllByRecursion Sized (region_with writable (filled ys))) (sym (append-nil bs)) (filled_sized writable bs room)) tt
   are_sized (i ∷ after) before writable bs size room says clean = by (are_sized after (i ∷ before)) (is_region i) refl
     where
       mine : line_rules values before i i.said ≡ []
@@ -96,7 +101,8 @@ module _ (values : Values) where
           (more right [] (no_size before i e) (omega arith) says.1 (clean_rest before i after clean)))
       by more false e =
           subst (AllByRecursion Sized) (sym (newest_more values writable bs before i after e))
-          (more writable (bs ++ bytes_at values before i []) (size_more values before bs size room i says.0 mine e) (room_more values before bs size room i says.0 mine e) says.1 (clean_rest before i after clean))
+          (more writable (bs ++ bytes_at values before i []) (size_more values before bs size room i says.0 mine e)
+          (room_more values before bs size room i says.0 mine e) says.1 (clean_rest before i after clean))
 
   -- there are at most 8 `.region`
   pub few_begin : (after before : List Item) → count is_region before ≤ 8 → each (faults_at values) before after ≡ [] → count is_region before + count is_region after ≤ 8
@@ -107,7 +113,9 @@ module _ (values : Values) where
           → count is_region before + (if t then count is_region after + 1 else count is_region after) ≤ 8
       by more true e =
           let one : count is_region (i ∷ before) ≡ count is_region before + 1 = λ j. if e j then count is_region before + 1 else count is_region before in
-          let full = no_cause (nat_le 8 (count is_region before)) causes.Limit (nil_right (when (list_any is_data_line before) causes.Directive) (when (nat_le 8 (count is_region before)) causes.Limit) (sym (asks values before i i.said e) ∙ clean_first before i after clean)) in
+          let full = no_cause (nat_le 8 (count is_region before)) causes.Limit
+          (nil_right (when (list_any is_data_line before) causes.Directive) (when (nat_le 8 (count is_region before)) causes.Limit)
+          (sym (asks values before i i.said e) ∙ clean_first before i after clean)) in
           let less = leb-false 8 (count is_region before) full in
           let all = more (omega (arith, one, less)) (clean_rest before i after clean) in
           omega (arith, one, all)
@@ -125,11 +133,13 @@ module _ (values : Values) where
           → length (newest values writable bs before (i ∷ after)) ≤ 1 + (if t then count is_region after + 1 else count is_region after)
       by more true e =
           new_region (λ rs. length rs ≤ 1 + (count is_region after + 1)) writable bs before i after e
-          (λ right. let rest = more right [] in let one = at_most_one writable (filled (bs ++ [])) in let all = length-append (region_with writable (filled (bs ++ []))) (newest values right [] (i ∷ before) after) in omega (arith, rest, one, all))
+          (λ right. let rest = more right [] in let one = at_most_one writable (filled (bs ++ [])) in
+          let all = length-append (region_with writable (filled (bs ++ []))) (newest values right [] (i ∷ before) after) in omega (arith, rest, one, all))
       by more false e = subst (λ (rs : List Region). length rs ≤ 1 + count is_region after) (sym (newest_more values writable bs before i after e)) (more writable (bs ++ bytes_at values before i []))
 
   -- but there is none before them: data before the first `.region` stand behind a `.data`, and a source has one or the other
-  pub few_in_all : (after before : List Item) (writable : Bool) (bs : List ℕ) → (list_any is_data_line before ≡ false → (in_code before ≡ true) × (bs ≡ [])) → count is_region after ≤ 8 → each (faults_at values) before after ≡ []
+  pub few_in_all : (after before : List Item) (writable : Bool) (bs : List ℕ) → (list_any is_data_line before ≡ false → (in_code before ≡ true) × (bs ≡ [])) →
+      count is_region after ≤ 8 → each (faults_at values) before after ≡ []
       → length (newest values writable bs before after) ≤ 8
   few_in_all [] before writable bs none few clean = let one = one_each [] before writable bs in omega (arith, one)
   few_in_all (i ∷ after) before writable bs none few clean = by (few_in_all after (i ∷ before)) (is_region i) refl few
@@ -137,10 +147,15 @@ module _ (values : Values) where
       mine : line_rules values before i i.said ≡ []
       mine = clean_first before i after clean
 
-      by : ((right : Bool) (cs : List ℕ) → (list_any is_data_line (i ∷ before) ≡ false → (in_code (i ∷ before) ≡ true) × (cs ≡ [])) → count is_region after ≤ 8 → each (faults_at values) (i ∷ before) after ≡ []
-          → length (newest values right cs (i ∷ before) after) ≤ 8) → (t : Bool) → is_region i ≡ t → (if t then count is_region after + 1 else count is_region after) ≤ 8 → length (newest values writable bs before (i ∷ after)) ≤ 8
+      by : ((right : Bool) (cs : List ℕ) → (list_any is_data_line (i ∷ before) ≡ false → (in_code (i ∷ before) ≡ true) × (cs ≡ [])) →
+          count is_region after ≤ 8 → each (faults_at values) (i ∷ before) after ≡ []
+          → length (newest values right cs (i ∷ before) after) ≤ 8) → (t : Bool) → is_region i ≡ t →
+          (if t then count is_region after + 1 else count is_region after) ≤ 8 → length (newest values writable bs before (i ∷ after)) ≤ 8
       by more true e small =
-          let no_data : list_any is_data_line before ≡ false = no_cause (list_any is_data_line before) causes.Directive (nil_left (when (list_any is_data_line before) causes.Directive) (when (nat_le 8 (count is_region before)) causes.Limit) (sym (asks values before i i.said e) ∙ mine)) in
+          let no_data : list_any is_data_line before ≡ false =
+          no_cause (list_any is_data_line before) causes.Directive
+          (nil_left (when (list_any is_data_line before) causes.Directive) (when (nat_le 8 (count is_region before)) causes.Limit)
+          (sym (asks values before i i.said e) ∙ mine)) in
           let empty : bs ≡ [] = (none no_data).1 in
           subst (λ (ys : List ℕ). length (newest values writable ys before (i ∷ after)) ≤ 8) (sym empty)
           (new_region (λ rs. length rs ≤ 8) writable [] before i after e (λ right. let rest = one_each after (i ∷ before) right [] in omega (arith, rest, small)))

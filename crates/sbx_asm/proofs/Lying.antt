@@ -1,5 +1,6 @@
 -- Where the data of a source lie in its image: where its labels say.
-use Rattle.std.proofs.Common.{◌≡◌, ℕ, zero, suc, ◌+◌, ◌-◌, ◌*◌, ◌%◌, ◌<◌, ◌≤◌, Bool, true, false, cond, List, [], ◌∷◌, ◌++◌, length, Option, None, Some, Ok, Err, refl, sym, ap, subst, ◌∙◌, append_assoc, arith}
+use Rattle.std.proofs.Common.{◌≡◌, ℕ, zero, suc, ◌+◌, ◌-◌, ◌*◌, ◌%◌, ◌<◌, ◌≤◌, Bool, true, false, cond, List, [], ◌∷◌, ◌++◌, length, Option, None, Some, Ok}
+use Rattle.std.proofs.Common.{Err, refl, sym, ap, subst, ◌∙◌, append_assoc, arith}
 use Rattle.std.specs.Prelude.{min, not, nat_le, nat_lt, slice_get, if◌then◌else◌}
 use Rattle.std.specs.List.{AllByRecursion, list_any}
 use Rattle.std.proofs.Math.Nat.{min-eq_left}
@@ -123,7 +124,8 @@ capped address = omega arith
 not_below : (start address : ℕ) → start ≤ last_start → start ≤ address → start ≤ up_to_last address
 not_below start address h k = omega arith
 
-rises_with : (start size : ℕ) (later begins : Bool) → (later ≡ false → start ≡ DATA_START) → start ≤ last_start → start ≤ (if begins then (if later then start_behind start size else DATA_START) else start)
+rises_with : (start size : ℕ) (later begins : Bool) → (later ≡ false → start ≡ DATA_START) → start ≤ last_start →
+    start ≤ (if begins then (if later then start_behind start size else DATA_START) else start)
 rises_with start size true true first h = not_below start (start + 4096 * pages_for size) h (omega arith)
 rises_with start size false true first h = let e = first refl in omega (arith, e)
 rises_with start size later false first h = omega arith
@@ -131,7 +133,9 @@ rises_with start size later false first h = omega arith
 -- each begins no earlier than the one before
 pub rises : (front before : List Item) → region_start before ≤ region_start (behind before front)
 rises [] before = omega arith
-rises (i ∷ front) before = let h = rises_with (region_start before) (data_offset before) (list_any is_region before) (is_region i) (first_start before) (low before) in let k = rises front (i ∷ before) in omega (arith, h, k)
+rises (i ∷ front) before = let h =
+    rises_with (region_start before) (data_offset before) (list_any is_region before) (is_region i) (first_start before) (low before) in
+    let k = rises front (i ∷ before) in omega (arith, h, k)
 
 within_with : (start size n : ℕ) (later begins : Bool) → size ≤ section_room → start ≤ DATA_START + section_room * n
     → (if begins then (if later then start_behind start size else DATA_START) else start) ≤ DATA_START + section_room * (if begins then n + 1 else n)
@@ -154,16 +158,21 @@ begins_behind before clean unfilled = by (list_any is_region before) refl
 
     not_last : up_to_last (region_start before + 4096 * pages_for (data_offset before)) ≡ region_start before + 4096 * pages_for (data_offset before)
     not_last =
-        let few : nat_le 8 (count is_region before) ≡ false = no_cause (nat_le 8 (count is_region before)) causes.Limit (nil_right (when (list_any is_data before) causes.Directive) (when (nat_le 8 (count is_region before)) causes.Limit) clean) in
+        let few : nat_le 8 (count is_region before) ≡ false =
+        no_cause (nat_le 8 (count is_region before)) causes.Limit
+        (nil_right (when (list_any is_data before) causes.Directive) (when (nat_le 8 (count is_region before)) causes.Limit) clean) in
         let less = leb-false 8 (count is_region before) few in
         let start = within before in
         let size = data_within before in
         min-eq_left (omega (arith, less, start, size))
 
-    by : (later : Bool) → list_any is_region before ≡ later → (if later then start_behind (region_start before) (data_offset before) else DATA_START) ≡ region_start before + 4096 * pages_for (data_offset before)
+    by : (later : Bool) → list_any is_region before ≡ later →
+        (if later then start_behind (region_start before) (data_offset before) else DATA_START) ≡ region_start before + 4096 * pages_for (data_offset before)
     by true e = not_last
     by false e =
-        let no_data : list_any is_data before ≡ false = no_cause (list_any is_data before) causes.Directive (nil_left (when (list_any is_data before) causes.Directive) (when (nat_le 8 (count is_region before)) causes.Limit) clean) in
+        let no_data : list_any is_data before ≡ false =
+        no_cause (list_any is_data before) causes.Directive
+        (nil_left (when (list_any is_data before) causes.Directive) (when (nat_le 8 (count is_region before)) causes.Limit) clean) in
         let none = unfilled e no_data in
         let start = first_start before e in
         omega (arith, none, start)
@@ -180,7 +189,9 @@ module _ (values : Values) (before : List Item) (number : ℕ) (labels : List (L
 
   -- the bytes of a line are as many as its length
   pub length_is : (s : Said) → SaysCount bytes tokens s → line_rules values before (it s) s ≡ [] → length (bytes_at values before (it s) []) ≡ data_length (data_offset before) s
-  length_is (Ok (statements.Directive (directives.Values w n))) says clean = values_length values bytes w tokens n says (nil_right (data_rules before (bytes_of_width w * n)) (value_rules (result_err (data_of values bytes w tokens))) clean)
+  length_is (Ok (statements.Directive (directives.Values w n))) says clean =
+      values_length values bytes w tokens n says
+      (nil_right (data_rules before (bytes_of_width w * n)) (value_rules (result_err (data_of values bytes w tokens))) clean)
   length_is (Ok (statements.Directive (directives.Skip n))) says clean = length-replicate n 0
   length_is (Ok (statements.Directive (directives.Align n))) says clean = length-replicate (padding_of n (data_offset before)) 0
   length_is (Ok (statements.Directive _)) says clean = refl
@@ -189,7 +200,9 @@ module _ (values : Values) (before : List Item) (number : ℕ) (labels : List (L
 
   room_left : (n : ℕ) → data_rules before n ≡ [] → data_offset before + n ≤ section_room
   room_left n clean =
-      let fits : fits_behind (data_offset before) n ≡ true = has_room (fits_behind (data_offset before) n) (nil_right (when (in_code before) causes.Directive) (when (not (fits_behind (data_offset before) n)) causes.Limit) clean) in
+      let fits : fits_behind (data_offset before) n ≡ true =
+      has_room (fits_behind (data_offset before) n)
+      (nil_right (when (in_code before) causes.Directive) (when (not (fits_behind (data_offset before) n)) causes.Limit) clean) in
       let k = leb-true n (section_room - data_offset before) fits in
       let size = data_within before in
       omega (arith, k, size)
@@ -199,7 +212,8 @@ module _ (values : Values) (before : List Item) (number : ℕ) (labels : List (L
 
   -- and its region holds them
   room_is : (s : Said) → line_rules values before (it s) s ≡ [] → data_offset before + data_length (data_offset before) s ≤ section_room
-  room_is (Ok (statements.Directive (directives.Values w n))) clean = room_left (bytes_of_width w * n) (nil_left (data_rules before (bytes_of_width w * n)) (value_rules (result_err (data_of values bytes w tokens))) clean)
+  room_is (Ok (statements.Directive (directives.Values w n))) clean =
+      room_left (bytes_of_width w * n) (nil_left (data_rules before (bytes_of_width w * n)) (value_rules (result_err (data_of values bytes w tokens))) clean)
   room_is (Ok (statements.Directive (directives.Skip n))) clean = room_left n clean
   room_is (Ok (statements.Directive (directives.Align n))) clean = room_left (padding_of n (data_offset before)) clean
   room_is (Ok (statements.Directive _)) clean = no_more
@@ -215,7 +229,8 @@ module _ (values : Values) (before : List Item) (number : ℕ) (labels : List (L
   nothing_at k b h = absurd (cc)
 
   in_data : (s : Said) (k b : ℕ) → line_rules values before (it s) s ≡ [] → slice_get (bytes_at values before (it s) []) k ≡ Some b → in_code before ≡ false
-  in_data (Ok (statements.Directive (directives.Values w n))) k b clean h = no_code (in_code before) _ (nil_left (data_rules before (bytes_of_width w * n)) (value_rules (result_err (data_of values bytes w tokens))) clean)
+  in_data (Ok (statements.Directive (directives.Values w n))) k b clean h =
+      no_code (in_code before) _ (nil_left (data_rules before (bytes_of_width w * n)) (value_rules (result_err (data_of values bytes w tokens))) clean)
   in_data (Ok (statements.Directive (directives.Skip n))) k b clean h = no_code (in_code before) _ clean
   in_data (Ok (statements.Directive (directives.Align n))) k b clean h = no_code (in_code before) _ clean
   in_data (Ok (statements.Directive _)) k b clean h = nothing_at k b h
@@ -229,11 +244,16 @@ module _ (values : Values) where
   newest writable bs before after = region_with writable (filled (bs ++ each (bytes_at values) before (up_to is_region after))) ++ each (region_at values) before after
 
   -- with a line that begins no region
-  pub newest_more : (writable : Bool) (bs : List ℕ) (before : List Item) (i : Item) (after : List Item) → is_region i ≡ false → newest writable bs before (i ∷ after) ≡ newest writable (bs ++ bytes_at values before i []) (i ∷ before) after
+  pub newest_more : (writable : Bool) (bs : List ℕ) (before : List Item) (i : Item) (after : List Item) → is_region i ≡ false →
+      newest writable bs before (i ∷ after) ≡ newest writable (bs ++ bytes_at values before i []) (i ∷ before) after
   newest_more writable bs before i after h =
-      (λ j. region_with writable (filled (bs ++ each (bytes_at values) before (cond (h j) [] (i ∷ up_to is_region after)))) ++ (region_at values before i after ++ each (region_at values) (i ∷ before) after))
-      ∙ ap (λ (rs : List Region). region_with writable (filled (bs ++ (bytes_at values before i [] ++ each (bytes_at values) (i ∷ before) (up_to is_region after)))) ++ (rs ++ each (region_at values) (i ∷ before) after)) (begins_none values before i after i.said h)
-      ∙ ap (λ (xs : List ℕ). region_with writable (filled xs) ++ each (region_at values) (i ∷ before) after) (sym (append_assoc bs (bytes_at values before i []) (each (bytes_at values) (i ∷ before) (up_to is_region after))))
+      (λ j. region_with writable (filled (bs ++ each (bytes_at values) before (cond (h j) [] (i ∷ up_to is_region after))))
+      ++ (region_at values before i after ++ each (region_at values) (i ∷ before) after))
+      ∙ ap (λ (rs : List Region). region_with writable
+      (filled (bs ++ (bytes_at values before i [] ++ each (bytes_at values) (i ∷ before) (up_to is_region after))))
+      ++ (rs ++ each (region_at values) (i ∷ before) after)) (begins_none values before i after i.said h)
+      ∙ ap (λ (xs : List ℕ). region_with writable (filled xs) ++ each (region_at values) (i ∷ before) after)
+      (sym (append_assoc bs (bytes_at values before i []) (each (bytes_at values) (i ∷ before) (up_to is_region after))))
 
   -- the byte at an address
   abbrev Gives : ℕ → Bool → List ℕ → List Item → List Item → ℕ → Type 0
@@ -286,7 +306,8 @@ module _ (values : Values) where
       abbrev new : Item
       new = item number labels bytes tokens (Ok (statements.Directive (directives.Region right)))
 
-      begins : (a : ℕ) (writable : Bool) (after : List Item) (b : ℕ) → another_region before ≡ [] → Unfilled before → region_start (new ∷ before) ≤ a → Gives a right [] (new ∷ before) after b → Gives a writable bs before (new ∷ after) b
+      begins : (a : ℕ) (writable : Bool) (after : List Item) (b : ℕ) → another_region before ≡ [] → Unfilled before → region_start (new ∷ before) ≤ a →
+          Gives a right [] (new ∷ before) after b → Gives a writable bs before (new ∷ after) b
       begins a writable after b clean unfilled past h =
           let xs = filled (bs ++ []) in
           let rs = newest right [] (new ∷ before) after in
@@ -314,7 +335,8 @@ module _ (values : Values) where
     where
       by : (t : Bool) → is_region i ≡ t → Gives (data_address before + k) writable bs before (i ∷ after) b
       by true e = absurd (let none = no_bytes values before i i.said e in let g : None ≡ Some b = sym (ap (λ (ys : List ℕ). slice_get ys k) none) ∙ h in cc)
-      by false e = own_lies before bs size room i says.0 (line_clean before i after (nil_left (faults_at values before i after) (each (faults_at values) (i ∷ before) after) clean)) e writable after k b h
+      by false e = own_lies before bs size room i says.0
+          (line_clean before i after (nil_left (faults_at values before i after) (each (faults_at values) (i ∷ before) after) clean)) e writable after k b h
   lies (j ∷ front) before bs writable i after k b size room unfilled says clean h = by (lies front (j ∷ before)) (is_region j) refl
     where
       mine : line_rules values before j j.said ≡ []
@@ -326,24 +348,32 @@ module _ (values : Values) where
       past : region_start (j ∷ before) ≤ (data_address (behind (j ∷ before) front) + k)
       past = let r = rises front (j ∷ before) in omega (arith, r)
 
-      by : ((cs : List ℕ) (right : Bool) (i : Item) (after : List Item) (k b : ℕ) → data_offset (j ∷ before) ≡ length cs → length cs ≤ section_room → Unfilled (j ∷ before) → AllByRecursion ItemCounts (front ++ i ∷ after)
+      by : ((cs : List ℕ) (right : Bool) (i : Item) (after : List Item) (k b : ℕ) → data_offset (j ∷ before) ≡ length cs → length cs ≤ section_room →
+          Unfilled (j ∷ before) → AllByRecursion ItemCounts (front ++ i ∷ after)
           → each (faults_at values) (j ∷ before) (front ++ i ∷ after) ≡ [] → slice_get (bytes_at values (behind (j ∷ before) front) i []) k ≡ Some b
           → Gives (data_address (behind (j ∷ before) front) + k) right cs (j ∷ before) (front ++ i ∷ after) b)
           → (t : Bool) → is_region j ≡ t → Gives (data_address (behind (j ∷ before) front) + k) writable bs before (j ∷ (front ++ i ∷ after)) b
       by more true e =
           let region = which_region j j.said e in
-          let lain : Gives (data_address (behind (j ∷ before) front) + k) region.0 [] (j ∷ before) (front ++ i ∷ after) b = more [] region.0 i after k b (no_size before j e) (omega arith) (unfilled_more values before j mine unfilled) says.1 later h in
+          let lain : Gives (data_address (behind (j ∷ before) front) + k) region.0 [] (j ∷ before) (front ++ i ∷ after) b =
+          more [] region.0 i after k b (no_size before j e) (omega arith) (unfilled_more values before j mine unfilled) says.1 later h in
           let it = λ (s : Said). item j.number j.labels j.bytes j.tokens s in
-          subst (λ (s : Said). line_rules values before (it s) s ≡ [] → Unfilled before → region_start (it s ∷ before) ≤ (data_address (behind (j ∷ before) front) + k) → Gives (data_address (behind (j ∷ before) front) + k) region.0 [] (it s ∷ before) (front ++ i ∷ after) b → Gives (data_address (behind (j ∷ before) front) + k) writable bs before (it s ∷ (front ++ i ∷ after)) b) (sym region.1)
+          subst (λ (s : Said). line_rules values before (it s) s ≡ [] → Unfilled before →
+          region_start (it s ∷ before) ≤ (data_address (behind (j ∷ before) front) + k) →
+          Gives (data_address (behind (j ∷ before) front) + k) region.0 [] (it s ∷ before) (front ++ i ∷ after) b →
+          Gives (data_address (behind (j ∷ before) front) + k) writable bs before (it s ∷ (front ++ i ∷ after)) b) (sym region.1)
           (begins before bs size room j.number j.labels j.bytes j.tokens region.0 (data_address (behind (j ∷ before) front) + k) writable (front ++ i ∷ after) b) mine unfilled past lain
       by more false e =
           goes_on before bs size room j says.0 mine e (data_address (behind (j ∷ before) front) + k) writable (front ++ i ∷ after) b
-          (more (bs ++ bytes_at values before j []) writable i after k b (size_more before bs size room j says.0 mine e) (room_more before bs size room j says.0 mine e) (unfilled_more values before j mine unfilled) says.1 later h)
+          (more (bs ++ bytes_at values before j []) writable i after k b (size_more before bs size room j says.0 mine e)
+          (room_more before bs size room j says.0 mine e) (unfilled_more values before j mine unfilled) says.1 later h)
 
   -- the faults of a line in its place
   pub clean_at : (front before : List Item) (i : Item) (after : List Item) → each (faults_at values) before (front ++ i ∷ after) ≡ [] → faults_at values (behind before front) i after ≡ []
   clean_at [] before i after clean = nil_left (faults_at values before i after) (each (faults_at values) (i ∷ before) after) clean
-  clean_at (j ∷ front) before i after clean = clean_at front (j ∷ before) i after (nil_right (faults_at values before j (front ++ i ∷ after)) (each (faults_at values) (j ∷ before) (front ++ i ∷ after)) clean)
+  clean_at (j ∷ front) before i after clean =
+      clean_at front (j ∷ before) i after
+      (nil_right (faults_at values before j (front ++ i ∷ after)) (each (faults_at values) (j ∷ before) (front ++ i ∷ after)) clean)
 
 -- ---- the law
 
@@ -377,7 +407,9 @@ module _ (source : List ℕ) (parts : Parts) (means : source_image source ≡ Ok
 
     label_here : (k b : ℕ) → slice_get (bytes_at worth (behind [] front) i after) k ≡ Some b → label_address (behind [] front) ≡ data_address (behind [] front)
     label_here k b h =
-        ap (address_in_section (behind [] front)) (in_data worth (behind [] front) i.number i.labels i.bytes i.tokens i.said k b (line_clean worth (behind [] front) i after (clean_at worth front [] i after clean_here)) h)
+        ap (address_in_section (behind [] front))
+        (in_data worth (behind [] front) i.number i.labels i.bytes i.tokens i.said k b
+        (line_clean worth (behind [] front) i after (clean_at worth front [] i after clean_here)) h)
 
     lie_here : (k b : ℕ) → slice_get (bytes_at worth (behind [] front) i after) k ≡ Some b → data_at parts.regions (label_address (behind [] front) + k) ≡ Some b
     lie_here k b h =

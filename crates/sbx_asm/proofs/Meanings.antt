@@ -1,5 +1,6 @@
 -- The laws of the meaning of sources.
-use Rattle.std.proofs.Common.{◌≡◌, ◌⊎◌, inl, inr, ℕ, ◌+◌, ◌≤◌, Bool, true, false, cond, ltb, List, [], ◌∷◌, ◌++◌, length, map, Option, None, Some, Result, Ok, Err, refl, sym, ap, ◌∙◌, subst, append_assoc, arith}
+use Rattle.std.proofs.Common.{◌≡◌, ◌⊎◌, inl, inr, ℕ, ◌+◌, ◌≤◌, Bool, true, false, cond, ltb, List, [], ◌∷◌, ◌++◌, length, map, Option, None, Some, Result, Ok}
+use Rattle.std.proofs.Common.{Err, refl, sym, ap, ◌∙◌, subst, append_assoc, arith}
 use Rattle.std.specs.Prelude.{◌||◌, if◌then◌else◌}
 use Rattle.std.specs.Bool.{Decides, one_answer}
 use Rattle.std.specs.Option.{is_some}
@@ -57,7 +58,8 @@ code_is source parts h =
 
 -- ---- lines one after the other
 
-pub words_split : (values : Values) (before front after : List Item) → each (words_at values) before (front ++ after) ≡ each (words_at values) before front ++ each (words_at values) (behind before front) after
+pub words_split : (values : Values) (before front after : List Item) →
+    each (words_at values) before (front ++ after) ≡ each (words_at values) before front ++ each (words_at values) (behind before front) after
 words_split values before [] after = refl
 words_split values before (i ∷ front) after =
     ap (λ (ws : List ℕ). words_at values before i after ++ ws) (words_split values (i ∷ before) front after)

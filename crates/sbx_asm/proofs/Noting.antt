@@ -36,7 +36,8 @@ module _ (values : Values) (before : List Item) (i : Item) (after : List Item) (
       (l
       ∙ (λ j. noted (when (d j) causes.Directive) (noted (when (e j) causes.Directive) (rules j)))
       ∙ four (record { line = i.number; fault = f }) (when (nat_lt 1000000 i.number) causes.Limit) (line_rules values before i i.said)
-      (when (is_region i && not (list_any has_bytes (up_to leaves_region after))) causes.Directive) (when (begins_block before i && not (list_any (acts values) (up_to ends_block after))) causes.Directive))
+      (when (is_region i && not (list_any has_bytes (up_to leaves_region after))) causes.Directive)
+      (when (begins_block before i && not (list_any (acts values) (up_to ends_block after))) causes.Directive))
 
 -- ---- a count up to eight
 

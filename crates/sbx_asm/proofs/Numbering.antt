@@ -18,10 +18,14 @@ use Rattle.sbx_directives.specs.Data.{bytes_of_width}
 use Rattle.sbx_asm.specs.declared.fault.AsmFault.{AsmFault}
 use Rattle.sbx_asm.specs.declared.fault.Cause.{Cause}
 use Rattle.sbx_asm.specs.declared.fault.Cause.TheVariants as causes
-use Rattle.sbx_asm.specs.Rules.{at, Values, when, ascending, duplicates, data_rules, block_rules, in_place, value_rules, acts, takes_annotations, takes_ranges, has_fuel, line_rules, faults_at, faults_of, least_of, value_fault_of}
-use Rattle.sbx_asm.specs.Items.{Item, Said, each, up_to, count, starts_function, ends_function, is_data, is_region, has_bytes, is_block, ends_block, in_function, begins_block, block_count, services, stacks, params, results, depths, fuels, cells, terms, has, is_text}
-use Rattle.sbx_asm.specs.Addresses.{Label, code_length, data_length, region_start, section_room, start_behind, code_offset, data_offset, code_address, in_code, labelled, names_said, labels_at, worth_in, values_of}
-use Rattle.sbx_asm.proofs.Views.{up_to_room, fits_behind, is_called, has_depth, renumbered, retold, saying, leaves_region, address_in_section, told_again, range_rules, statement_rules, words_meant, version_with, fault_meant, all_labels, another_block}
+use Rattle.sbx_asm.specs.Rules.{at, Values, when, ascending, duplicates, data_rules, block_rules, in_place, value_rules, acts, takes_annotations, takes_ranges}
+use Rattle.sbx_asm.specs.Rules.{has_fuel, line_rules, faults_at, faults_of, least_of, value_fault_of}
+use Rattle.sbx_asm.specs.Items.{Item, Said, each, up_to, count, starts_function, ends_function, is_data, is_region, has_bytes, is_block, ends_block}
+use Rattle.sbx_asm.specs.Items.{in_function, begins_block, block_count, services, stacks, params, results, depths, fuels, cells, terms, has, is_text}
+use Rattle.sbx_asm.specs.Addresses.{Label, code_length, data_length, region_start, section_room, start_behind, code_offset, data_offset, code_address, in_code}
+use Rattle.sbx_asm.specs.Addresses.{labelled, names_said, labels_at, worth_in, values_of}
+use Rattle.sbx_asm.proofs.Views.{up_to_room, fits_behind, is_called, has_depth, renumbered, retold, saying, leaves_region, address_in_section, told_again}
+use Rattle.sbx_asm.proofs.Views.{range_rules, statement_rules, words_meant, version_with, fault_meant, all_labels, another_block}
 use Rattle.sbx_asm.specs.Images as images
 use Rattle.sbx_asm.specs.Images.{block_with, block_at, function_at, words_at, bytes_at, filled, region_with, region_at, image_of}
 use Rattle.sbx_asm.specs.Laws.{BlankLinesChangeNothing, NumbersShowInFaultsAlone}
@@ -102,22 +106,27 @@ module _ (f : ℕ → ℕ) where
     count_u (keep i ∷ is) = let e = same i in let more = count_u is in λ k. cond (e k) (more k + 1) (more k)
     count_u (skip n bs ts ∷ is) = let e = none n bs ts in let more = count_u is in λ k. cond (e k) (count t (left is) + 1) (more k)
 
-  flat_u : {A : Type 0} (g : Item → List A) → ((i : Item) → g (u i) ≡ g i) → ((n : ℕ) (bs : List ℕ) (ts : List Token) → g (blank n bs ts) ≡ []) → (is : List Turn) → flat_map g (left is) ≡ flat_map g (right is)
+  flat_u : {A : Type 0} (g : Item → List A) → ((i : Item) → g (u i) ≡ g i) → ((n : ℕ) (bs : List ℕ) (ts : List Token) → g (blank n bs ts) ≡ []) →
+      (is : List Turn) → flat_map g (left is) ≡ flat_map g (right is)
   flat_u g same none [] = refl
   flat_u g same none (keep i ∷ is) = let e = same i in let more = flat_u g same none is in λ k. e k ++ more k
   flat_u g same none (skip n bs ts ∷ is) = let e = none n bs ts in let more = flat_u g same none is in λ k. e k ++ more k
 
   -- so up to the line that ends a block or a function
-  any_in_block : (t : Item → Bool) → ((i : Item) → t (u i) ≡ t i) → ((n : ℕ) (bs : List ℕ) (ts : List Token) → t (blank n bs ts) ≡ false) → (is : List Turn) → list_any t (up_to ends_block (left is)) ≡ list_any t (up_to ends_block (right is))
+  any_in_block : (t : Item → Bool) → ((i : Item) → t (u i) ≡ t i) → ((n : ℕ) (bs : List ℕ) (ts : List Token) → t (blank n bs ts) ≡ false) → (is : List Turn) →
+      list_any t (up_to ends_block (left is)) ≡ list_any t (up_to ends_block (right is))
   any_in_block t same none is = up_to_u ends_block (λ _. refl) (λ _ _ _. refl) (list_any t) (list_any t) is (any_u t same none (until ends_block is))
 
-  any_in_function : (t : Item → Bool) → ((i : Item) → t (u i) ≡ t i) → ((n : ℕ) (bs : List ℕ) (ts : List Token) → t (blank n bs ts) ≡ false) → (is : List Turn) → list_any t (up_to ends_function (left is)) ≡ list_any t (up_to ends_function (right is))
+  any_in_function : (t : Item → Bool) → ((i : Item) → t (u i) ≡ t i) → ((n : ℕ) (bs : List ℕ) (ts : List Token) → t (blank n bs ts) ≡ false) →
+      (is : List Turn) → list_any t (up_to ends_function (left is)) ≡ list_any t (up_to ends_function (right is))
   any_in_function t same none is = up_to_u ends_function (λ _. refl) (λ _ _ _. refl) (list_any t) (list_any t) is (any_u t same none (until ends_function is))
 
-  in_block : {A : Type 0} (g : Item → List A) → ((i : Item) → g (u i) ≡ g i) → ((n : ℕ) (bs : List ℕ) (ts : List Token) → g (blank n bs ts) ≡ []) → (is : List Turn) → flat_map g (up_to ends_block (left is)) ≡ flat_map g (up_to ends_block (right is))
+  in_block : {A : Type 0} (g : Item → List A) → ((i : Item) → g (u i) ≡ g i) → ((n : ℕ) (bs : List ℕ) (ts : List Token) → g (blank n bs ts) ≡ []) →
+      (is : List Turn) → flat_map g (up_to ends_block (left is)) ≡ flat_map g (up_to ends_block (right is))
   in_block g same none is = up_to_u ends_block (λ _. refl) (λ _ _ _. refl) (flat_map g) (flat_map g) is (flat_u g same none (until ends_block is))
 
-  of_function : {A : Type 0} (g : Item → List A) → ((i : Item) → g (u i) ≡ g i) → ((n : ℕ) (bs : List ℕ) (ts : List Token) → g (blank n bs ts) ≡ []) → (is : List Turn) → flat_map g (up_to ends_function (left is)) ≡ flat_map g (up_to ends_function (right is))
+  of_function : {A : Type 0} (g : Item → List A) → ((i : Item) → g (u i) ≡ g i) → ((n : ℕ) (bs : List ℕ) (ts : List Token) → g (blank n bs ts) ≡ []) →
+      (is : List Turn) → flat_map g (up_to ends_function (left is)) ≡ flat_map g (up_to ends_function (right is))
   of_function g same none is = up_to_u ends_function (λ _. refl) (λ _ _ _. refl) (flat_map g) (flat_map g) is (flat_u g same none (until ends_function is))
 
   -- ---- places
@@ -167,13 +176,15 @@ module _ (f : ℕ → ℕ) where
       (λ k. map (labelled (f i.number) (here k)) i.labels ++ map (labelled (f i.number) (there k)) (names_said i.bytes i.said))
       ∙ (let a = map_labelled i.number (address_in_section (right before) (in_code (right before))) i.labels in
       let b = map_labelled i.number (code_address (right before)) (names_said i.bytes i.said) in λ k. a k ++ b k)
-      ∙ sym (map-append relabelled (map (labelled i.number (address_in_section (right before) (in_code (right before)))) i.labels) (map (labelled i.number (code_address (right before))) (names_said i.bytes i.said)))
+      ∙ sym (map-append relabelled (map (labelled i.number (address_in_section (right before) (in_code (right before)))) i.labels)
+      (map (labelled i.number (code_address (right before))) (names_said i.bytes i.said)))
 
   labels_u : (before is : List Turn) → each labels_at (left before) (left is) ≡ map relabelled (each labels_at (right before) (right is))
   labels_u before [] = refl
   labels_u before (skip n bs ts ∷ is) = labels_u (skip n bs ts ∷ before) is
   labels_u before (keep i ∷ is) =
-      (let a = labels_at_u before i in let b = labels_u (keep i ∷ before) is in λ k. a k ++ b k) ∙ sym (map-append relabelled (labels_at (right before) i (right is)) (each labels_at (i ∷ right before) (right is)))
+      (let a = labels_at_u before i in let b = labels_u (keep i ∷ before) is in λ k. a k ++ b k)
+      ∙ sym (map-append relabelled (labels_at (right before) i (right is)) (each labels_at (i ∷ right before) (right is)))
 
   worth_u : (ls : List Label) (q : List ℕ) → worth_in (map relabelled ls) q ≡ worth_in ls q
   unfolding relabelled
@@ -224,7 +235,8 @@ module _ (f : ℕ → ℕ) where
   block_there : (before after : List Turn) → block_with (code_address (left before)) (up_to ends_block (left after)) ≡ block_with (code_address (right before)) (up_to ends_block (right after))
   block_there before after =
       ap (λ (a : ℕ). block_with a (up_to ends_block (left after))) (code_address_u before)
-      ∙ up_to_u ends_block (λ _. refl) (λ _ _ _. refl) (block_with (code_address (right before))) (block_with (code_address (right before))) after (block_with_u (code_address (right before)) (until ends_block after))
+      ∙ up_to_u ends_block (λ _. refl) (λ _ _ _. refl) (block_with (code_address (right before))) (block_with (code_address (right before))) after
+      (block_with_u (code_address (right before)) (until ends_block after))
 
   block_u : (before after : List Turn) (s : Said) → block_at (left before) (saying s) (left after) ≡ block_at (right before) (saying s) (right after)
   block_u before after (Ok (statements.Directive (directives.Block name))) = ap (λ (b : Block). b ∷ []) (block_there before after)
@@ -237,13 +249,15 @@ module _ (f : ℕ → ℕ) where
   blocks_u before (skip n bs ts ∷ own) = blocks_u (skip n bs ts ∷ before) own
   blocks_u before (keep i ∷ own) = let a = block_u before own i.said in let b = blocks_u (keep i ∷ before) own in λ k. a k ++ b k
 
-  function_u : (before : List Turn) (i : Item) (after : List Turn) (s : Said) → function_at (left before) (u (record i { said = s })) (left after) ≡ function_at (right before) (record i { said = s }) (right after)
+  function_u : (before : List Turn) (i : Item) (after : List Turn) (s : Said) →
+      function_at (left before) (u (record i { said = s })) (left after) ≡ function_at (right before) (record i { said = s }) (right after)
   function_u before i after (Ok (statements.Directive (directives.Function name kind frame room budget))) =
       let it : Item = record i { said = Ok (statements.Directive (directives.Function name kind frame room budget)) } in
       let own : List Turn = until ends_function after in
       let a = code_address_u before in let ps = of_function params (λ _. refl) (λ _ _ _. refl) after in let rs = of_function results (λ _. refl) (λ _ _ _. refl) after in
       let ns = of_function depths (λ _. refl) (λ _ _ _. refl) after in
-      let b = up_to_u ends_function (λ _. refl) (λ _ _ _. refl) (λ is. block_with (code_address (left before)) (up_to ends_block is)) (λ is. block_with (code_address (right before)) (up_to ends_block is)) after (block_there before own) in
+      let b = up_to_u ends_function (λ _. refl) (λ _ _ _. refl) (λ is. block_with (code_address (left before)) (up_to ends_block is))
+      (λ is. block_with (code_address (right before)) (up_to ends_block is)) after (block_there before own) in
       let bs = up_to_u ends_function (λ _. refl) (λ _ _ _. refl) (each block_at (u it ∷ left before)) (each block_at (it ∷ right before)) after (blocks_u (keep it ∷ before) own) in
       λ k. record { kind = kind; params = ps k; results = rs k; entry = a k; frame = frame; stack_room = room; budget = budget; depth = get_or (ns k) 0 0; blocks = b k ∷ bs k } ∷ []
   function_u before i after (Ok (statements.Directive _)) = refl
@@ -284,10 +298,13 @@ module _ (f : ℕ → ℕ) where
     bytes_u before (keep i ∷ is) = let a = bytes_said_u before i i.said in let b = bytes_u (keep i ∷ before) is in λ k. a k ++ b k
 
     -- a region up to its end, at its place
-    region_u : (before : List Turn) (i : Item) (after : List Turn) (s : Said) → region_at values (left before) (u (record i { said = s })) (left after) ≡ region_at values (right before) (record i { said = s }) (right after)
+    region_u : (before : List Turn) (i : Item) (after : List Turn) (s : Said) →
+        region_at values (left before) (u (record i { said = s })) (left after) ≡ region_at values (right before) (record i { said = s }) (right after)
     region_u before i after (Ok (statements.Directive (directives.Region writable))) =
         let behind_it : List Turn = keep (record i { said = Ok (statements.Directive (directives.Region writable)) }) ∷ before in
-        ap (λ (bs : List ℕ). region_with writable (filled bs)) (up_to_u is_region (λ _. refl) (λ _ _ _. refl) (each (bytes_at values) (left behind_it)) (each (bytes_at values) (right behind_it)) after (bytes_u behind_it (until is_region after)))
+        ap (λ (bs : List ℕ). region_with writable (filled bs))
+        (up_to_u is_region (λ _. refl) (λ _ _ _. refl) (each (bytes_at values) (left behind_it)) (each (bytes_at values) (right behind_it)) after
+        (bytes_u behind_it (until is_region after)))
     region_u before i after (Ok (statements.Directive _)) = refl
     region_u before i after (Ok _) = refl
     region_u before i after (Err e) = refl
@@ -330,7 +347,9 @@ module _ (f : ℕ → ℕ) where
     line_rules_u is i (Ok statements.Nothing) = refl
     line_rules_u is i (Ok statements.Instruction) =
         let a = section_u is in let b = in_function_u is in let c = code_offset_u is in
-        λ k. when (not (a k && b k)) causes.Directive ++ (when (not (fits_behind (c k) (4 * statement_length i.bytes i.tokens))) causes.Limit ++ statement_rules (fault_meant values (CODE_START + c k) i))
+        λ k. when (not (a k && b k)) causes.Directive
+        ++ (when (not (fits_behind (c k) (4 * statement_length i.bytes i.tokens))) causes.Limit
+        ++ statement_rules (fault_meant values (CODE_START + c k) i))
     line_rules_u is i (Ok (statements.Malformed keywords.Block name)) = ap (λ (cs : List Cause). cs ++ causes.Directive ∷ []) (block_rules_u is)
     line_rules_u is i (Ok (statements.Malformed _ name)) = refl
     line_rules_u is i (Ok (statements.Directive directives.Text)) = refl
@@ -341,14 +360,19 @@ module _ (f : ℕ → ℕ) where
     line_rules_u is i (Ok (statements.Directive (directives.Stack n))) = ap (λ (b : Bool). when b causes.Directive) (any_u (has stacks) (λ _. refl) (λ _ _ _. refl) is)
     line_rules_u is i (Ok (statements.Directive (directives.Function name kind frame room budget))) =
         let a = count_u starts_function (λ _. refl) (λ _ _ _. refl) is in let b = another_block_u is in λ k. when (leb 256 (a k)) causes.Limit ++ b k
-    line_rules_u is i (Ok (statements.Directive (directives.Param x))) = let a = ranges_u is in let b = of_function params (λ _. refl) (λ _ _ _. refl) is in λ k. in_place (a k) (range_rules (length (b k)))
-    line_rules_u is i (Ok (statements.Directive (directives.Result x))) = let a = ranges_u is in let b = of_function results (λ _. refl) (λ _ _ _. refl) is in λ k. in_place (a k) (range_rules (length (b k)))
+    line_rules_u is i (Ok (statements.Directive (directives.Param x))) = let a = ranges_u is in let b = of_function params (λ _. refl) (λ _ _ _. refl) is in
+        λ k. in_place (a k) (range_rules (length (b k)))
+    line_rules_u is i (Ok (statements.Directive (directives.Result x))) = let a = ranges_u is in let b = of_function results (λ _. refl) (λ _ _ _. refl) is in
+        λ k. in_place (a k) (range_rules (length (b k)))
     line_rules_u is i (Ok (statements.Directive (directives.Depth n))) = let a = has_depth_u is in let b = ranges_u is in λ k. cond (a k) (causes.Directive ∷ []) (in_place (b k) [])
     line_rules_u is i (Ok (statements.Directive (directives.Block name))) = block_rules_u is
-    line_rules_u is i (Ok (statements.Directive (directives.Cell x))) = let a = annotations_u is in let b = in_block cells (λ _. refl) (λ _ _ _. refl) is in λ k. in_place (a k) (ascending 64 (map (λ (c : Cell). c.location) (b k)) x.location)
+    line_rules_u is i (Ok (statements.Directive (directives.Cell x))) = let a = annotations_u is in let b = in_block cells (λ _. refl) (λ _ _ _. refl) is in
+        λ k. in_place (a k) (ascending 64 (map (λ (c : Cell). c.location) (b k)) x.location)
     line_rules_u is i (Ok (statements.Directive (directives.Fuel z))) = let a = has_fuel_u is in let b = annotations_u is in λ k. cond (a k) (causes.Directive ∷ []) (in_place (b k) [])
-    line_rules_u is i (Ok (statements.Directive (directives.Term x))) = let a = annotations_u is in let b = in_block terms (λ _. refl) (λ _ _ _. refl) is in λ k. in_place (a k) (ascending 8 (map (λ (t : Term). t.location) (b k)) x.location)
-    line_rules_u is i (Ok (statements.Directive (directives.Values w n))) = ap (λ (cs : List Cause). cs ++ value_rules (value_fault_of values i)) (data_rules_u is (bytes_of_width w * n) (bytes_of_width w * n) refl)
+    line_rules_u is i (Ok (statements.Directive (directives.Term x))) = let a = annotations_u is in let b = in_block terms (λ _. refl) (λ _ _ _. refl) is in
+        λ k. in_place (a k) (ascending 8 (map (λ (t : Term). t.location) (b k)) x.location)
+    line_rules_u is i (Ok (statements.Directive (directives.Values w n))) =
+        ap (λ (cs : List Cause). cs ++ value_rules (value_fault_of values i)) (data_rules_u is (bytes_of_width w * n) (bytes_of_width w * n) refl)
     line_rules_u is i (Ok (statements.Directive (directives.Skip n))) = data_rules_u is n n refl
     line_rules_u is i (Ok (statements.Directive (directives.Align n))) = data_rules_u is _ _ (ap (λ (o : ℕ). data_length o (Ok (statements.Directive (directives.Align n)))) (data_offset_u is))
 
@@ -358,7 +382,8 @@ module _ (f : ℕ → ℕ) where
     map_at n [] = refl
     map_at n (c ∷ cs) = ap (λ (fs : List AsmFault). at (f n) c ∷ fs) (map_at n cs)
 
-    faults_at_u : (before : List Turn) (i : Item) (after : List Turn) → nat_lt 1000000 (f i.number) ≡ nat_lt 1000000 i.number → faults_at values (left before) (u i) (left after) ≡ map r (faults_at values (right before) i (right after))
+    faults_at_u : (before : List Turn) (i : Item) (after : List Turn) → nat_lt 1000000 (f i.number) ≡ nat_lt 1000000 i.number →
+        faults_at values (left before) (u i) (left after) ≡ map r (faults_at values (right before) i (right after))
     faults_at_u before i after many =
         let cs = line_rules_u before i i.said in
         let filled_up = up_to_u leaves_region (λ _. refl) (λ _ _ _. refl) (list_any has_bytes) (list_any has_bytes) after (any_u has_bytes (λ _. refl) (λ _ _ _. refl) (until leaves_region after)) in

@@ -21,7 +21,9 @@ use Rattle.sbx_directives.specs.declared.directive.Statement.{Statement}
 use Rattle.sbx_directives.specs.declared.directive.Statement.TheVariants as statements
 use Rattle.sbx_directives.specs.declared.operand.Operand.{Operand}
 use Rattle.sbx_directives.specs.declared.operand.Operand.TheVariants as operands
-use Rattle.sbx_directives.specs.Directives.{◌>>=◌, operands_of, is_between, integer_in, natural_in, range_of, coefficient, plain_name, location, names, named_services, is_service, services_of, frames_of, right_of, value_count, directive_of, called, told, keyword_named, begun, statement_of}
+use Rattle.sbx_directives.specs.Directives.{◌>>=◌, operands_of, is_between, integer_in, natural_in, range_of, coefficient, plain_name, location, names}
+use Rattle.sbx_directives.specs.Directives.{named_services, is_service, services_of, frames_of, right_of, value_count, directive_of, called, told}
+use Rattle.sbx_directives.specs.Directives.{keyword_named, begun, statement_of}
 use Rattle.sbx_asm.specs.Items.{Said}
 use Rattle.sbx_asm.proofs.Wholes.{whatever}
 
@@ -85,7 +87,9 @@ services_small line os = bits_small (list_any (names (codes "exit") line) os) (l
 services_fit : (line : List ℕ) (os : List Operand) → IfSome (services_of line os) (λ x. x.0 < 2 ^ 16)
 unfolding services_of
 services_fit line [] = tt
-services_fit line (o ∷ os) = cond_both (list_all (is_service line) (o ∷ os)) (Some (record { 0 = named_services line (o ∷ os) })) None (λ k. IfSome k (λ (x : Services). x.0 < 2 ^ 16)) (λ _. services_small line (o ∷ os)) (λ _. tt)
+services_fit line (o ∷ os) =
+    cond_both (list_all (is_service line) (o ∷ os)) (Some (record { 0 = named_services line (o ∷ os) })) None (λ k. IfSome k (λ (x : Services). x.0 < 2 ^ 16))
+    (λ _. services_small line (o ∷ os)) (λ _. tt)
 
 range_fits : (os : List Operand) → IfSome (range_of os) IsTypedRange
 unfolding range_of
@@ -93,7 +97,8 @@ range_fits (a ∷ b ∷ c ∷ []) =
     then_all (λ z. is_between (negsuc 2147483647) (pos 2147483647) z ≡ true) IsTypedRange (integer_in (negsuc 2147483647) (pos 2147483647) a) _ (integer_between _ _ a)
     (λ lo l. then_all (λ z. is_between (negsuc 2147483647) (pos 2147483647) z ≡ true) IsTypedRange (integer_in (negsuc 2147483647) (pos 2147483647) b) _ (integer_between _ _ b)
     (λ hi h. then_any IsTypedRange (natural_in 0 3 c) _
-    (λ alignment. cond_both (int_le lo hi) (Some (record { lo = lo; hi = hi; alignment = alignment })) None (λ k. IfSome k IsTypedRange) (λ _. record { lo = word_fits lo l; hi = word_fits hi h }) (λ _. tt))))
+    (λ alignment. cond_both (int_le lo hi) (Some (record { lo = lo; hi = hi; alignment = alignment })) None (λ k. IfSome k IsTypedRange)
+    (λ _. record { lo = word_fits lo l; hi = word_fits hi h }) (λ _. tt))))
 range_fits _ = tt
 
 coefficient_fits : (o : Operand) → IfSome (coefficient o) (FitsSigned w32)

@@ -33,7 +33,8 @@ earlier_by_key a b = by (ltb a.line b.line) (a.line == b.line) (ltb (rank a.caus
         let k = eqb-true a.line b.line q in let l = ltb-true (key a) (key b) e in let m = ltb-false (rank a.cause) (rank b.cause) r in absurd (omega arith)
     by false true false false p q r e = refl
     by false false u true p q r e =
-        let k = ltb-false a.line b.line p in let l = ltb-true (key a) (key b) e in let m = rank_small a.cause in let n = rank_small b.cause in absurd (further a.line b.line (rank a.cause) (rank b.cause) k (λ z. eqb-false a.line b.line q z) l n)
+        let k = ltb-false a.line b.line p in let l = ltb-true (key a) (key b) e in let m = rank_small a.cause in let n = rank_small b.cause in
+        absurd (further a.line b.line (rank a.cause) (rank b.cause) k (λ z. eqb-false a.line b.line q z) l n)
       where
         further : (x y r s : ℕ) → y ≤ x → (x ≡ y → ⊥) → 8 * x + r < 8 * y + s → s ≤ 6 → ⊥
         further x y r s h k l m = omega arith

@@ -23,7 +23,10 @@ use Rattle.v8_syntax.specs.declared.word.Word.TheVariants as words
 use Rattle.v8_syntax.specs.declared.word.NameKind.{NameKind}
 use Rattle.v8_syntax.specs.declared.expression.Base.TheVariants as bases
 use Rattle.v8_syntax.specs.declared.expression.Expression.{Expression}
-use Rattle.v8_syntax.specs.Statements.{beside, groups, small_number, register_named, specials, word_at, word_of, words_of, bytes_between, ◌>>=◌, Reading, after_sign, after, number_first, register_first, end, plain, less, moved, named_expression, expression, word_in, operands_of, sethi, or, set_instructions, is_symbolic, set_operands, set, named, of_condition, first_of, named_meaning, name_first, source_meaning}
+use Rattle.v8_syntax.specs.Statements.{beside, groups, small_number, register_named, specials, word_at, word_of, words_of, bytes_between, ◌>>=◌, Reading}
+use Rattle.v8_syntax.specs.Statements.{after_sign, after, number_first, register_first, end, plain, less, moved, named_expression, expression, word_in}
+use Rattle.v8_syntax.specs.Statements.{operands_of, sethi, or, set_instructions, is_symbolic, set_operands, set, named, of_condition, first_of, named_meaning}
+use Rattle.v8_syntax.specs.Statements.{name_first, source_meaning}
 use Rattle.sbx_asm.proofs.Wholes.{whatever}
 
 abbrev IsWord : ℕ → Type 0
@@ -156,7 +159,8 @@ module _ (values : List ℕ → Option ℕ) (line : List ℕ) where
   unfolding set_operands
   set_operands_small ws h =
       then_all {B = (Expression × ℕ) × List Word} (λ x. AreSmall x.1) (λ z. IsRegister z.0.1) (expression values line ws) _ (expression_small ws h)
-      (λ x k. then_all {B = (Expression × ℕ) × List Word} (λ y. IsRegister y.0) (λ z. IsRegister z.0.1) (after 44 register_first x.1) _ (after_all (λ y. IsRegister y.0) 44 register_first x.1 k register_small)
+      (λ x k. then_all {B = (Expression × ℕ) × List Word} (λ y. IsRegister y.0) (λ z. IsRegister z.0.1) (after 44 register_first x.1) _
+      (after_all (λ y. IsRegister y.0) 44 register_first x.1 k register_small)
       (λ y r. map_all {B = (Expression × ℕ) × List Word} (λ _. Unit {0}) (λ z. IsRegister z.0.1) _ (end y.1) (whatever _) (λ _ _. r)))
 
 -- ---- instructions

@@ -40,9 +40,14 @@ module _ (values : Values) where
   -- data in the code have a fault, so a line there gives none
   none_given : (before : List Item) (number : ℕ) (labels : List (List ℕ)) (bytes : List ℕ) (tokens : List Token) (s : Said)
       → in_code before ≡ true → line_rules values before (item number labels bytes tokens s) s ≡ [] → data_length (data_offset before) s ≡ 0
-  none_given before number labels bytes tokens (Ok (statements.Directive (directives.Values w n))) e clean = cons_nil (sym (ap (λ (x : Bool). when x causes.Directive) e) ∙ nil_left (when (in_code before) causes.Directive) _ (nil_left (data_rules before (bytes_of_width w * n)) (value_rules (result_err (data_of values bytes w tokens))) clean))
-  none_given before number labels bytes tokens (Ok (statements.Directive (directives.Skip n))) e clean = cons_nil (sym (ap (λ (x : Bool). when x causes.Directive) e) ∙ nil_left (when (in_code before) causes.Directive) _ clean)
-  none_given before number labels bytes tokens (Ok (statements.Directive (directives.Align n))) e clean = cons_nil (sym (ap (λ (x : Bool). when x causes.Directive) e) ∙ nil_left (when (in_code before) causes.Directive) _ clean)
+  none_given before number labels bytes tokens (Ok (statements.Directive (directives.Values w n))) e clean =
+      cons_nil (sym (ap (λ (x : Bool). when x causes.Directive) e)
+      ∙ nil_left (when (in_code before) causes.Directive) _
+      (nil_left (data_rules before (bytes_of_width w * n)) (value_rules (result_err (data_of values bytes w tokens))) clean))
+  none_given before number labels bytes tokens (Ok (statements.Directive (directives.Skip n))) e clean =
+      cons_nil (sym (ap (λ (x : Bool). when x causes.Directive) e) ∙ nil_left (when (in_code before) causes.Directive) _ clean)
+  none_given before number labels bytes tokens (Ok (statements.Directive (directives.Align n))) e clean =
+      cons_nil (sym (ap (λ (x : Bool). when x causes.Directive) e) ∙ nil_left (when (in_code before) causes.Directive) _ clean)
   none_given before number labels bytes tokens (Ok (statements.Directive _)) e clean = refl
   none_given before number labels bytes tokens (Ok _) e clean = refl
   none_given before number labels bytes tokens (Err f) e clean = refl

@@ -21,7 +21,8 @@ use Rattle.sbx_directives.specs.declared.directive.Directive.TheVariants as dire
 use Rattle.sbx_directives.specs.declared.directive.Statement.TheVariants as statements
 use Rattle.sbx_directives.specs.declared.fault.DataFault.TheVariants as data_faults
 use Rattle.sbx_directives.specs.declared.operand.Operand.{Operand}
-use Rattle.sbx_directives.specs.Directives.{label_count, ◌>>=◌, operands_of, integer_in, natural_in, range_of, coefficient, plain_name, location, is_expression, services_of, frames_of, right_of, value_count, directive_of, called, told, keyword_named, begun, statement_of}
+use Rattle.sbx_directives.specs.Directives.{label_count, ◌>>=◌, operands_of, integer_in, natural_in, range_of, coefficient, plain_name, location, is_expression}
+use Rattle.sbx_directives.specs.Directives.{services_of, frames_of, right_of, value_count, directive_of, called, told, keyword_named, begun, statement_of}
 use Rattle.sbx_directives.specs.Data.{bytes_of_width, fits, spelled, value_of, is_known, is_fit, bytes_of, listed, data_of}
 use Rattle.sbx_asm.specs.Items.{Item, Said, read_line, item_of, items_of, lines_of}
 use Rattle.sbx_asm.specs.Rules.{Values, value_rules}
@@ -141,7 +142,8 @@ module _ (values : Values) (line : List ℕ) (w : Width) where
   fitting_length [] h = no_more w
   fitting_length (o ∷ os) h = by (is_fit values line w o) refl h (fitting_length os)
     where
-      by : (t : Bool) → is_fit values line w o ≡ t → (t && list_all (is_fit values line w) os) ≡ true → (list_all (is_fit values line w) os ≡ true → length (flat_map (bytes_of values line w) os) ≡ bytes_of_width w * length os)
+      by : (t : Bool) → is_fit values line w o ≡ t → (t && list_all (is_fit values line w) os) ≡ true →
+          (list_all (is_fit values line w) os ≡ true → length (flat_map (bytes_of values line w) os) ≡ bytes_of_width w * length os)
           → length (flat_map (bytes_of values line w) (o ∷ os)) ≡ bytes_of_width w * length (o ∷ os)
       by true e rest more =
           length-append (bytes_of values line w o) (flat_map (bytes_of values line w) os)
@@ -149,17 +151,24 @@ module _ (values : Values) (line : List ℕ) (w : Width) where
           ∙ ap (λ (n : ℕ). bytes_of_width w + n) (more rest) ∙ one_more w (length os)
       by false e rest more = absurd (cc)
 
-  listed_length : (os : List Operand) (n : ℕ) → value_count os ≡ Some n → value_rules (result_err (listed values line w os)) ≡ [] → length (bytes_meant (listed values line w os)) ≡ bytes_of_width w * n
+  listed_length : (os : List Operand) (n : ℕ) → value_count os ≡ Some n → value_rules (result_err (listed values line w os)) ≡ [] →
+      length (bytes_meant (listed values line w os)) ≡ bytes_of_width w * n
   unfolding listed
   listed_length os n count clean = by (is_none (value_count os)) (not (list_all (is_known values line) os)) (list_all (is_fit values line w) os) refl clean
     where
       by : (a b c : Bool) → list_all (is_fit values line w) os ≡ c
-          → value_rules (result_err (cond a (Err data_faults.Malformed) (cond b (Err data_faults.UnknownSymbol) (cond (not c) (Err data_faults.Malformed) (Ok (flat_map (bytes_of values line w) os)))))) ≡ []
-          → length (bytes_meant (cond a (Err data_faults.Malformed) (cond b (Err data_faults.UnknownSymbol) (cond (not c) (Err data_faults.Malformed) (Ok (flat_map (bytes_of values line w) os)))))) ≡ bytes_of_width w * n
+          → value_rules
+          (result_err (cond a (Err data_faults.Malformed)
+          (cond b (Err data_faults.UnknownSymbol) (cond (not c) (Err data_faults.Malformed) (Ok (flat_map (bytes_of values line w) os)))))) ≡ []
+          → length (bytes_meant
+          (cond a (Err data_faults.Malformed)
+          (cond b (Err data_faults.UnknownSymbol) (cond (not c) (Err data_faults.Malformed) (Ok (flat_map (bytes_of values line w) os)))))) ≡
+          bytes_of_width w * n
       by true b c e k = cons_nil k
       by false true c e k = cons_nil k
       by false false false e k = cons_nil k
       by false false true e k = fitting_length os e ∙ ap (λ (m : ℕ). bytes_of_width w * m) (as_many os n count)
 
-  pub values_length : (ts : List Token) (n : ℕ) → value_count (operands_of line (drop 1 ts)) ≡ Some n → value_rules (result_err (data_of values line w ts)) ≡ [] → length (bytes_meant (data_of values line w ts)) ≡ bytes_of_width w * n
+  pub values_length : (ts : List Token) (n : ℕ) → value_count (operands_of line (drop 1 ts)) ≡ Some n →
+      value_rules (result_err (data_of values line w ts)) ≡ [] → length (bytes_meant (data_of values line w ts)) ≡ bytes_of_width w * n
   values_length ts n count clean = listed_length (operands_of line (drop 1 ts)) n count clean

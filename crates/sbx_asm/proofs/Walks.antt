@@ -37,7 +37,8 @@ one_more gives got more total before is k i rest h e r m so_far =
     ∙ goes_on (λ js. got ++ each gives before js) total is k i h e so_far
 
 -- likewise what is told of one more line
-pub told_more : (gives : List Item → Item → List Item → List AsmFault) (got more total : Option AsmFault) (before is : List Item) (k : ℕ) (i : Item) (rest : List Item) → k < length is → i ≡ get_or is k i
+pub told_more : (gives : List Item → Item → List Item → List AsmFault) (got more total : Option AsmFault) (before is : List Item) (k : ℕ) (i : Item)
+    (rest : List Item) → k < length is → i ≡ get_or is k i
     → rest ≡ drop (k + 1) is → more ≡ fold told got (gives before i rest) → fold told got (each gives before (drop k is)) ≡ total → fold told more (each gives (i ∷ before) (drop (k + 1) is)) ≡ total
 told_more gives got more total before is k i rest h e r m so_far =
     let after : List Item = drop (k + 1) is in

@@ -1,6 +1,7 @@
 -- Lines without faults are an image, where one is a `.function` and the data take at most 64 pages; what is told at the line after the last is
 -- that this isn't so.
-use Rattle.std.proofs.Common.{◌≡◌, ◌⊎◌, inl, inr, ℕ, ◌+◌, ◌*◌, ◌≤◌, ◌<◌, Bool, true, false, List, [], ◌∷◌, ◌++◌, length, map, get_or, Option, None, Some, Result, Ok, Err, IfErr, refl, sym, ap, subst, ◌∙◌, arith}
+use Rattle.std.proofs.Common.{◌≡◌, ◌⊎◌, inl, inr, ℕ, ◌+◌, ◌*◌, ◌≤◌, ◌<◌, Bool, true, false, List, [], ◌∷◌, ◌++◌, length, map, get_or, Option, None, Some}
+use Rattle.std.proofs.Common.{Result, Ok, Err, IfErr, refl, sym, ap, subst, ◌∙◌, arith}
 use Rattle.std.specs.Prelude.{not, ◌&&◌, ◌==◌, nat_lt, if◌then◌else◌}
 use Rattle.std.specs.List.{AllByRecursion, flat_map, list_any, enumerate_from}
 use Rattle.std.proofs.lemmas.Bool.{eqb-true, eqb-false, ltb-true, ltb-false}
@@ -119,9 +120,11 @@ module _ (source : List ℕ) (clean : faults_of (items_of source) ≡ []) where
       passes (is_version version) fault.Version _ tt (version_kept (list_any (has depths) items) (list_any is_region items))
       (passes (is_known (get_or (flat_map services items) 0 (record { 0 = 0 })).0) fault.Service _ tt (services_kept items (items_keep source))
       (passes (between 1 65536 (length words)) fault.Limit _ tt (within 1 65536 (length words) (omega (arith, size, first)) (omega (arith, size, room)))
-      (passes (is_data version (newest worth true [] [] items)) fault.Limit _ tt (data_is worth items (items_count source) lines_clean version (plain_version (list_any (has depths) items) (list_any is_region items)))
+      (passes (is_data version (newest worth true [] [] items)) fault.Limit _ tt
+      (data_is worth items (items_count source) lines_clean version (plain_version (list_any (has depths) items) (list_any is_region items)))
       (passes (between 1 16 (get_or (flat_map stacks items) 0 1)) fault.Limit _ tt (stack_kept items (items_keep source))
-      (passes (between 1 256 (length (each function_at [] items))) fault.Limit _ tt (within 1 256 (length (each function_at [] items)) (omega (arith, functions, some)) (omega (arith, functions, most)))
+      (passes (between 1 256 (length (each function_at [] items))) fault.Limit _ tt
+      (within 1 256 (length (each function_at [] items)) (omega (arith, functions, some)) (omega (arith, functions, most)))
       (goes (keep_each region_keeps 0 (newest worth true [] [] items)) _ pages.0 tt pages.1
       (goes (keep_each (function_keeps version end) (Exactly code_start, 0) (each function_at [] items)) _ all.0 tt all.1 refl)))))))
 
@@ -156,7 +159,8 @@ module _ (most : ℕ) where
   labelled_lines line address [] h = tt
   labelled_lines line address (name ∷ names) h = (h, labelled_lines line address names h)
 
-  module _ {A : Type 0} (P : A → Type 0) (gives : List Item → Item → List Item → List A) (one : (before : List Item) (i : Item) (after : List Item) → IsNumbered i → AllByRecursion P (gives before i after)) where
+  module _ {A : Type 0} (P : A → Type 0) (gives : List Item → Item → List Item → List A) (one : (before : List Item) (i : Item) (after : List Item) →
+      IsNumbered i → AllByRecursion P (gives before i after)) where
     each_line : (before is : List Item) → AllByRecursion IsNumbered is → AllByRecursion P (each gives before is)
     each_line before [] h = tt
     each_line before (i ∷ is) h = append_all P (gives before i is) (each gives (i ∷ before) is) (one before i is h.0) (each_line (i ∷ before) is h.1)
@@ -200,7 +204,8 @@ whole_with : (fs pages : ℕ) (c : Cause) → c ≡ (if not (fs == 0) && nat_lt 
     → ((c ≡ causes.Directive) × (fs ≡ 0)) ⊎ ((c ≡ causes.Limit) × (1 ≤ fs) × (64 < pages))
 whole_with fs pages c is no_image = by (fs == 0) refl (nat_lt 64 pages) refl is
   where
-    by : (t : Bool) → (fs == 0) ≡ t → (u : Bool) → nat_lt 64 pages ≡ u → c ≡ (if not t && u then causes.Limit else causes.Directive) → ((c ≡ causes.Directive) × (fs ≡ 0)) ⊎ ((c ≡ causes.Limit) × (1 ≤ fs) × (64 < pages))
+    by : (t : Bool) → (fs == 0) ≡ t → (u : Bool) → nat_lt 64 pages ≡ u → c ≡ (if not t && u then causes.Limit else causes.Directive) →
+        ((c ≡ causes.Directive) × (fs ≡ 0)) ⊎ ((c ≡ causes.Limit) × (1 ≤ fs) × (64 < pages))
     by true e u f h = inl (h, eqb-true fs 0 e)
     by false e true f h = inr (h, (let some = eqb-false fs 0 e in let k : 1 ≤ fs = omega (arith, some) in k), ltb-true 64 pages f)
     by false e false f h = absurd (no_image (let some = eqb-false fs 0 e in omega (arith, some)) (let few = ltb-false 64 pages f in omega (arith, few)))
@@ -221,8 +226,11 @@ two_of_the_whole source f told line = by (least_told source f told)
         let many = as_many (values_of (items_of source)) (items_of source) [] in
         let pages : ℕ = length (page_rights (image_of (items_of source)).regions) in
         let is : f.cause ≡ (if not (count starts_function (items_of source) == 0) && nat_lt 64 pages then causes.Limit else causes.Directive) =
-        ap (λ (g : AsmFault). g.cause) h.1 ∙ ap (λ (n : ℕ). if not (n == 0) && nat_lt 64 pages then causes.Limit else causes.Directive) many in
-        (h.0, whole_with (count starts_function (items_of source)) pages f.cause is (λ some few. absurd (let image = are_an_image source h.0 some few in let both : Ok (image_of (items_of source)) ≡ Err f = sym image ∙ told in cc)))
+        ap (λ (g : AsmFault). g.cause) h.1 ∙ ap (λ (n : ℕ). if not (n == 0) && nat_lt 64 pages then causes.Limit else causes.Directive) many in (
+          h.0,
+          whole_with (count starts_function (items_of source)) pages f.cause is
+              (λ some few. absurd (let image = are_an_image source h.0 some few in let both : Ok (image_of (items_of source)) ≡ Err f = sym image ∙ told in cc)),
+        )
 
 -- what a call tells at that line, where want of memory is told at line 0
 pub told_of_the_whole : (source : List ℕ) (r : Result Parts AsmFault) → Gives r (source_image source) → IfErr r (λ f. f.line ≡ length (items_of source) + 1 → IsOfTheWhole (items_of source) f.cause)

@@ -1,5 +1,7 @@
--- Where the lines of a source stand, and what their labels are worth: the start of a section and the lengths before them.
-use Rattle.std.specs.Prelude.{ℕ, ◌+◌, ◌-◌, ◌*◌, ◌%◌, min, Bool, true, false, ◌||◌, ◌==◌, if◌then◌else◌, List, [], ◌∷◌, ◌++◌, map, Option, Some, None, Ok, Err}
+-- Where the lines of a source stand, and what their labels are worth: the start of a section and the lengths before
+-- them.
+use Rattle.std.specs.Prelude.{ℕ, ◌+◌, ◌-◌, ◌*◌, ◌%◌, min, Bool, true, false, ◌||◌, ◌==◌, if◌then◌else◌, List, [], ◌∷◌}
+use Rattle.std.specs.Prelude.{◌++◌, map, Option, Some, None, Ok, Err}
 use Rattle.std.specs.List.{list_any}
 use Rattle.std.specs.Str.{bytes_eq}
 use Rattle.v8_map.specs.declared.TheConstants.{CODE_START, DATA_START}
@@ -40,11 +42,13 @@ code_offset (i ∷ before) = min (code_offset before + code_length i) section_ro
 -- and the data, of which the newest region counts
 abbrev pub data_offset : List Item → ℕ
 data_offset [] = 0
-data_offset (i ∷ before) = if is_region i then 0 else min (data_offset before + data_length (data_offset before) i.said) section_room
+data_offset (i ∷ before) =
+    if is_region i then 0 else min (data_offset before + data_length (data_offset before) i.said) section_room
 
 -- ---- addresses
 
--- a region begins at the page behind the last one of the region before, of so many bytes; a ninth, too many, behind eight full ones at the latest
+-- a region begins at the page behind the last one of the region before, of so many bytes; a ninth, too many, behind
+-- eight full ones at the latest
 abbrev pub start_behind : ℕ → ℕ → ℕ
 start_behind start size = min (start + 4096 * pages_for size) (DATA_START + 8 * section_room)
 
@@ -91,7 +95,8 @@ labelled line address name = record { name = name; address = address; line = lin
 -- the labels of an item
 abbrev pub labels_at : List Item → Item → List Item → List Label
 labels_at before i after =
-    map (labelled i.number (label_address before)) i.labels ++ map (labelled i.number (code_address before)) (names_said i.bytes i.said)
+    map (labelled i.number (label_address before)) i.labels
+    ++ map (labelled i.number (code_address before)) (names_said i.bytes i.said)
 
 -- a name is worth the address of the first label of that name
 abbrev pub worth_in : List Label → List ℕ → Option ℕ

@@ -1,5 +1,8 @@
--- What a source means. Without faults that is its image, a map over its lines: words and bytes one after the other, functions and blocks as groups.
-use Rattle.std.specs.Prelude.{◌≡◌, ◌⊎◌, ℕ, ◌+◌, ◌-◌, ◌%◌, ◌<◌, ◌≤◌, pos, Bool, true, not, ◌&&◌, ◌==◌, nat_lt, if◌then◌else◌, List, [], ◌∷◌, ◌++◌, length, map, get_or, replicate, Option, Some, None, Result, Ok, Err, MatchResult}
+-- What a source means. Without faults that is its image, a map over its lines: words and bytes one after the other,
+-- functions and blocks as groups.
+use Rattle.std.specs.Prelude.{◌≡◌, ◌⊎◌, ℕ, ◌+◌, ◌-◌, ◌%◌, ◌<◌, ◌≤◌, pos, Bool, true, not, ◌&&◌, ◌==◌, nat_lt}
+use Rattle.std.specs.Prelude.{if◌then◌else◌, List, [], ◌∷◌, ◌++◌, length, map, get_or, replicate, Option, Some, None}
+use Rattle.std.specs.Prelude.{Result, Ok, Err, MatchResult}
 use Rattle.std.specs.Result.{result_unwrap_or}
 use Rattle.std.specs.List.{flat_map, list_any}
 use Rattle.v8_formats.specs.Spelling.{spelling}
@@ -15,7 +18,8 @@ use Rattle.sbx_directives.specs.declared.directive.Directive.TheVariants as dire
 use Rattle.sbx_directives.specs.declared.directive.Statement.TheVariants as statements
 use Rattle.sbx_directives.specs.Data.{data_of}
 use Rattle.sbx_asm.specs.declared.fault.Cause.TheVariants as causes
-use Rattle.sbx_asm.specs.Items.{Item, items_of, each, up_to, count, starts_function, ends_function, ends_block, is_region, services, stacks, params, results, depths, fuels, cells, terms, has}
+use Rattle.sbx_asm.specs.Items.{Item, items_of, each, up_to, count, starts_function, ends_function, ends_block}
+use Rattle.sbx_asm.specs.Items.{is_region, services, stacks, params, results, depths, fuels, cells, terms, has}
 use Rattle.sbx_asm.specs.Addresses.{padding_of, code_address, data_offset, values_of}
 use Rattle.sbx_asm.specs.Rules.{AsmFault, Cause, Values, at, faults_of, least_of}
 
@@ -23,11 +27,23 @@ use Rattle.sbx_asm.specs.Rules.{AsmFault, Cause, Values, at, faults_of, least_of
 
 -- the block that begins at an address and has some lines
 abbrev pub block_with : ℕ → List Item → Block
-block_with address own = record { address = address; fuel = get_or (flat_map fuels own) 0 (pos 0); cells = flat_map cells own; terms = flat_map terms own }
+block_with address own =
+    record {
+      address = address;
+      fuel = get_or (flat_map fuels own) 0 (pos 0);
+      cells = flat_map cells own;
+      terms =
+          flat_map terms own;
+    }
 
 -- a `.block` and the lines up to the next, or to a `.function`
 abbrev pub block_at : List Item → Item → List Item → List Block
-block_at before i after = elim i.said [ Ok (statements.Directive (directives.Block name)) ↦ block_with (code_address before) (up_to ends_block after) ∷ [] | _ ↦ [] ]
+block_at before i after =
+    elim i.said [
+      | Ok (statements.Directive (directives.Block name)) ↦
+          block_with (code_address before) (up_to ends_block after) ∷ []
+      | _ ↦ []
+    ]
 
 -- A `.function` and the lines up to the next. Its first block begins with it; without a `.depth` its depth is 0.
 abbrev pub function_at : List Item → Item → List Item → List Function
@@ -65,7 +81,11 @@ module _ (values : Values) where
   -- the words of a statement
   abbrev pub words_at : List Item → Item → List Item → List ℕ
   words_at before i after =
-      elim i.said [ Ok statements.Instruction ↦ map spelling (result_unwrap_or (source_meaning values (code_address before) i.bytes i.tokens) []) | _ ↦ [] ]
+      elim i.said [
+        | Ok statements.Instruction ↦
+            map spelling (result_unwrap_or (source_meaning values (code_address before) i.bytes i.tokens) [])
+        | _ ↦ []
+      ]
 
   -- the bytes of a data directive
   abbrev pub bytes_at : List Item → Item → List Item → List ℕ
@@ -79,7 +99,11 @@ module _ (values : Values) where
   -- a `.region` and the lines up to the next
   abbrev pub region_at : List Item → Item → List Item → List Region
   region_at before i after =
-      elim i.said [ Ok (statements.Directive (directives.Region writable)) ↦ region_with writable (filled (each bytes_at (i ∷ before) (up_to is_region after))) | _ ↦ [] ]
+      elim i.said [
+        | Ok (statements.Directive (directives.Region writable)) ↦
+            region_with writable (filled (each bytes_at (i ∷ before) (up_to is_region after)))
+        | _ ↦ []
+      ]
 
   -- the data before any `.region` may be written
   abbrev pub regions_of : List Item → List Region
@@ -87,8 +111,8 @@ module _ (values : Values) where
 
 -- ---- the image
 
--- The version is the one that has depths, where a `.depth` stands; else the one that has regions, where a `.region` stands. Without their lines,
--- no services and one page of stack.
+-- The version is the one that has depths, where a `.depth` stands; else the one that has regions, where a `.region`
+-- stands. Without their lines, no services and one page of stack.
 unfoldable pub image_of : List Item → Parts
 image_of items =
     record {
@@ -104,15 +128,20 @@ image_of items =
 
 -- why parts are no image: they have no function, or their data take more than 64 pages
 abbrev pub whole_cause : Parts → Cause
-whole_cause p = if not (length p.functions == 0) && nat_lt 64 (length (page_rights p.regions)) then causes.Limit else causes.Directive
+whole_cause p =
+    if not (length p.functions == 0) && nat_lt 64 (length (page_rights p.regions)) then causes.Limit
+    else causes.Directive
 
 -- why lines without faults are no image: none is a `.function`, or one is, and the data take more than 64 pages
 abbrev pub IsOfTheWhole : List Item → Cause → Type 0
 IsOfTheWhole items c =
     (faults_of items ≡ [])
-    × (((c ≡ causes.Directive) × (count starts_function items ≡ 0)) ⊎ ((c ≡ causes.Limit) × (1 ≤ count starts_function items) × (64 < length (page_rights (image_of items).regions))))
+    × (((c ≡ causes.Directive) × (count starts_function items ≡ 0))
+    ⊎ ((c ≡ causes.Limit) × (1 ≤ count starts_function items)
+    × (64 < length (page_rights (image_of items).regions))))
 
--- the fault of the lines where one is told, else their image; what is none though no line has a fault is told at the line after the last
+-- the fault of the lines where one is told, else their image; what is none though no line has a fault is told at the
+-- line after the last
 abbrev pub judged : ℕ → Option AsmFault → Parts → Result Parts AsmFault
 judged after (Some f) p = Err f
 judged after None p = elim (parts_keep p) [ Ok u ↦ Ok p | Err f ↦ Err (at after (whole_cause p)) ]

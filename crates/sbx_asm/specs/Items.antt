@@ -1,5 +1,6 @@
 -- The lines of a source as items: the labels of each, and the statement or the directive behind them.
-use Rattle.std.specs.Prelude.{ℕ, zero, suc, ◌+◌, ◌*◌, Bool, true, false, ◌||◌, ◌&&◌, nat_lt, if◌then◌else◌, List, [], ◌∷◌, ◌++◌, drop, length, map, slice_index, not, ◌==◌, ℤ, Result, Ok, Err}
+use Rattle.std.specs.Prelude.{ℕ, zero, suc, ◌+◌, ◌*◌, Bool, true, false, ◌||◌, ◌&&◌, nat_lt, if◌then◌else◌, List, []}
+use Rattle.std.specs.Prelude.{◌∷◌, ◌++◌, drop, length, map, slice_index, not, ◌==◌, ℤ, Result, Ok, Err}
 use Rattle.std.specs.List.{enumerate_from}
 use Rattle.sbx_text.specs.declared.Token.{Token}
 use Rattle.sbx_text.specs.declared.fault.TextFault.{TextFault}
@@ -46,7 +47,14 @@ abbrev pub read_line : ℕ → List ℕ → Result (List Token) TextFault → It
 read_line number line (Ok ts) =
     let count : ℕ = label_count line ts in
     let rest : List Token = drop (2 * count) ts in
-    record { number = number; labels = label_names line count ts; bytes = line; tokens = rest; said = Ok (statement_of line rest) }
+    record {
+      number = number;
+      labels = label_names line count ts;
+      bytes = line;
+      tokens = rest;
+      said =
+          Ok (statement_of line rest);
+    }
 read_line number line (Err f) = record { number = number; labels = []; bytes = line; tokens = []; said = Err f }
 
 abbrev pub item_of : ℕ × List ℕ → Item
@@ -77,15 +85,21 @@ count test (i ∷ is) = if test i then count test is + 1 else count test is
 
 -- a `.function`
 abbrev pub starts_function : Item → Bool
-starts_function i = elim i.said [ Ok (statements.Directive (directives.Function name kind frame room budget)) ↦ true | _ ↦ false ]
+starts_function i =
+    elim i.said [ Ok (statements.Directive (directives.Function name kind frame room budget)) ↦ true | _ ↦ false ]
 
 -- a `.function`, whatever its operands: it ends the function before it
 abbrev pub ends_function : Item → Bool
-ends_function i = starts_function i || elim i.said [ Ok (statements.Malformed keywords.Function name) ↦ true | _ ↦ false ]
+ends_function i =
+    starts_function i || elim i.said [ Ok (statements.Malformed keywords.Function name) ↦ true | _ ↦ false ]
 
 -- a `.block`, whatever its operands
 abbrev pub is_block : Item → Bool
-is_block i = elim i.said [ Ok (statements.Directive (directives.Block name)) ↦ true | Ok (statements.Malformed keywords.Block name) ↦ true | _ ↦ false ]
+is_block i = elim i.said [
+  | Ok (statements.Directive (directives.Block name)) ↦ true
+  | Ok (statements.Malformed keywords.Block name) ↦ true
+  | _ ↦ false
+]
 
 -- a block ends where another one or a function begins
 abbrev pub ends_block : Item → Bool
@@ -102,7 +116,12 @@ is_region i = elim i.said [ Ok (statements.Directive (directives.Region writable
 
 -- a list of values, or zeros; at the start of a region `.align` gives none
 abbrev pub has_bytes : Item → Bool
-has_bytes i = elim i.said [ Ok (statements.Directive (directives.Values w n)) ↦ true | Ok (statements.Directive (directives.Skip n)) ↦ nat_lt 0 n | _ ↦ false ]
+has_bytes i =
+    elim i.said [
+      | Ok (statements.Directive (directives.Values w n)) ↦ true
+      | Ok (statements.Directive (directives.Skip n)) ↦ nat_lt 0 n
+      | _ ↦ false
+    ]
 
 -- whether some items, the nearest first, end within a function
 abbrev pub in_function : List Item → Bool

@@ -11,7 +11,9 @@ use Rattle.sbx_asm.specs.declared.place.Place.{Place}
 use Rattle.sbx_asm.specs.declared.context.Locations.{Locations}
 use Rattle.sbx_asm.specs.declared.context.Context.{Context}
 use Rattle.sbx_asm.specs.declared.survey.Survey.{Survey}
-use Rattle.sbx_asm.specs.Items.{Item, Cell, Term, each, up_to, count, starts_function, ends_function, is_block, ends_block, is_data, is_region, in_function, block_count, services, stacks, params, results, depths, cells, terms, has}
+use Rattle.sbx_asm.specs.Items.{Item, Cell, Term, each, up_to, count, starts_function, ends_function, is_block}
+use Rattle.sbx_asm.specs.Items.{ends_block, is_data, is_region, in_function, block_count, services, stacks, params}
+use Rattle.sbx_asm.specs.Items.{results, depths, cells, terms, has}
 use Rattle.sbx_asm.specs.Addresses.{Label, in_code, code_address, region_start, data_offset, worth_in}
 use Rattle.sbx_asm.specs.Rules.{Cause, Values, at, told, duplicates, acts, has_fuel}
 use Rattle.sbx_asm.specs.Images.{filled, region_with, bytes_at, region_at}
@@ -22,7 +24,15 @@ worth t name = get_by (λ k. bytes_eq name k.now) t.entries
 
 -- the place of a line behind some others, the nearest first
 abbrev pub place_at : List Item → Place
-place_at before = record { in_code = in_code before; next_word = code_address before; has_region = list_any is_region before; region_start = region_start before; region_bytes = data_offset before }
+place_at before =
+    record {
+      in_code = in_code before;
+      next_word = code_address before;
+      has_region =
+          list_any is_region before;
+      region_start = region_start before;
+      region_bytes = data_offset before;
+    }
 
 -- a survey of some labels has the worth of each, and the fault that is told of those that stand twice
 abbrev pub IsSurvey : List Label → Survey → Type 0
@@ -35,7 +45,9 @@ noted causes n = record n { fault = fold told n.fault (map (at n.line) causes) }
 -- the regions that some lines complete, the newest one so far, and what the lines to come make of it
 abbrev pub regions_with : Values → Data → List Item → List Item → List Region
 regions_with values d before after =
-    d.regions.items ++ (region_with d.writable (filled (d.bytes.items ++ each (bytes_at values) before (up_to is_region after))) ++ each (region_at values) before after)
+    d.regions.items
+    ++ (region_with d.writable (filled (d.bytes.items ++ each (bytes_at values) before (up_to is_region after)))
+    ++ each (region_at values) before after)
 
 -- how many locations, up to the most that a rule allows, and the last one, the nearest first
 abbrev pub locations_of : ℕ → List ℕ → Locations

@@ -1,5 +1,7 @@
 -- What holds of the meaning of sources, as anyone knows assemblers.
-use Rattle.std.specs.Prelude.{◌≡◌, ℕ, ◌+◌, ◌-◌, ◌*◌, ◌/◌, ◌%◌, ◌≤◌, ◌<◌, ◌⊎◌, true, false, ◌&&◌, ◌==◌, nat_le, if◌then◌else◌, List, [], ◌∷◌, ◌++◌, length, map, reverse, slice_get, Option, None, Some, Ok, Err}
+use Rattle.std.specs.Prelude.{◌≡◌, ℕ, ◌+◌, ◌-◌, ◌*◌, ◌/◌, ◌%◌, ◌≤◌, ◌<◌, ◌⊎◌, true, false, ◌&&◌, ◌==◌, nat_le}
+use Rattle.std.specs.Prelude.{if◌then◌else◌, List, [], ◌∷◌, ◌++◌, length, map, reverse, slice_get, Option, None, Some}
+use Rattle.std.specs.Prelude.{Ok, Err}
 use Rattle.std.specs.List.{AllByRecursion}
 use Rattle.v8_map.specs.declared.TheConstants.{CODE_START}
 use Rattle.sbx_text.specs.Tokens.{tokens_of}
@@ -26,37 +28,42 @@ abbrev pub code_at : List ℕ → ℕ → Option ℕ
 code_at words address =
     if nat_le CODE_START address && (address % 4 == 0) then slice_get words ((address - CODE_START) / 4) else None
 
--- The code lies in the image where the labels say: the words of each statement are those of the code from the address on that the line's labels have.
+-- The code lies in the image where the labels say: the words of each statement are those of the code from the address
+-- on that the line's labels have.
 abbrev pub CodeLiesWhereLabelsSay : Type 0
 CodeLiesWhereLabelsSay = (source : List ℕ) (parts : Parts) → source_image source ≡ Ok parts
     → (front after : List Item) (i : Item) (k w : ℕ) → items_of source ≡ front ++ i ∷ after
     → slice_get (words_at (values_of (items_of source)) (reverse front) i after) k ≡ Some w → code_at parts.words (label_address (reverse front) + 4 * k) ≡ Some w
 
--- So do its functions: a `.function` begins the one with its number, counted from 0, whose entry is the address of the code at its line.
+-- So do its functions: a `.function` begins the one with its number, counted from 0, whose entry is the address of the
+-- code at its line.
 abbrev pub FunctionsBeginWhereNamesSay : Type 0
 FunctionsBeginWhereNamesSay = (source : List ℕ) (parts : Parts) → source_image source ≡ Ok parts
     → (front after : List Item) (i : Item) → items_of source ≡ front ++ i ∷ after → starts_function i ≡ true
     → slice_get (map (λ (f : Function). f.entry) parts.functions) (count starts_function front) ≡ Some (code_address (reverse front))
 
--- The data of a source without faults lie in its image where the labels say: the bytes of each line are those of the image from the address on
--- that the line's labels have.
+-- The data of a source without faults lie in its image where the labels say: the bytes of each line are those of the
+-- image from the address on that the line's labels have.
 abbrev pub DataLieWhereLabelsSay : Type 0
 DataLieWhereLabelsSay = (source : List ℕ) (parts : Parts) → source_image source ≡ Ok parts
     → (front after : List Item) (i : Item) (k b : ℕ) → items_of source ≡ front ++ i ∷ after
     → slice_get (bytes_at (values_of (items_of source)) (reverse front) i after) k ≡ Some b → data_at parts.regions (label_address (reverse front) + k) ≡ Some b
 
--- So do its regions: a `.region` begins the one with its number, counted from 0, and a label right behind it points to the first byte.
+-- So do its regions: a `.region` begins the one with its number, counted from 0, and a label right behind it points to
+-- the first byte.
 abbrev pub RegionsBeginWhereLabelsSay : Type 0
 RegionsBeginWhereLabelsSay = (source : List ℕ) (parts : Parts) → source_image source ≡ Ok parts
     → (front after : List Item) (i : Item) → items_of source ≡ front ++ i ∷ after → is_region i ≡ true
     → start_of parts.regions (count is_region front) ≡ Some (label_address (i ∷ reverse front))
 
--- Two sources that begin with the same lines, and whose labels are worth the same, begin with the same words: those that these lines mean
--- with the labels' worth, whatever follows.
+-- Two sources that begin with the same lines, and whose labels are worth the same, begin with the same words: those
+-- that these lines mean with the labels' worth, whatever follows.
 abbrev pub WordsLookAheadByLabelsAlone : Type 0
 WordsLookAheadByLabelsAlone = (front after other : List Item) → values_of (front ++ after) ≡ values_of (front ++ other)
-    → ((image_of (front ++ after)).words ≡ each (words_at (values_of (front ++ after))) [] front ++ each (words_at (values_of (front ++ after))) (reverse front) after)
-    × ((image_of (front ++ other)).words ≡ each (words_at (values_of (front ++ after))) [] front ++ each (words_at (values_of (front ++ after))) (reverse front) other)
+    → ((image_of (front ++ after)).words ≡ each (words_at (values_of (front ++ after))) [] front
+    ++ each (words_at (values_of (front ++ after))) (reverse front) after)
+    × ((image_of (front ++ other)).words ≡ each (words_at (values_of (front ++ after))) [] front
+    ++ each (words_at (values_of (front ++ after))) (reverse front) other)
 
 -- a blank line or a comment has no label and says nothing
 abbrev pub BlankLinesSayNothing : Type 0
@@ -70,7 +77,8 @@ BlankLinesChangeNothing = (front after : List Item) (i : Item) → i.labels ≡ 
 
 -- Numbers of lines up to 1,000,000 show in the lines of faults, and nowhere else.
 abbrev pub NumbersShowInFaultsAlone : Type 0
-NumbersShowInFaultsAlone = (number : ℕ → ℕ) (items : List Item) → AllByRecursion (λ i. (i.number ≤ 1000000) × (number i.number ≤ 1000000)) items →
+NumbersShowInFaultsAlone = (number : ℕ → ℕ) (items : List Item) →
+    AllByRecursion (λ i. (i.number ≤ 1000000) × (number i.number ≤ 1000000)) items →
     let renumbered : List Item = map (λ (i : Item). record i { number = number i.number }) items in
     (image_of renumbered ≡ image_of items) × (faults_of renumbered ≡ map (λ (f : AsmFault). record f { line = number f.line }) (faults_of items))
 
@@ -78,9 +86,11 @@ NumbersShowInFaultsAlone = (number : ℕ → ℕ) (items : List Item) → AllByR
 abbrev pub LabelsMayBeRenamed : Type 0
 LabelsMayBeRenamed = (rename : List ℕ → List ℕ) → ((a b : List ℕ) → rename a ≡ rename b → a ≡ b) → (labels : List Label) →
     let renamed : List Label = map (λ (l : Label). record l { name = rename l.name }) labels in
-    ((name : List ℕ) → worth_in renamed (rename name) ≡ worth_in labels name) × (duplicates [] renamed ≡ duplicates [] labels)
+    ((name : List ℕ) → worth_in renamed (rename name) ≡ worth_in labels name)
+    × (duplicates [] renamed ≡ duplicates [] labels)
 
--- What is told is a fault of the lines, of which no other is earlier; else they have none, and it is told of the whole at the line after the last.
+-- What is told is a fault of the lines, of which no other is earlier; else they have none, and it is told of the whole
+-- at the line after the last.
 abbrev pub TheLeastFaultIsTold : Type 0
 TheLeastFaultIsTold = (source : List ℕ) (f : AsmFault) → source_image source ≡ Err f →
     let faults : List AsmFault = faults_of (items_of source) in
@@ -89,9 +99,13 @@ TheLeastFaultIsTold = (source : List ℕ) (f : AsmFault) → source_image source
 
 -- Lines without faults are an image, where one of them is a `.function` and the data take at most 64 pages.
 abbrev pub LinesWithoutFaultsAreAnImage : Type 0
-LinesWithoutFaultsAreAnImage = (source : List ℕ) → faults_of (items_of source) ≡ [] → 1 ≤ count starts_function (items_of source)
-    → length (page_rights (image_of (items_of source)).regions) ≤ 64 → source_image source ≡ Ok (image_of (items_of source))
+LinesWithoutFaultsAreAnImage = (source : List ℕ) → faults_of (items_of source) ≡ [] →
+    1 ≤ count starts_function (items_of source)
+    → length (page_rights (image_of (items_of source)).regions) ≤ 64 →
+    source_image source ≡ Ok (image_of (items_of source))
 
--- So what is told at the line after the last is one of two: no line has a fault, and either there is no `.function`, or the data take more than 64 pages.
+-- So what is told at the line after the last is one of two: no line has a fault, and either there is no `.function`, or
+-- the data take more than 64 pages.
 abbrev pub TwoFaultsAreOfTheWhole : Type 0
-TwoFaultsAreOfTheWhole = (source : List ℕ) (f : AsmFault) → source_image source ≡ Err f → f.line ≡ length (items_of source) + 1 → IsOfTheWhole (items_of source) f.cause
+TwoFaultsAreOfTheWhole = (source : List ℕ) (f : AsmFault) → source_image source ≡ Err f →
+    f.line ≡ length (items_of source) + 1 → IsOfTheWhole (items_of source) f.cause

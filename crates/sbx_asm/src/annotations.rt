@@ -27,7 +27,8 @@ pub struct Heading {
 
 /// The signature that some lines say. Without a depth it is 0; of several the first counts.
 pub fn signature_of(alloc: Global, lines: &[Line<'_>]) -> Result<Signature, AllocError>
-    ensures { IfOk result (λ found. (found.params ≡ flat_map params lines.now) × (found.results ≡ flat_map results lines.now) × (found.depth ≡ get_or (flat_map depths lines.now) 0 0)) }
+    ensures { IfOk result (λ found. (found.params ≡ flat_map params lines.now)
+        × (found.results ≡ flat_map results lines.now) × (found.depth ≡ get_or (flat_map depths lines.now) 0 0)) }
 {
     let mut params = Vec::new(alloc);
     let mut results = Vec::new(alloc);
@@ -70,11 +71,14 @@ pub fn block_with(alloc: Global, address: u32, lines: &[Line<'_>]) -> Result<Blo
     })
 }
 
-/// The services and the pages of stack that are said first, and the version of the image format: the one that has depths or, else,
-/// regions, where there are some.
+/// The services and the pages of stack that are said first, and the version of the image format: the one that has
+/// depths or, else, regions, where there are some.
 #[tactic(auto, using(crate::proofs::Firsts::with_depths, crate::proofs::Firsts::with_regions))]
 pub fn heading_of(lines: &[Line<'_>]) -> Heading
-    ensures { (result.version ≡ (if list_any (has depths) lines.now then 3 else (if list_any is_region lines.now then 2 else 1))) × (result.services ≡ get_or (flat_map services lines.now) 0 (record { 0 = 0 })) × (result.stack_pages ≡ get_or (flat_map stacks lines.now) 0 1) }
+    ensures { (result.version ≡
+        (if list_any (has depths) lines.now then 3 else (if list_any is_region lines.now then 2 else 1)))
+        × (result.services ≡ get_or (flat_map services lines.now) 0 (record { 0 = 0 }))
+        × (result.stack_pages ≡ get_or (flat_map stacks lines.now) 0 1) }
 {
     let mut version = 1;
     let mut services = None;

@@ -31,12 +31,13 @@ fn image_of(alloc: Global, lines: &[Line<'_>]) -> Result<Image, AsmFault>
 /// The image that a source means.
 ///
 /// # Errors
-/// The fault of the least line, there a cause of the text before one of the syntax before the others, and of these the one of least
-/// number; a fault of the whole at the line after the last: `Directive` where no line is a `.function`, else `Limit`, where the data
-/// take more than 64 pages. `Memory`, at line 0, may come in the place of any answer.
+/// The fault of the least line, there a cause of the text before one of the syntax before the others, and of these the
+/// one of least number; a fault of the whole at the line after the last: `Directive` where no line is a `.function`,
+/// else `Limit`, where the data take more than 64 pages. `Memory`, at line 0, may come in the place of any answer.
 pub fn assemble(alloc: Global, source: &[u8]) -> Result<Image, AsmFault>
     ensures exact { Gives result (source_image source.now) }
-    ensures whole { IfErr result (λ fault. fault.line ≡ length (items_of source.now) + 1 → IsOfTheWhole (items_of source.now) fault.cause) }
+    ensures whole { IfErr result (λ fault. fault.line ≡ length (items_of source.now) + 1 →
+        IsOfTheWhole (items_of source.now) fault.cause) }
 {
     let text = Text::read(alloc, source)?;
     let lines = text.lines(alloc)?;

@@ -57,14 +57,17 @@ fn any_acts(table: &Table<'_>, lines: &[Line<'_>]) -> bool
 
 /// Whether a line begins a region without bytes.
 fn is_empty_region(line: &Line<'_>, behind: &[Line<'_>]) -> bool
-    ensures { result ≡ (is_region line.now && not (list_any has_bytes (up_to (λ j. is_text j || is_region j) behind.now))) }
+    ensures { result ≡
+        (is_region line.now && not (list_any has_bytes (up_to (λ j. is_text j || is_region j) behind.now))) }
 {
     is_region(line) && !have_bytes(behind)
 }
 
 /// Whether a line begins a block in which no line acts.
 fn is_idle_block(table: &Table<'_>, context: Context, line: &Line<'_>, behind: &[Line<'_>]) -> bool
-    ensures { (before : List Item) → context ≡ context_at (worth table.now) before → result ≡ (begins_block before line.now && not (list_any (acts (worth table.now)) (up_to ends_block behind.now))) }
+    ensures { (before : List Item) → context ≡ context_at (worth table.now) before →
+        result ≡ (begins_block before line.now
+        && not (list_any (acts (worth table.now)) (up_to ends_block behind.now))) }
 {
     context.begins_block(line) && !any_acts(table, behind)
 }
@@ -109,7 +112,8 @@ pub fn check(
     told_before: Option<AsmFault>,
     lines: &[Line<'_>],
 ) -> Result<Checked, AllocError>
-    ensures { IfOk result (λ c. (c.fault ≡ fold told told_before (each (faults_at (worth table.now)) [] lines.now)) × (c.words.items ≡ each (words_at (worth table.now)) [] lines.now)) }
+    ensures { IfOk result (λ c. (c.fault ≡ fold told told_before (each (faults_at (worth table.now)) [] lines.now))
+        × (c.words.items ≡ each (words_at (worth table.now)) [] lines.now)) }
 {
     let mut checked = Checked {
         fault: told_before,

@@ -2,7 +2,8 @@
 ghost use Rattle.std.specs.Prelude.{◌≡◌, ℕ, false, ◌+◌, min, [], ◌∷◌, ◌++◌, List, if◌then◌else◌, map};
 ghost use Rattle.sbx_image.specs.Cell.{Cell};
 ghost use Rattle.sbx_image.specs.Term.{Term};
-ghost use Rattle.sbx_asm.specs.Items.{Item, begins_block, has, services, stacks, params, results, depths, fuels, cells, terms};
+ghost use Rattle.sbx_asm.specs.Items.{Item, begins_block, has, services, stacks, params, results, depths, fuels, cells};
+ghost use Rattle.sbx_asm.specs.Items.{terms};
 ghost use Rattle.sbx_asm.specs.Rules.{Values, acts, takes_annotations, takes_ranges};
 ghost use Rattle.sbx_asm.specs.Kept.{locations_of, context_at};
 
@@ -132,7 +133,8 @@ impl Locations {
     }
 
     fn with(self, most: u16, location: u16) -> Locations
-        ensures { (locations : List ℕ) → self ≡ locations_of most locations → result ≡ locations_of most (location ∷ locations) }
+        ensures { (locations : List ℕ) → self ≡ locations_of most locations →
+            result ≡ locations_of most (location ∷ locations) }
     {
         Locations {
             count: counted(most, self.count, true),
@@ -142,7 +144,8 @@ impl Locations {
 
     /// With a line that may be a cell.
     fn with_cell(self, line: &Line<'_>) -> Locations
-        ensures { (own : List Cell) → self ≡ locations_of 64 (map (λ (c : Cell). c.location) own) → result ≡ locations_of 64 (map (λ (c : Cell). c.location) (cells line.now ++ own)) }
+        ensures { (own : List Cell) → self ≡ locations_of 64 (map (λ (c : Cell). c.location) own) →
+            result ≡ locations_of 64 (map (λ (c : Cell). c.location) (cells line.now ++ own)) }
     {
         match line.said() {
             Ok(Statement::Directive(Directive::Cell(cell))) => self.with(CELLS, cell.location),
@@ -152,7 +155,8 @@ impl Locations {
 
     /// With a line that may be a term.
     fn with_term(self, line: &Line<'_>) -> Locations
-        ensures { (own : List Term) → self ≡ locations_of 8 (map (λ (t : Term). t.location) own) → result ≡ locations_of 8 (map (λ (t : Term). t.location) (terms line.now ++ own)) }
+        ensures { (own : List Term) → self ≡ locations_of 8 (map (λ (t : Term). t.location) own) →
+            result ≡ locations_of 8 (map (λ (t : Term). t.location) (terms line.now ++ own)) }
     {
         match line.said() {
             Ok(Statement::Directive(Directive::Term(term))) => self.with(TERMS, term.location),
@@ -178,7 +182,8 @@ impl Totals {
 
     /// With one more line.
     fn after(self, line: &Line<'_>, begins: bool) -> Totals
-        ensures { (values : Values) (before : List Item) → self ≡ (context_at values before).totals → begins ≡ begins_block before line.now → result ≡ (context_at values (line.now ∷ before)).totals }
+        ensures { (values : Values) (before : List Item) → self ≡ (context_at values before).totals →
+            begins ≡ begins_block before line.now → result ≡ (context_at values (line.now ∷ before)).totals }
     {
         Totals {
             functions: counted(FUNCTIONS, self.functions, starts_function(line)),
@@ -207,7 +212,8 @@ impl FunctionContext {
 
     /// With one more line.
     fn after(self, line: &Line<'_>) -> FunctionContext
-        ensures { (values : Values) (before : List Item) → self ≡ (context_at values before).function → result ≡ (context_at values (line.now ∷ before)).function }
+        ensures { (values : Values) (before : List Item) → self ≡ (context_at values before).function →
+            result ≡ (context_at values (line.now ∷ before)).function }
     {
         if ends_function(line) {
             FunctionContext::new(starts_function(line))
@@ -226,7 +232,13 @@ impl FunctionContext {
 impl BlockContext {
     /// Behind a line that begins a block, or before the first.
     fn new(has_fuel: bool) -> BlockContext
-        ensures { result ≡ record { has_acted = false; has_fuel = has_fuel; cells = locations_of 64 []; terms = locations_of 8 [] } }
+        ensures { result ≡ record {
+          has_acted = false;
+          has_fuel = has_fuel;
+          cells = locations_of 64 [];
+          terms =
+              locations_of 8 [];
+        } }
     {
         BlockContext {
             has_acted: false,
@@ -244,7 +256,9 @@ impl BlockContext {
         begins: bool,
         is_annotated: bool,
     ) -> BlockContext
-        ensures { (values : Values) (before : List Item) → self ≡ (context_at values before).block → is_acting ≡ acts values line.now → begins ≡ begins_block before line.now → is_annotated ≡ takes_annotations values before
+        ensures { (values : Values) (before : List Item) → self ≡ (context_at values before).block →
+            is_acting ≡ acts values line.now → begins ≡ begins_block before line.now →
+            is_annotated ≡ takes_annotations values before
             → result ≡ (context_at values (line.now ∷ before)).block }
     {
         let has_fuel = !begins & ((has_fuel(line) & is_annotated) | self.has_fuel);
@@ -276,28 +290,32 @@ impl Context {
 
     /// Whether a line begins a block: a `.function`, or a `.block` in one.
     pub fn begins_block(self, line: &Line<'_>) -> bool
-        ensures { (values : Values) (before : List Item) → self ≡ context_at values before → result ≡ begins_block before line.now }
+        ensures { (values : Values) (before : List Item) → self ≡ context_at values before →
+            result ≡ begins_block before line.now }
     {
         starts_function(line) | (is_block(line) & self.function.is_open)
     }
 
     /// Whether an annotation may stand next.
     pub fn takes_annotations(self) -> bool
-        ensures { (values : Values) (before : List Item) → self ≡ context_at values before → result ≡ takes_annotations values before }
+        ensures { (values : Values) (before : List Item) → self ≡ context_at values before →
+            result ≡ takes_annotations values before }
     {
         self.function.is_open & !self.block.has_acted
     }
 
     /// Whether a parameter, a result or the depth may stand next.
     pub fn takes_ranges(self) -> bool
-        ensures { (values : Values) (before : List Item) → self ≡ context_at values before → result ≡ takes_ranges values before }
+        ensures { (values : Values) (before : List Item) → self ≡ context_at values before →
+            result ≡ takes_ranges values before }
     {
         self.takes_annotations() & !self.function.has_block
     }
 
     /// Behind one more line, of which it is known whether it acts.
     pub fn after(self, line: &Line<'_>, is_acting: bool) -> Context
-        ensures { (values : Values) (before : List Item) → self ≡ context_at values before → is_acting ≡ acts values line.now → result ≡ context_at values (line.now ∷ before) }
+        ensures { (values : Values) (before : List Item) → self ≡ context_at values before →
+            is_acting ≡ acts values line.now → result ≡ context_at values (line.now ∷ before) }
     {
         let begins_block = self.begins_block(line);
         let is_annotated = self.takes_annotations();

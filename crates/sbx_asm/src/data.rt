@@ -34,7 +34,9 @@ fn push_zeros(bytes: &mut Vec<u8>, count: u64) -> Result<(), AllocError>
 impl Data {
     /// Completes the newest region, unless it has no bytes: zeros fill it up to a multiple of 8.
     fn end_region(&mut self, alloc: Global) -> Result<(), AllocError>
-        ensures regions { IfOk result (λ _. self.new.regions.items ≡ self.old.regions.items ++ region_with self.old.writable (filled self.old.bytes.items)) }
+        ensures regions { IfOk result
+            (λ _. self.new.regions.items ≡
+            self.old.regions.items ++ region_with self.old.writable (filled self.old.bytes.items)) }
         ensures bytes { IfOk result (λ _. self.new.bytes.items ≡ []) }
     {
         let mut bytes = mem::replace(&mut self.bytes, Vec::new(alloc));
@@ -49,7 +51,8 @@ impl Data {
         Ok(())
     }
 
-    /// Adds the bytes of a line at a place, none where its values have a fault; a `.region` completes the one before it.
+    /// Adds the bytes of a line at a place, none where its values have a fault; a `.region` completes the one before
+    /// it.
     fn add_line(
         &mut self,
         alloc: Global,
@@ -57,7 +60,9 @@ impl Data {
         place: Place,
         line: &Line<'_>,
     ) -> Result<(), AllocError>
-        ensures { IfOk result (λ _. (before after : List Item) → place ≡ place_at before → regions_with (worth table.now) self.new (line.now ∷ before) after ≡ regions_with (worth table.now) self.old before (line.now ∷ after)) }
+        ensures { IfOk result (λ _. (before after : List Item) → place ≡ place_at before →
+            regions_with (worth table.now) self.new (line.now ∷ before) after ≡
+            regions_with (worth table.now) self.old before (line.now ∷ after)) }
     {
         match line.said() {
             Ok(Statement::Directive(Directive::Values(width, _))) => {

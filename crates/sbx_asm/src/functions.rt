@@ -20,7 +20,8 @@ fn push_block(
     address: u32,
     after: &[Line<'_>],
 ) -> Result<(), AllocError>
-    ensures { IfOk result (λ _. blocks.new.items ≡ blocks.old.items ++ block_with address (up_to ends_block after.now) ∷ []) }
+    ensures { IfOk result
+        (λ _. blocks.new.items ≡ blocks.old.items ++ block_with address (up_to ends_block after.now) ∷ []) }
 {
     blocks.push(block_with(alloc, address, up_to_block(after))?)?;
     Ok(())
@@ -34,7 +35,8 @@ fn push_named_block(
     place: Place,
     after: &[Line<'_>],
 ) -> Result<(), AllocError>
-    ensures { IfOk result (λ _. (before : List Item) → place ≡ place_at before → blocks.new.items ≡ blocks.old.items ++ block_at before line.now after.now) }
+    ensures { IfOk result (λ _. (before : List Item) → place ≡ place_at before →
+        blocks.new.items ≡ blocks.old.items ++ block_at before line.now after.now) }
 {
     if let Ok(Statement::Directive(Directive::Block(_))) = line.said() {
         push_block(blocks, alloc, place.next_word, after)
@@ -50,7 +52,9 @@ fn blocks_of(
     place: Place,
     own: &[Line<'_>],
 ) -> Result<Items<Block>, AllocError>
-    ensures { IfOk result (λ blocks. (before : List Item) → place ≡ place_at before → blocks ≡ block_with (code_address before) (up_to ends_block own.now) ∷ each block_at (first.now ∷ before) own.now) }
+    ensures { IfOk result (λ blocks. (before : List Item) → place ≡ place_at before →
+        blocks ≡ block_with (code_address before) (up_to ends_block own.now)
+        ∷ each block_at (first.now ∷ before) own.now) }
 {
     let mut blocks = Vec::new(alloc);
     push_block(&mut blocks, alloc, place.next_word, own)?;
@@ -70,7 +74,8 @@ fn push_function(
     place: Place,
     after: &[Line<'_>],
 ) -> Result<(), AllocError>
-    ensures { IfOk result (λ _. (before : List Item) → place ≡ place_at before → functions.new.items ≡ functions.old.items ++ function_at before line.now after.now) }
+    ensures { IfOk result (λ _. (before : List Item) → place ≡ place_at before →
+        functions.new.items ≡ functions.old.items ++ function_at before line.now after.now) }
 {
     if let Ok(
         Statement::Directive(

@@ -1,6 +1,7 @@
 //! What a line is.
 ghost use Rattle.std.specs.Prelude.{◌≡◌};
-ghost use Rattle.sbx_asm.specs.Items.{starts_function, ends_function, is_block, ends_block, is_text, is_data, is_region, has_bytes};
+ghost use Rattle.sbx_asm.specs.Items.{starts_function, ends_function, is_block, ends_block, is_text, is_data};
+ghost use Rattle.sbx_asm.specs.Items.{is_region, has_bytes};
 
 use crate::reading::Line;
 use sbx_directives::{Directive, Keyword, Statement};

@@ -24,7 +24,9 @@ pub fn push_line_values(
     width: Width,
     line: &Line<'_>,
 ) -> Result<(), AllocError>
-    ensures { IfOk result (λ _. bytes.new.items ≡ bytes.old.items ++ result_unwrap_or (data_of (worth table.now) line.now.bytes width line.now.tokens) []) }
+    ensures { IfOk result
+        (λ _. bytes.new.items ≡
+        bytes.old.items ++ result_unwrap_or (data_of (worth table.now) line.now.bytes width line.now.tokens) []) }
 {
     let scope = Scope { table, here: 0 };
     match push_values(width, &scope, line.bytes(), line.tokens(), bytes) {
@@ -72,7 +74,9 @@ pub fn push_words(
     here: u32,
     line: &Line<'_>,
 ) -> Result<Option<SyntaxFault>, AllocError>
-    ensures { IfOk result (λ fault. (before after : List Item) → here ≡ code_address before → (fault ≡ syntax_fault_of (worth table.now) before line.now) × (words.new.items ≡ words.old.items ++ words_at (worth table.now) before line.now after)) }
+    ensures { IfOk result (λ fault. (before after : List Item) → here ≡ code_address before →
+        (fault ≡ syntax_fault_of (worth table.now) before line.now)
+        × (words.new.items ≡ words.old.items ++ words_at (worth table.now) before line.now after)) }
 {
     match line.said() {
         Ok(Statement::Instruction) => {

@@ -21,7 +21,8 @@ pub fn parts_of(
     words: Vec<u32>,
     lines: &[Line<'_>],
 ) -> Result<Parts, AllocError>
-    ensures { IfOk result (λ parts. worth table.now ≡ values_of lines.now → words.items ≡ each (words_at (worth table.now)) [] lines.now → parts ≡ image_of lines.now) }
+    ensures { IfOk result (λ parts. worth table.now ≡ values_of lines.now →
+        words.items ≡ each (words_at (worth table.now)) [] lines.now → parts ≡ image_of lines.now) }
 {
     let heading = heading_of(lines);
     Ok(Parts {

@@ -2,7 +2,8 @@
 ghost use Rattle.std.specs.Prelude.{◌≡◌, ◌+◌, ◌-◌, ◌*◌, ◌≤◌, min, nat_le, List, [], ◌∷◌};
 ghost use Rattle.sbx_directives.specs.Data.{bytes_of_width};
 ghost use Rattle.sbx_asm.specs.Items.{Item};
-ghost use Rattle.sbx_asm.specs.Addresses.{code_offset, data_offset, data_length, in_code, label_address, padding_of, section_room, next_start, region_start, start_behind};
+ghost use Rattle.sbx_asm.specs.Addresses.{code_offset, data_offset, data_length, in_code, label_address, padding_of};
+ghost use Rattle.sbx_asm.specs.Addresses.{section_room, next_start, region_start, start_behind};
 ghost use Rattle.sbx_asm.specs.Kept.{place_at};
 
 use crate::kinds::{is_data, is_region, is_text};
@@ -170,14 +171,16 @@ impl Place {
 
     /// Whether the code has room for so many bytes more.
     pub fn code_has_room(self, bytes: u128) -> bool
-        ensures { (before : List Item) → self ≡ place_at before → result ≡ nat_le bytes (section_room - code_offset before) }
+        ensures { (before : List Item) → self ≡ place_at before →
+            result ≡ nat_le bytes (section_room - code_offset before) }
     {
         fits_behind(self.code_offset(), bytes)
     }
 
     /// Whether the data have.
     pub fn data_has_room(self, bytes: u128) -> bool
-        ensures { (before : List Item) → self ≡ place_at before → result ≡ nat_le bytes (section_room - data_offset before) }
+        ensures { (before : List Item) → self ≡ place_at before →
+            result ≡ nat_le bytes (section_room - data_offset before) }
     {
         fits_behind(self.region_bytes, bytes)
     }

@@ -11,7 +11,8 @@ use std::alloc::{AllocError, Global};
 use std::marker::Model;
 use v8_syntax::length_of;
 
-/// What stands behind a line's labels, or why it has no tokens. Most lines have an instruction, so what is rarer lies elsewhere.
+/// What stands behind a line's labels, or why it has no tokens. Most lines have an instruction, so what is rarer lies
+/// elsewhere.
 #[derive(Drop)]
 enum Told {
     Nothing,
@@ -51,7 +52,11 @@ impl<'a> Model for Line<'a> {
       said = elim l.told [ Nothing ↦ Ok statements.Nothing | Instruction words ↦ Ok statements.Instruction | Other said ↦ Ok said.value | Fault fault ↦ Err fault ];
     } };
 
-    ghost invariant = { λ l. elim l.told [ Instruction words ↦ words ≡ statement_length l.bytes.now (drop (2 * l.label_count) l.tokens.now) | _ ↦ ⊤ ] };
+    ghost invariant = { λ l. elim l.told [
+      | Instruction words ↦ words ≡
+          statement_length l.bytes.now (drop (2 * l.label_count) l.tokens.now)
+      | _ ↦ ⊤
+    ] };
 }
 
 /// The tokens behind so many labels.

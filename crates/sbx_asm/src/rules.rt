@@ -5,9 +5,12 @@ ghost use Rattle.sbx_directives.specs.declared.directive.Name.{Name};
 ghost use Rattle.sbx_directives.specs.declared.fault.DataFault.{DataFault};
 ghost use Rattle.v8_syntax.specs.Statements.{statement_length};
 ghost use Rattle.sbx_directives.specs.declared.directive.Statement.TheVariants as statements;
-ghost use Rattle.sbx_asm.specs.Items.{Item, count, starts_function, ends_function, is_data, is_region, in_function, block_count, up_to, depths, has};
+ghost use Rattle.sbx_asm.specs.Items.{Item, count, starts_function, ends_function, is_data, is_region, in_function};
+ghost use Rattle.sbx_asm.specs.Items.{block_count, up_to, depths, has};
 ghost use Rattle.sbx_asm.specs.declared.fault.Cause.TheVariants as causes;
-ghost use Rattle.sbx_asm.specs.Rules.{Values, when, in_place, data_rules, value_rules, block_rules, ascending, takes_annotations, takes_ranges, has_fuel, value_fault_of, syntax_fault_of, directive_rules, line_rules};
+ghost use Rattle.sbx_asm.specs.Rules.{Values, when, in_place, data_rules, value_rules, block_rules, ascending};
+ghost use Rattle.sbx_asm.specs.Rules.{takes_annotations, takes_ranges, has_fuel, value_fault_of, syntax_fault_of};
+ghost use Rattle.sbx_asm.specs.Rules.{directive_rules, line_rules};
 ghost use Rattle.sbx_asm.specs.Kept.{noted, locations_of, context_at};
 
 use crate::context::{BLOCKS, CELLS, Context, FUNCTIONS, Locations, RANGES, REGIONS, TERMS};
@@ -50,7 +53,8 @@ fn once(notes: Notes, again: bool, placed: bool) -> Notes
 impl Context {
     /// Data stand in the data section, within its room.
     fn data_rules(self, notes: Notes, bytes: u128) -> Notes
-        ensures { (values : Values) (before : List Item) → self ≡ context_at values before → result ≡ noted (data_rules before bytes) notes }
+        ensures { (values : Values) (before : List Item) → self ≡ context_at values before →
+            result ≡ noted (data_rules before bytes) notes }
     {
         let room = self.place.data_has_room(bytes);
         notes
@@ -60,14 +64,16 @@ impl Context {
 
     /// At most 4,096 blocks in all.
     fn another_block(self, notes: Notes) -> Notes
-        ensures { (values : Values) (before : List Item) → self ≡ context_at values before → result ≡ noted (when (nat_le 4096 (block_count before)) causes.Limit) notes }
+        ensures { (values : Values) (before : List Item) → self ≡ context_at values before →
+            result ≡ noted (when (nat_le 4096 (block_count before)) causes.Limit) notes }
     {
         notes.with_where(is_full(BLOCKS, self.totals.blocks), Cause::Limit)
     }
 
     /// A `.block` stands in a function.
     fn block_rules(self, notes: Notes) -> Notes
-        ensures { (values : Values) (before : List Item) → self ≡ context_at values before → result ≡ noted (block_rules before) notes }
+        ensures { (values : Values) (before : List Item) → self ≡ context_at values before →
+            result ≡ noted (block_rules before) notes }
     {
         if self.function.is_open {
             self.another_block(notes)
@@ -78,7 +84,10 @@ impl Context {
 
     /// At most 256 functions.
     fn function_rules(self, notes: Notes) -> Notes
-        ensures { (values : Values) (before : List Item) → self ≡ context_at values before → result ≡ noted (when (nat_le 256 (count starts_function before)) causes.Limit ++ when (nat_le 4096 (block_count before)) causes.Limit) notes }
+        ensures { (values : Values) (before : List Item) → self ≡ context_at values before →
+            result ≡ noted
+            (when (nat_le 256 (count starts_function before)) causes.Limit
+            ++ when (nat_le 4096 (block_count before)) causes.Limit) notes }
     {
         let full = is_full(FUNCTIONS, self.totals.functions);
         self.another_block(notes.with_where(full, Cause::Limit))
@@ -86,7 +95,10 @@ impl Context {
 
     /// Regions beside no `.data`, and at most 8.
     fn region_rules(self, notes: Notes) -> Notes
-        ensures { (values : Values) (before : List Item) → self ≡ context_at values before → result ≡ noted (when (list_any is_data before) causes.Directive ++ when (nat_le 8 (count is_region before)) causes.Limit) notes }
+        ensures { (values : Values) (before : List Item) → self ≡ context_at values before →
+            result ≡ noted
+            (when (list_any is_data before) causes.Directive
+            ++ when (nat_le 8 (count is_region before)) causes.Limit) notes }
     {
         let full = is_full(REGIONS, self.totals.regions);
         notes
@@ -96,7 +108,8 @@ impl Context {
 
     /// At most 6 params or results, of which there are so many.
     fn range_rules(self, notes: Notes, count: u16) -> Notes
-        ensures { (values : Values) (before : List Item) (n : ℕ) → self ≡ context_at values before → count ≡ min 6 n → result ≡ noted (in_place (takes_ranges values before) (when (nat_le 6 n) causes.Limit)) notes }
+        ensures { (values : Values) (before : List Item) (n : ℕ) → self ≡ context_at values before → count ≡ min 6 n →
+            result ≡ noted (in_place (takes_ranges values before) (when (nat_le 6 n) causes.Limit)) notes }
     {
         if self.takes_ranges() {
             notes.with_where(is_full(RANGES, count), Cause::Limit)
@@ -107,7 +120,9 @@ impl Context {
 
     /// At most so many cells or terms of a block: their locations ascend.
     fn location_rules(self, notes: Notes, most: u16, locations: Locations, location: u16) -> Notes
-        ensures { (values : Values) (before : List Item) (others : List ℕ) → self ≡ context_at values before → locations ≡ locations_of most others → result ≡ noted (in_place (takes_annotations values before) (ascending most others location)) notes }
+        ensures { (values : Values) (before : List Item) (others : List ℕ) → self ≡ context_at values before →
+            locations ≡ locations_of most others →
+            result ≡ noted (in_place (takes_annotations values before) (ascending most others location)) notes }
     {
         if self.takes_annotations() {
             let full = is_full(most, locations.count);
@@ -121,7 +136,10 @@ impl Context {
 
     /// At most one `.depth` of a function, in its first block.
     fn depth_rules(self, notes: Notes) -> Notes
-        ensures { (values : Values) (before : List Item) → self ≡ context_at values before → result ≡ noted (if in_function before && list_any (has depths) (up_to ends_function before) then causes.Directive ∷ [] else in_place (takes_ranges values before) []) notes }
+        ensures { (values : Values) (before : List Item) → self ≡ context_at values before →
+            result ≡ noted
+            (if in_function before && list_any (has depths) (up_to ends_function before) then causes.Directive ∷ []
+            else in_place (takes_ranges values before) []) notes }
     {
         let again = self.function.is_open & self.function.has_depth;
         once(notes, again, self.takes_ranges())
@@ -129,14 +147,18 @@ impl Context {
 
     /// At most one `.fuel` of a block.
     fn fuel_rules(self, notes: Notes) -> Notes
-        ensures { (values : Values) (before : List Item) → self ≡ context_at values before → result ≡ noted (if has_fuel values before then causes.Directive ∷ [] else in_place (takes_annotations values before) []) notes }
+        ensures { (values : Values) (before : List Item) → self ≡ context_at values before →
+            result ≡ noted
+            (if has_fuel values before then causes.Directive ∷ []
+            else in_place (takes_annotations values before) []) notes }
     {
         once(notes, self.block.has_fuel, self.takes_annotations())
     }
 
     /// The rules of a directive, where it is known why its values have no bytes.
     fn directive_rules(self, notes: Notes, directive: Directive, fault: Option<DataFault>) -> Notes
-        ensures { (values : Values) (before : List Item) (i : Item) → self ≡ context_at values before → fault ≡ value_fault_of values i → result ≡ noted (directive_rules values before i directive) notes }
+        ensures { (values : Values) (before : List Item) (i : Item) → self ≡ context_at values before →
+            fault ≡ value_fault_of values i → result ≡ noted (directive_rules values before i directive) notes }
     {
         match directive {
             Directive::Text => notes,
@@ -172,7 +194,9 @@ impl Context {
 
     /// A directive with bad operands; a `.block` begins a block all the same.
     fn malformed_rules(self, notes: Notes, keyword: Keyword) -> Notes
-        ensures { (values : Values) (before : List Item) (i : Item) (name : Option Name) → self ≡ context_at values before → result ≡ noted (line_rules values before i (Ok (statements.Malformed keyword name))) notes }
+        ensures { (values : Values) (before : List Item) (i : Item) (name : Option Name) →
+            self ≡ context_at values before →
+            result ≡ noted (line_rules values before i (Ok (statements.Malformed keyword name))) notes }
     {
         match keyword {
             Keyword::Block => self.block_rules(notes).with(Cause::Directive),
@@ -182,7 +206,8 @@ impl Context {
 
     /// An instruction stands in the code, in a function, within the code's room; it is told why it has no words.
     fn instruction_rules(self, notes: Notes, bytes: u128, fault: Option<SyntaxFault>) -> Notes
-        ensures { (values : Values) (before : List Item) (i : Item) → self ≡ context_at values before → bytes ≡ 4 * statement_length i.bytes i.tokens → fault ≡ syntax_fault_of values before i
+        ensures { (values : Values) (before : List Item) (i : Item) → self ≡ context_at values before →
+            bytes ≡ 4 * statement_length i.bytes i.tokens → fault ≡ syntax_fault_of values before i
             → result ≡ noted (line_rules values before i (Ok statements.Instruction)) notes }
     {
         let placed = self.place.in_code & self.function.is_open;
@@ -204,7 +229,8 @@ impl Context {
         value_fault: Option<DataFault>,
         syntax_fault: Option<SyntaxFault>,
     ) -> Notes
-        ensures { (values : Values) (before : List Item) → self ≡ context_at values before → value_fault ≡ value_fault_of values line.now → syntax_fault ≡ syntax_fault_of values before line.now
+        ensures { (values : Values) (before : List Item) → self ≡ context_at values before →
+            value_fault ≡ value_fault_of values line.now → syntax_fault ≡ syntax_fault_of values before line.now
             → result ≡ noted (line_rules values before line.now line.now.said) notes }
     {
         match line.said() {

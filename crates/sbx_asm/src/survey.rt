@@ -23,7 +23,8 @@ pub struct Survey<'a> {
 
 /// The name of a function or of a block, whatever else stands there.
 fn name_said(line: &[u8], said: Result<Statement, TextFault>) -> Option<Name>
-    ensures { MatchOption result (names_said line.now said ≡ []) (λ name. names_said line.now said ≡ text_of line.now name ∷ []) }
+    ensures { MatchOption result (names_said line.now said ≡ [])
+        (λ name. names_said line.now said ≡ text_of line.now name ∷ []) }
 {
     match said {
         Ok(Statement::Directive(Directive::Function { name, .. } | Directive::Block(name))) => {
@@ -47,7 +48,8 @@ impl<'a> Survey<'a> {
 
     /// One more label. Where its name has a value already, that stays and the label is told at the line of that number.
     fn add(&mut self, number: usize, name: &'a [u8], address: u32) -> Result<(), AllocError>
-        ensures { IfOk result (λ _. (labels : List Label) → IsSurvey labels self.old → IsSurvey (labels ++ labelled number address name.now ∷ []) self.new) }
+        ensures { IfOk result (λ _. (labels : List Label) → IsSurvey labels self.old →
+            IsSurvey (labels ++ labelled number address name.now ∷ []) self.new) }
     {
         match self.table.value(name) {
             Some(_) => {
@@ -71,7 +73,8 @@ impl<'a> Survey<'a> {
         count: usize,
         tokens: &[Token],
     ) -> Result<(), AllocError>
-        ensures { IfOk result (λ _. (labels : List Label) → IsSurvey labels self.old → IsSurvey (labels ++ map (labelled number address) (label_names line.now count tokens.now)) self.new) }
+        ensures { IfOk result (λ _. (labels : List Label) → IsSurvey labels self.old →
+            IsSurvey (labels ++ map (labelled number address) (label_names line.now count tokens.now)) self.new) }
     {
         let mut rest = tokens;
         for _ in 0..count {
@@ -97,7 +100,8 @@ impl<'a> Survey<'a> {
         line: &'a [u8],
         said: Result<Statement, TextFault>,
     ) -> Result<(), AllocError>
-        ensures { IfOk result (λ _. (labels : List Label) → IsSurvey labels self.old → IsSurvey (labels ++ map (labelled number address) (names_said line.now said)) self.new) }
+        ensures { IfOk result (λ _. (labels : List Label) → IsSurvey labels self.old →
+            IsSurvey (labels ++ map (labelled number address) (names_said line.now said)) self.new) }
     {
         match name_said(line, said) {
             Some(name) => self.add(number, text_of(line, name), address),
@@ -107,7 +111,8 @@ impl<'a> Survey<'a> {
 
     /// The labels of one more line, at its place.
     fn add_line(&mut self, place: Place, line: &Line<'a>) -> Result<(), AllocError>
-        ensures { IfOk result (λ _. (labels : List Label) (before : List Item) → place ≡ place_at before → IsSurvey labels self.old → IsSurvey (labels ++ labels_at before line.now []) self.new) }
+        ensures { IfOk result (λ _. (labels : List Label) (before : List Item) → place ≡ place_at before →
+            IsSurvey labels self.old → IsSurvey (labels ++ labels_at before line.now []) self.new) }
     {
         let number = line.number();
         let (count, tokens) = line.labels();

@@ -42,7 +42,8 @@ impl<'a> Model for Text<'a> {
 
 /// Adds the tokens of a line to others, and counts them.
 fn read_tokens(line: &[u8], tokens: &mut Vec<Token>) -> Result<Result<usize, TextFault>, AllocError>
-    ensures { IfOk result (λ found. (found ≡ result_map_both length (λ fault. fault) (tokens_of line.now)) × (tokens.new.items ≡ tokens.old.items ++ result_unwrap_or (tokens_of line.now) [])) }
+    ensures { IfOk result (λ found. (found ≡ result_map_both length (λ fault. fault) (tokens_of line.now))
+        × (tokens.new.items ≡ tokens.old.items ++ result_unwrap_or (tokens_of line.now) [])) }
 {
     let before = tokens.len();
     match push_tokens(line, tokens) {
@@ -58,7 +59,9 @@ fn read_tokens(line: &[u8], tokens: &mut Vec<Token>) -> Result<Result<usize, Tex
 impl Kept {
     /// Reads one more line.
     fn add_line(&mut self, line: &[u8]) -> Result<(), AllocError>
-        ensures { IfOk result (λ _. (self.new.found.items ≡ self.old.found.items ++ result_map_both length (λ fault. fault) (tokens_of line.now) ∷ [])
+        ensures { IfOk result
+            (λ _. (self.new.found.items ≡
+            self.old.found.items ++ result_map_both length (λ fault. fault) (tokens_of line.now) ∷ [])
             × (self.new.tokens.items ≡ self.old.tokens.items ++ result_unwrap_or (tokens_of line.now) [])) }
     {
         let found = read_tokens(line, &mut self.tokens)?;
@@ -75,7 +78,9 @@ fn line_of<'a>(
     found: Result<usize, TextFault>,
     tokens: &'a [Token],
 ) -> Result<(Line<'a>, &'a [Token]), AllocError>
-    ensures { IfOk result (λ read. (others : List Token) → found ≡ result_map_both length (λ fault. fault) (tokens_of bytes.now) → tokens.now ≡ result_unwrap_or (tokens_of bytes.now) [] ++ others
+    ensures { IfOk result (λ read. (others : List Token) →
+        found ≡ result_map_both length (λ fault. fault) (tokens_of bytes.now) →
+        tokens.now ≡ result_unwrap_or (tokens_of bytes.now) [] ++ others
         → (read.0 ≡ item_of (number, bytes.now)) × (read.1.now ≡ others)) }
 {
     match found {

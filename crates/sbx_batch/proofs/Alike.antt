@@ -60,7 +60,8 @@ single_ran n parts input single is =
       run = is.run.run;
     }
 
-module _ (n : ℕ) (parts : Parts) (input : List ℕ) (old end : State n) (image : IsImage parts) (formed : IsFormed parts) (checked : Checked parts) (safe : FlatSafe parts) (bytes : AreBytes input) (state : IsState n old.mmu old.world) where
+module _ (n : ℕ) (parts : Parts) (input : List ℕ) (old end : State n) (image : IsImage parts) (formed : IsFormed parts) (checked : Checked parts)
+    (safe : FlatSafe parts) (bytes : AreBytes input) (state : IsState n old.mmu old.world) where
   any : IsAnyBoard n input (with_input old input)
   any = record { state = record { cpu = state.cpu; size = state.size; bytes = state.bytes; root = state.root }; y = state.cpu.y_word; input_is = refl }
 
@@ -68,7 +69,8 @@ module _ (n : ℕ) (parts : Parts) (input : List ℕ) (old end : State n) (image
   finishes : (start : State n) → IsStart n parts (with_input old input) start → Finishes n parts input [] start
   finishes start loaded = runs_to_its_end n parts input (with_input old input) start image safe bytes any loaded
 
-  pub next : (f : Finished) → EndsOn n parts (with_input old input) end (ended_of f) → f.output.items ≡ end.world.memory.device.output → KeepsItsDepth parts n (told_of f) → Contains n parts end → IsNext n parts input f old end
+  pub next : (f : Finished) → EndsOn n parts (with_input old input) end (ended_of f) → f.output.items ≡ end.world.memory.device.output →
+      KeepsItsDepth parts n (told_of f) → Contains n parts end → IsNext n parts input f old end
   next f ends output depth contained =
       record {
         ends = ends;

@@ -16,7 +16,8 @@ abbrev pub Completes : (n : ℕ) → State n → List Batch → List Finished �
 Completes n made all answers now left = (more : List Finished) (end : State n) → Follow n now left more end → Follow n made all (answers ++ more) end
 
 -- a run from a board whose output was taken is one from the board
-pub next_from : (n : ℕ) (parts : Parts) (input : List ℕ) (finished : Finished) (now taken end : State n) → taken ≡ without_output now → IsNext n parts input finished taken end → IsNext n parts input finished now end
+pub next_from : (n : ℕ) (parts : Parts) (input : List ℕ) (finished : Finished) (now taken end : State n) → taken ≡ without_output now →
+    IsNext n parts input finished taken end → IsNext n parts input finished now end
 next_from n parts input finished now taken end is next =
     let x : IsNext n parts input finished (without_output now) end = subst (λ (s : State n). IsNext n parts input finished s end) is next in
     record { ends = x.ends; output = x.output; alone = x.alone; depth = x.depth; contained = x.contained }

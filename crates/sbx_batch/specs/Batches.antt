@@ -20,15 +20,23 @@ with_input s input =
 
 -- what is told of a run, beside its output
 abbrev pub ended_of : Finished → Ended
-ended_of f = record { status = f.status; turns = f.turns; overflows = f.overflows; underflows = f.underflows; pages = f.pages }
+ended_of f = record {
+  status = f.status;
+  turns = f.turns;
+  overflows = f.overflows;
+  underflows = f.underflows;
+  pages =
+      f.pages;
+}
 
 -- the same exit word, turns, overflows, underflows, output and pages
 abbrev pub AreAlike : Finished → Finished → Type 0
 AreAlike f g = (told_of f ≡ told_of g) × (f.output.items ≡ g.output.items) × (f.pages ≡ g.pages)
 
--- The board was given this input, the image was loaded and ran to its end, from whatever the board held to where it stands now. What
--- it has put out is the output; any answer to the image and the input alone is alike; and an image of version 3 with windows enough
--- for its declared depth overflowed none and underflowed none. The board contains the image's run.
+-- The board was given this input, the image was loaded and ran to its end, from whatever the board held to where it
+-- stands now. What it has put out is the output; any answer to the image and the input alone is alike; and an image of
+-- version 3 with windows enough for its declared depth overflowed none and underflowed none. The board contains the
+-- image's run.
 pub record IsNext (n : ℕ) (parts : Parts) (input : List ℕ) (finished : Finished) (old end : State n) : Type 0 where
   pub ends : EndsOn n parts (with_input old input) end (ended_of finished)
   pub output : finished.output.items ≡ end.world.memory.device.output
@@ -38,7 +46,8 @@ pub record IsNext (n : ℕ) (parts : Parts) (input : List ℕ) (finished : Finis
 
 -- the same, and what the board had put out at its end was taken from it
 abbrev pub LeavesNext : (n : ℕ) → Parts → List ℕ → Finished → State n → State n → Type 0
-LeavesNext n parts input finished old now = (end : State n) × IsNext n parts input finished old end × (now ≡ without_output end)
+LeavesNext n parts input finished old now = (end : State n) × IsNext n parts input finished old end
+    × (now ≡ without_output end)
 
 -- ---- a list of runs
 

@@ -33,8 +33,8 @@ fn tells_form(image: &Image)
     image.keeps_its_format();
 }
 
-/// Runs an accepted image on an input to its end, on a board as an earlier run has left it, and takes what it put out. The only fault
-/// is `RunFault::Memory`.
+/// Runs an accepted image on an input to its end, on a board as an earlier run has left it, and takes what it put out.
+/// The only fault is `RunFault::Memory`.
 fn run_next<'a, const N: usize>(
     alloc: Global,
     board: &mut Board<N, SlicePort<'a>>,
@@ -42,7 +42,8 @@ fn run_next<'a, const N: usize>(
     input: &'a [u8],
 ) -> Result<Finished, RunFault>
     requires { IsState N board.old.state.mmu board.old.state.world }
-    ensures next { IfOk result (λ finished. LeavesNext N accepted.now input.now finished board.old.state board.new.state) }
+    ensures next { IfOk result
+        (λ finished. LeavesNext N accepted.now input.now finished board.old.state board.new.state) }
     ensures state { OnOk result (IsState N board.new.state.mmu board.new.state.world) }
     ensures fault { IfErr result (λ fault. fault ≡ RunFault.Memory refused) }
 {
@@ -75,11 +76,12 @@ fn with_room(alloc: Global, count: usize) -> Result<Vec<Finished>, RunFault>
     }
 }
 
-/// Runs accepted images, each on its input and to its end, one after another on one board of `N` windows, 4 to 32, and gives what each
-/// run gave, in order. Between two of them the board is loaded, and nothing is cleared: registers, Y and the stack's bytes are what
-/// the run before left. Yet status, output, turns, overflows, underflows and pages are those of `run_accepted` on the image and the
-/// input alone; an image of version 3 overflows and underflows no window where `N` is at least two more than its first function's
-/// declared depth. The only fault is `RunFault::Memory`, and then nothing is given.
+/// Runs accepted images, each on its input and to its end, one after another on one board of `N` windows, 4 to 32, and
+/// gives what each run gave, in order. Between two of them the board is loaded, and nothing is cleared: registers, Y
+/// and the stack's bytes are what the run before left. Yet status, output, turns, overflows, underflows and pages are
+/// those of `run_accepted` on the image and the input alone; an image of version 3 overflows and underflows no window
+/// where `N` is at least two more than its first function's declared depth. The only fault is `RunFault::Memory`, and
+/// then nothing is given.
 pub fn run_batch<const N: usize>(
     alloc: Global,
     batch: &[Batch<'_>],

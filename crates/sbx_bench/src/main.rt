@@ -1,15 +1,13 @@
 //! Measures turns of the board of eight windows, verification, and words.
 //!
-//! Drives the board with each image for a number of turns, in each way: turn by turn, in one run, in a raw run, in a trace, and by a
-//! plain interpreter.
-//! Prints what the board counted and the register that the loops of `data` count down, the bytes that were put out, or the lines of
-//! the trace; the times, loading included, go to standard error.
-//! Then verifies each image, and prints the verdicts; the times go to standard error.
-//! Then decodes and encodes words, and computes results, a thousand for each turn, and prints a checksum of each; the times go to standard
-//! error.
+//! Drives the board with each image for a number of turns, in each way: turn by turn, in one run, in a raw run, in a
+//! trace, and by a plain interpreter. Prints what the board counted and the register that the loops of `data` count
+//! down, the bytes that were put out, or the lines of the trace; the times, loading included, go to standard error.
+//! Then verifies each image, and prints the verdicts; the times go to standard error. Then decodes and encodes words,
+//! and computes results, a thousand for each turn, and prints a checksum of each; the times go to standard error.
 //!
-//! Arguments: the number of turns, 100,000 where it isn't given; `step`, `run`, `raw`, `trace` or `plain` for that way alone, `verify`,
-//! `words` or `results` for these alone, or `all`; and the paths of the images.
+//! Arguments: the number of turns, 100,000 where it isn't given; `step`, `run`, `raw`, `trace` or `plain` for that way
+//! alone, `verify`, `words` or `results` for these alone, or `all`; and the paths of the images.
 #![tactic(auto)]
 
 mod plain;

@@ -1,6 +1,7 @@
-//! A plain interpreter of a board of eight windows: each turn fetches, translates, decodes and executes, with the translation cache of
-//! the machine that is proved and, of the six pages that stand in front of it there, the two that each mode fetched from last; nothing is
-//! decoded beforehand. Nothing is proved of it but that it is safe; how fast it is says how fast the proved machine could be.
+//! A plain interpreter of a board of eight windows: each turn fetches, translates, decodes and executes, with the
+//! translation cache of the machine that is proved and, of the six pages that stand in front of it there, the two that
+//! each mode fetched from last; nothing is decoded beforehand. Nothing is proved of it but that it is safe; how fast it
+//! is says how fast the proved machine could be.
 //!
 //! Here are the processor's state, windows, traps and turns.
 

@@ -21,7 +21,8 @@ impl Write for Tally {
     fn write(&mut self, buf: &[u8]) -> io::Result<usize>
         ensures all { result ≡ Ok (length buf.now) }
         ensures bytes_counted { self.new.bytes ≡ min (self.old.bytes + length buf.now) (2 ^ 64 - 1) }
-        ensures lines_counted { self.new.lines ≡ min (self.old.lines + count_by (λ byte. byte == 10) buf.now) (2 ^ 64 - 1) }
+        ensures lines_counted { self.new.lines ≡
+            min (self.old.lines + count_by (λ byte. byte == 10) buf.now) (2 ^ 64 - 1) }
     {
         self.bytes = self.bytes.saturating_add(buf.len() as u64);
         self.lines = self.lines.saturating_add(line_ends(buf) as u64);

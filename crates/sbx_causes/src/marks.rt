@@ -129,7 +129,8 @@ fn name_said(line: &Line<'_>) -> Option<Name> {
     }
 }
 
-/// Where a label stands that stands before already: the first one that is worth another address than the line's, else the last one.
+/// Where a label stands that stands before already: the first one that is worth another address than the line's, else
+/// the last one.
 fn label_place<S: Symbols>(line: &Line<'_>, symbols: &S) -> usize {
     let (count, tokens) = line.labels();
     let mut last = 0;
@@ -172,8 +173,9 @@ fn mark_for<S: Symbols>(
     })
 }
 
-/// Why a line is told for a cause, and where: the place is one of its bytes, or that behind the last. `symbols` has what the labels of
-/// the source are worth, and the address of the line; `setting` is what the lines before it leave. It fails where memory is refused.
+/// Why a line is told for a cause, and where: the place is one of its bytes, or that behind the last. `symbols` has
+/// what the labels of the source are worth, and the address of the line; `setting` is what the lines before it leave.
+/// It fails where memory is refused.
 pub fn mark_of<S: Symbols>(
     alloc: Global,
     line: &Line<'_>,

@@ -1,6 +1,7 @@
--- What a line is told for by itself, whatever stands around it: its text, its statement, its operands, its values, and its labels. The rules are
--- those of the source's meaning.
-use Rattle.std.specs.Prelude.{ℕ, Bool, true, false, ◌==◌, nat_lt, if◌then◌else◌, List, [], ◌∷◌, map, Option, None, Some, Ok, Err}
+-- What a line is told for by itself, whatever stands around it: its text, its statement, its operands, its values, and
+-- its labels. The rules are those of the source's meaning.
+use Rattle.std.specs.Prelude.{ℕ, Bool, true, false, ◌==◌, nat_lt, if◌then◌else◌, List, [], ◌∷◌, map, Option, None, Some}
+use Rattle.std.specs.Prelude.{Ok, Err}
 use Rattle.std.specs.List.{list_any}
 use Rattle.std.specs.Option.{option_map}
 use Rattle.v8_syntax.specs.declared.fault.SyntaxFault.TheVariants.{UnknownSymbol}
@@ -30,7 +31,8 @@ cause_alone values before i = elim i.said [
   | _ ↦ None
 ]
 
--- of a line one of whose labels stands before already: that is told before operands and values, and behind a fault of the text or a statement
+-- of a line one of whose labels stands before already: that is told before operands and values, and behind a fault of
+-- the text or a statement
 abbrev pub with_label : Bool → Option Cause → Option Cause
 with_label again (Some (causes.Text f)) = Some (causes.Text f)
 with_label again (Some (causes.Syntax f)) = Some (causes.Syntax f)
@@ -44,8 +46,10 @@ optional (Some x) = x ∷ []
 -- why a line behind that number is told, where labels are worth so much and some of them stand twice
 abbrev pub cause_behind : Values → List AsmFault → ℕ → List Item → Item → Option Cause
 cause_behind values repeats line before i =
-    if nat_lt line i.number then with_label (list_any (λ (f : AsmFault). f.line == i.number) repeats) (cause_alone values before i) else None
+    if nat_lt line i.number then with_label (list_any (λ (f : AsmFault). f.line == i.number) repeats)
+    (cause_alone values before i) else None
 
 -- of each such line one fault at most
 abbrev pub found_at : Values → List AsmFault → ℕ → List Item → Item → List Item → List AsmFault
-found_at values repeats line before i after = optional (option_map (at i.number) (cause_behind values repeats line before i))
+found_at values repeats line before i after =
+    optional (option_map (at i.number) (cause_behind values repeats line before i))

@@ -12,6 +12,8 @@ use Rattle.sbx_check.specs.Alone.{found_at}
 abbrev pub found_behind : ℕ → List Item → List AsmFault
 found_behind line items = each (found_at (values_of items) (duplicates [] (each labels_at [] items)) line) [] items
 
--- A source means no image: the first fault is what the assembler tells, and the others are those of the lines behind it.
+-- A source means no image: the first fault is what the assembler tells, and the others are those of the lines behind
+-- it.
 abbrev pub AreTold : List ℕ → Faults → Type 0
-AreTold source faults = (source_image source ≡ Err faults.first) × (faults.others.items ≡ found_behind faults.first.line (items_of source))
+AreTold source faults = (source_image source ≡ Err faults.first)
+    × (faults.others.items ≡ found_behind faults.first.line (items_of source))

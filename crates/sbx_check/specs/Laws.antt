@@ -14,4 +14,5 @@ IsAmong {A = A} x xs = (front : List A) × (rest : List A) × (xs ≡ front ++ x
 abbrev pub FoundFaultsAreFaults : Type 0
 FoundFaultsAreFaults = (line : ℕ) (front after : List Item) (i : Item) (f : AsmFault) →
     let items : List Item = front ++ i ∷ after in
-    found_at (values_of items) (duplicates [] (each labels_at [] items)) line (reverse front) i after ≡ f ∷ [] → IsAmong f (faults_of items)
+    found_at (values_of items) (duplicates [] (each labels_at [] items)) line (reverse front) i after ≡ f ∷ [] →
+    IsAmong f (faults_of items)

@@ -36,7 +36,8 @@ fn value_cause(fault: Option<DataFault>) -> Option<Cause>
 
 /// Why an instruction at an address has no words.
 fn syntax_cause(table: &Table<'_>, here: u32, line: &Line<'_>) -> Option<Cause>
-    ensures { (before : List Item) → here ≡ code_address before → line.now.said ≡ Ok statements.Instruction → result ≡ option_map causes.Syntax (syntax_fault_of (worth table.now) before line.now) }
+    ensures { (before : List Item) → here ≡ code_address before → line.now.said ≡ Ok statements.Instruction →
+        result ≡ option_map causes.Syntax (syntax_fault_of (worth table.now) before line.now) }
 {
     let scope = Scope { table, here };
     match parse_instr(line.bytes(), line.tokens(), &scope) {
@@ -47,7 +48,8 @@ fn syntax_cause(table: &Table<'_>, here: u32, line: &Line<'_>) -> Option<Cause>
 
 /// Why a line at an address of the code means nothing by itself.
 pub fn cause_alone(table: &Table<'_>, here: u32, line: &Line<'_>) -> Option<Cause>
-    ensures { (before : List Item) → here ≡ code_address before → result ≡ cause_alone (worth table.now) before line.now }
+    ensures { (before : List Item) → here ≡ code_address before →
+        result ≡ cause_alone (worth table.now) before line.now }
 {
     match line.said() {
         Err(fault) => Some(Cause::Text(fault)),

@@ -27,7 +27,8 @@ pub struct Faults {
 
 /// Why a line at an address of the code is told by itself, if it stands behind another line.
 fn cause_behind(survey: &Survey<'_>, behind: usize, here: u32, line: &Line<'_>) -> Option<Cause>
-    ensures { (before : List Item) → here ≡ code_address before → result ≡ cause_behind (worth survey.now.table) survey.now.repeats.items behind before line.now }
+    ensures { (before : List Item) → here ≡ code_address before →
+        result ≡ cause_behind (worth survey.now.table) survey.now.repeats.items behind before line.now }
 {
     let number = line.number();
     if behind < number {
@@ -46,7 +47,9 @@ fn push_found(
     here: u32,
     line: &Line<'_>,
 ) -> Result<(), AllocError>
-    ensures { IfOk result (λ _. (before after : List Item) → here ≡ code_address before → found.new.items ≡ found.old.items ++ found_at (worth survey.now.table) survey.now.repeats.items behind before line.now after) }
+    ensures { IfOk result (λ _. (before after : List Item) → here ≡ code_address before →
+        found.new.items ≡
+        found.old.items ++ found_at (worth survey.now.table) survey.now.repeats.items behind before line.now after) }
 {
     match cause_behind(survey, behind, here, line) {
         Some(cause) => {
@@ -65,7 +68,8 @@ pub fn faults_behind(
     behind: usize,
     lines: &[Line<'_>],
 ) -> Result<Vec<AsmFault>, AllocError>
-    ensures { IfOk result (λ found. IsSurvey (each labels_at [] lines.now) survey.now → found.items ≡ found_behind behind lines.now) }
+    ensures { IfOk result (λ found. IsSurvey (each labels_at [] lines.now) survey.now →
+        found.items ≡ found_behind behind lines.now) }
 {
     let mut found = Vec::new(alloc);
     let mut place = Place::start();
@@ -100,11 +104,12 @@ fn faults_from(alloc: Global, source: &[u8], first: AsmFault) -> Result<Faults, 
     }
 }
 
-/// The image that a source means; else its faults, of which the first is what `assemble` tells, and the others are those of the lines
-/// behind it that stand by themselves: of their text, of a statement, of operands and values, and labels that stand before already. It
-/// fails where memory is refused.
+/// The image that a source means; else its faults, of which the first is what `assemble` tells, and the others are
+/// those of the lines behind it that stand by themselves: of their text, of a statement, of operands and values, and
+/// labels that stand before already. It fails where memory is refused.
 pub fn judge(alloc: Global, source: &[u8]) -> Result<Result<Image, Faults>, AllocError>
-    ensures { IfOk result (λ judged. MatchResult judged (λ image. source_image source.now ≡ Ok image) (AreTold source.now)) }
+    ensures { IfOk result
+        (λ judged. MatchResult judged (λ image. source_image source.now ≡ Ok image) (AreTold source.now)) }
 {
     match assemble(alloc, source) {
         Ok(image) => Ok(Ok(image)),

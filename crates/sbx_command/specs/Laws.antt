@@ -13,5 +13,6 @@ SourcesAreSafe = (source : List ℕ) (parts : Parts) → source_image source ≡
     → (reading (spelling parts) ≡ Ok parts) × (Checked parts → FlatSafe parts)
 
 abbrev pub KnownInputsAreAnswered : Type 0
-KnownInputsAreAnswered = (windows : ℕ) (bytes input : List ℕ) (input_now old new : Option (List ℕ)) (status : ℕ) → AreBytes input
+KnownInputsAreAnswered = (windows : ℕ) (bytes input : List ℕ) (input_now old new : Option (List ℕ)) (status : ℕ) →
+    AreBytes input
     → Ran windows (Some bytes) (Some input) input_now old new status → RanOnWhole windows bytes input old new status

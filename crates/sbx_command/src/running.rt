@@ -41,9 +41,9 @@ fn run_through<I: Read, O: Write>(
     }
 }
 
-/// Verifies the image of a file and runs it on the input, on so many windows. A byte is read where the program asks for one, and what
-/// it puts out is written before it puts out more or a byte is read, and at latest some thousands of turns later; nothing of either is
-/// kept. The status is 0, or 1 where the exit word is another.
+/// Verifies the image of a file and runs it on the input, on so many windows. A byte is read where the program asks for
+/// one, and what it puts out is written before it puts out more or a byte is read, and at latest some thousands of
+/// turns later; nothing of either is kept. The status is 0, or 1 where the exit word is another.
 pub fn run_file<F: Read, I: Read, O: Write>(
     alloc: Global,
     windows: Windows,

@@ -25,8 +25,8 @@ fn stream_on<const N: usize, I: Read, O: Write>(
     run_stream::<N, I, O>(alloc, accepted, input, out)
 }
 
-/// Runs an accepted image over a reader and a writer, on so many windows, as `run_stream` does. Each count is a machine of its
-/// own.
+/// Runs an accepted image over a reader and a writer, on so many windows, as `run_stream` does. Each count is a machine
+/// of its own.
 pub fn stream_windows<I: Read, O: Write>(
     alloc: Global,
     windows: Windows,

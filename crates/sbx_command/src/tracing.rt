@@ -60,7 +60,8 @@ fn trace_windows<O: Write>(
     on_windows!(count, trace_on [O] (alloc, count, image, input, limit, out), 4 to 32)
 }
 
-/// Writes the trace of an image on the input, which is read whole before the run, on so many windows, up to so many turns.
+/// Writes the trace of an image on the input, which is read whole before the run, on so many windows, up to so many
+/// turns.
 fn trace_image<I: Read, O: Write>(
     alloc: Global,
     windows: Windows,
@@ -72,7 +73,8 @@ fn trace_image<I: Read, O: Write>(
     ensures traced { OnOk result (OfSpelled image.now (λ file. Traced windows limit file (I.remaining input.old)
         (O.contents out.old) (O.contents out.new))) }
     ensures stop { IfErr result IsOfTrace }
-    ensures left { IfErr result (λ stop. OfSpelled image.now (λ file. TraceLeft windows limit file (I.remaining input.old)
+    ensures left { IfErr result
+        (λ stop. OfSpelled image.now (λ file. TraceLeft windows limit file (I.remaining input.old)
         (O.contents out.old) (O.contents out.new) stop)) }
 {
     let bytes = input_of(alloc, input)?;
@@ -82,8 +84,8 @@ fn trace_image<I: Read, O: Write>(
     }
 }
 
-/// Writes the trace of the image of a file on the input, on so many windows, up to so many turns. The input is read whole before
-/// the run.
+/// Writes the trace of the image of a file on the input, on so many windows, up to so many turns. The input is read
+/// whole before the run.
 pub fn trace_file<F: Read, I: Read, O: Write>(
     alloc: Global,
     windows: Windows,

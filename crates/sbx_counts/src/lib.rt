@@ -1,10 +1,10 @@
 //! Counts of windows, each of which is a machine of its own.
 #![tactic(auto)]
 
-/// What a function gives on as many windows as a number says, which is one of the counts from the first to the last. Its first
-/// parameter is the count; the others stand in square brackets, and its arguments behind them:
-/// `on_windows!(windows, run_on [P] (alloc, progress), 4 to 10)`. A function costs its proof by its ways out, so that one whose
-/// calls have much to prove takes few counts.
+/// What a function gives on as many windows as a number says, which is one of the counts from the first to the last.
+/// Its first parameter is the count; the others stand in square brackets, and its arguments behind them:
+/// `on_windows!(windows, run_on [P] (alloc, progress), 4 to 10)`. A function costs its proof by its ways out, so that
+/// one whose calls have much to prove takes few counts.
 #[macro_export]
 macro_rules! on_windows {
     ($windows:ident, $call:ident $kinds:tt $given:tt, 4 to 10) => {

@@ -33,11 +33,14 @@ term_line t = codes ".term " ++ (location_text t.location ++ (codes "," ++ (sign
 
 -- its cells, its fuel and the fuel's terms
 abbrev pub block_lines : Block → List ℕ
-block_lines b = flat_map cell_line b.cells ++ (codes ".fuel " ++ (signed_decimal b.fuel ++ line_end)) ++ flat_map term_line b.terms
+block_lines b =
+    flat_map cell_line b.cells ++ (codes ".fuel " ++ (signed_decimal b.fuel ++ line_end)) ++ flat_map term_line b.terms
 
 -- block k of function n
 abbrev pub block_head : ℕ → ℕ → Block → List ℕ
-block_head n k b = codes "\n! " ++ (word_text b.address ++ (codes "\n.block f" ++ (decimal n ++ (codes "_b" ++ (decimal k ++ line_end)))))
+block_head n k b =
+    codes "\n! " ++
+    (word_text b.address ++ (codes "\n.block f" ++ (decimal n ++ (codes "_b" ++ (decimal k ++ line_end)))))
 
 -- the first block begins with its function
 abbrev pub block_text : ℕ → ℕ → Block → List ℕ
@@ -60,15 +63,20 @@ abbrev pub result_line : Range → List ℕ
 result_line r = codes ".result " ++ (bounds_text r ++ line_end)
 
 abbrev pub function_head : ℕ → Function → List ℕ
-function_head n f = codes "\n! " ++ (word_text f.entry ++ (codes "\n.function f" ++ (decimal n ++ (codes "," ++ (kind_text f.kind
-    ++ (codes "," ++ (decimal f.frame ++ (codes "," ++ (decimal f.stack_room ++ (codes "," ++ (decimal f.budget ++ line_end)))))))))))
+function_head n f =
+    codes "\n! " ++ (word_text f.entry ++ (codes "\n.function f" ++ (decimal n ++ (codes "," ++ (kind_text f.kind
+    ++ (codes ","
+    ++ (decimal f.frame
+    ++ (codes "," ++ (decimal f.stack_room ++ (codes "," ++ (decimal f.budget ++ line_end)))))))))))
 
 -- version 3 tells the depth of each function, also one of 0
 abbrev pub depth_line : ℕ → ℕ → List ℕ
 depth_line version depth = if version == 3 then codes ".depth " ++ (decimal depth ++ line_end) else []
 
 abbrev pub function_text : ℕ → ℕ → Function → List ℕ
-function_text version n f = function_head n f ++ depth_line version f.depth ++ flat_map param_line f.params ++ flat_map result_line f.results ++ blocks_text n f.blocks
+function_text version n f =
+    function_head n f ++ depth_line version f.depth ++ flat_map param_line f.params ++ flat_map result_line f.results
+    ++ blocks_text n f.blocks
 
 abbrev pub functions_text : ℕ → List Function → List ℕ
 functions_text version functions = numbered (function_text version) 0 functions
@@ -98,7 +106,10 @@ right_text false = codes "ro"
 
 -- where a region begins, how many bytes it has, and whether the program may write them
 abbrev pub region_lines : Placed → List ℕ
-region_lines r = codes "\n! " ++ (word_text r.address ++ (codes ", bytes: " ++ (decimal (length r.bytes) ++ (codes "\n.region " ++ (right_text r.writable ++ line_end)))))
+region_lines r =
+    codes "\n! " ++
+    (word_text r.address
+    ++ (codes ", bytes: " ++ (decimal (length r.bytes) ++ (codes "\n.region " ++ (right_text r.writable ++ line_end)))))
 
 -- version 1 tells no more of its data
 abbrev pub regions_text : ℕ → List Region → List ℕ
@@ -108,4 +119,5 @@ regions_text version regions = if version == 1 then [] else flat_map region_line
 
 abbrev pub image_text : Parts → List ℕ
 image_text parts =
-    services_line parts.services.0 ++ sizes_lines parts.stack_pages (length parts.words) (byte_count parts.regions) ++ regions_text parts.version parts.regions ++ functions_text parts.version parts.functions
+    services_line parts.services.0 ++ sizes_lines parts.stack_pages (length parts.words) (byte_count parts.regions)
+    ++ regions_text parts.version parts.regions ++ functions_text parts.version parts.functions

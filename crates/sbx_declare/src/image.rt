@@ -2,7 +2,10 @@
 ghost use Rattle.std.specs.Prelude.{◌≡◌, ◌≤◌, ◌++◌, length, OnOk, string_bytes};
 ghost use Rattle.std.specs.List.{flat_map};
 ghost use Rattle.sbx_image.specs.Regions.{page_rights, placed};
-ghost use Rattle.sbx_declare.specs.Images.{block_head, block_lines, block_text, blocks_text, cell_line, depth_line, function_head, function_text, functions_text, image_text, kind_text, param_line, region_lines, regions_text, result_line, right_text, services_line, sizes_lines, term_line};
+ghost use Rattle.sbx_declare.specs.Images.{block_head, block_lines, block_text, blocks_text, cell_line, depth_line};
+ghost use Rattle.sbx_declare.specs.Images.{function_head, function_text, functions_text, image_text, kind_text};
+ghost use Rattle.sbx_declare.specs.Images.{param_line, region_lines, regions_text, result_line, right_text};
+ghost use Rattle.sbx_declare.specs.Images.{services_line, sizes_lines, term_line};
 
 use crate::names::{Bounds, Location};
 use sbx_image::{Block, Cell, Function, Image, Kind, Range, Region, Services, Term, behind};
@@ -202,7 +205,10 @@ fn right_name(writable: bool) -> &'static str
 
 /// A region that begins at an address.
 fn push_region(out: &mut String, start: u32, region: &Region) -> Result<(), AllocError>
-    ensures { OnOk result (string_bytes out.new ≡ string_bytes out.old ++ region_lines (record { address = start; bytes = region.now.bytes; writable = region.now.writable })) }
+    ensures { OnOk result
+        (string_bytes out.new ≡
+        string_bytes out.old
+        ++ region_lines (record { address = start; bytes = region.now.bytes; writable = region.now.writable })) }
 {
     let bytes = region.bytes.len();
     let right = right_name(region.writable);
@@ -233,9 +239,10 @@ fn push_regions(out: &mut String, version: u16, regions: &[Region]) -> Result<()
     }
 }
 
-/// What an image declares, as its source would: services, pages of stack, the regions of version 2 or 3, and of each function kind, frame, stack room, budget,
-/// in version 3 its depth, parameters, results and blocks, each with its cells and fuel. Names aren't kept in an image: `f2` is function 2, and `f2_b3` its
-/// block 3, both counted from 0. Addresses and sizes stand in comments.
+/// What an image declares, as its source would: services, pages of stack, the regions of version 2 or 3, and of each
+/// function kind, frame, stack room, budget, in version 3 its depth, parameters, results and blocks, each with its
+/// cells and fuel. Names aren't kept in an image: `f2` is function 2, and `f2_b3` its block 3, both counted from 0.
+/// Addresses and sizes stand in comments.
 pub fn push_image(out: &mut String, image: &Image) -> Result<(), AllocError>
     ensures { OnOk result (string_bytes out.new ≡ string_bytes out.old ++ image_text image.now) }
 {

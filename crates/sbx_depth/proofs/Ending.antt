@@ -25,7 +25,26 @@ out_word : (n : ℕ) → (if n == 14 then stack_start else 0) < 2 ^ 32
 out_word n = grind (arith, nat_tests)
 
 starts : (parts : Parts) (input : List ℕ) → IsStart parts input (calm_start parts input)
-starts parts input = record { pc = refl; npc = refl; annulled = refl; icc = refl; y = omega arith; one_frame = refl; base = refl; slots = λ a. refl; globals = λ n. omega arith; locals = λ n. omega arith; outs = out_word; ins = λ n. omega arith; memory = λ a. refl; input = refl; output = refl; exit = refl }
+starts parts input =
+    record {
+      pc = refl;
+      npc = refl;
+      annulled = refl;
+      icc = refl;
+      y = omega arith;
+      one_frame = refl;
+      base = refl;
+      slots = λ a. refl;
+      globals =
+          λ n. omega arith;
+      locals = λ n. omega arith;
+      outs = out_word;
+      ins = λ n. omega arith;
+      memory = λ a. refl;
+      input = refl;
+      output = refl;
+      exit = refl;
+    }
 
 module _ (parts : Parts) (input output : List ℕ) (status : ℕ) (path : List Place) (behaves : Behaves parts input output status path) where
   abbrev Ends : Type 0

@@ -112,7 +112,13 @@ loop_typed : IsTypedBlock (record { address = 0x40008; fuel = pos 4; cells = cel
 loop_typed = record { address = omega arith; fuel = record { sfits = omega arith }; cells = (range_typed 1 1000 (omega arith) (omega arith), tt); terms = (record { sfits = omega arith }, tt) }
 
 body_typed : IsTypedBlock (record { address = 0x40018; fuel = negsuc 3; cells = cell 8 (pos 0) (pos 255) ∷ cell 16 (pos 1) (pos 1000) ∷ []; terms = sixteen_turns })
-body_typed = record { address = omega arith; fuel = record { sfits = omega arith }; cells = (range_typed 0 255 (omega arith) (omega arith), (range_typed 1 1000 (omega arith) (omega arith), tt)); terms = (record { sfits = omega arith }, tt) }
+body_typed = record {
+  address = omega arith;
+  fuel = record { sfits = omega arith };
+  cells =
+      (range_typed 0 255 (omega arith) (omega arith), (range_typed 1 1000 (omega arith) (omega arith), tt));
+  terms = (record { sfits = omega arith }, tt);
+}
 
 abbrev are_small : List ℕ → Bool
 are_small [] = true

@@ -6,13 +6,16 @@ use Rattle.v8_meaning.specs.Admitted.{is_admitted}
 use Rattle.v8_meaning.specs.Operands.{address}
 use Rattle.v8_meaning.specs.Transfers.{bytes_in, received, sent, size_of, writes_memory}
 use Rattle.v8_meaning.specs.declared.operation.Operation.{Operation}
-use Rattle.v8_meaning.specs.declared.operation.Operation.TheVariants.{Compute, Divide, TaggedTrap, SetHigh, ReadY, WriteY, ReadState, WriteState, Save, Restore, Call, BranchOnCondition, JumpAndLink, ReturnFromTrap, TrapOnCondition, Nothing, Illegal, FloatingPoint, Coprocessor}
+use Rattle.v8_meaning.specs.declared.operation.Operation.TheVariants.{Compute, Divide, TaggedTrap, SetHigh, ReadY, WriteY, ReadState, WriteState, Save, Restore}
+use Rattle.v8_meaning.specs.declared.operation.Operation.TheVariants.{Call, BranchOnCondition, JumpAndLink, ReturnFromTrap, TrapOnCondition, Nothing, Illegal}
+use Rattle.v8_meaning.specs.declared.operation.Operation.TheVariants.{FloatingPoint, Coprocessor}
 use Rattle.v8_meaning.specs.declared.operation.Operation.TheVariants as operation
 use Rattle.v8_meaning.specs.declared.operation.Transfer.{Transfer}
 use Rattle.v8_alu.specs.Outcomes.{outcome, division_of, tagged_outcome}
 use Rattle.sbx_image.specs.Parts.{Parts}
 use Rattle.sbx_image.specs.Services.{Services}
-use Rattle.sbx_flat.specs.Effects.{address_in, declares, does, found, gets, high_word, is_base, is_stack_pointer, leaves_in_data, leaves_in_slot, operand_value, performs, restores, served, serves, service_of, slot_of, takes, transfers_data, transfers_in, with_regs, writes, writes_some}
+use Rattle.sbx_flat.specs.Effects.{address_in, declares, does, found, gets, high_word, is_base, is_stack_pointer, leaves_in_data, leaves_in_slot, operand_value}
+use Rattle.sbx_flat.specs.Effects.{performs, restores, served, serves, service_of, slot_of, takes, transfers_data, transfers_in, with_regs, writes, writes_some}
 use Rattle.sbx_flat.specs.Memory.{with_number}
 use Rattle.sbx_flat.specs.Registers.{Frame, Fresh, Registers, Words, popped, pushed, with_in, with_slot, written}
 use Rattle.sbx_flat.specs.declared.path.Wrong.{Wrong}
@@ -101,9 +104,11 @@ module _ (count : ℕ) where
 -- ---- frames
 
 saved_frames : (parts : Parts) (fresh : Fresh) (rd b : ℕ) (s : State)
-    → Comes (λ next. (above next ≡ suc (above s)) × (next.exit ≡ s.exit)) (if (rd == 14) && is_base parts (reg s 14) b then Goes (advanced (record s { registers = pushed fresh b s.registers })) else Fails BadFrame)
+    → Comes (λ next. (above next ≡ suc (above s)) × (next.exit ≡ s.exit))
+    (if (rd == 14) && is_base parts (reg s 14) b then Goes (advanced (record s { registers = pushed fresh b s.registers })) else Fails BadFrame)
 saved_frames parts fresh rd b s =
-    pick (Comes (λ next. (above next ≡ suc (above s)) × (next.exit ≡ s.exit))) ((rd == 14) && is_base parts (reg s 14) b) (Goes (advanced (record s { registers = pushed fresh b s.registers }))) (Fails BadFrame)
+    pick (Comes (λ next. (above next ≡ suc (above s)) × (next.exit ≡ s.exit))) ((rd == 14) && is_base parts (reg s 14) b)
+    (Goes (advanced (record s { registers = pushed fresh b s.registers }))) (Fails BadFrame)
     (λ e. (refl, refl)) (λ e. tt)
 
 one_less : (globals : Words) (newest : Frame) (older : List Frame) (oldest : Words) (left : Registers) →
@@ -136,7 +141,8 @@ does_frames parts fresh (ReadY rd) s = writes_keeps (above s) rd s.y s refl
 does_frames parts fresh (WriteY f) s = refl
 does_frames parts fresh (operation.Transfer t m) s =
     let a = address_in s m in
-    pick (Comes (λ next. above next ≡ above s)) (a % bytes_in (size_of t) == 0) (transfers_in parts t m.rd a (slot_of t s a) s) (Fails Misaligned) (λ e. transfer_keeps (above s) parts t m.rd a (slot_of t s a) s refl) (λ e. tt)
+    pick (Comes (λ next. above next ≡ above s)) (a % bytes_in (size_of t) == 0) (transfers_in parts t m.rd a (slot_of t s a) s) (Fails Misaligned)
+    (λ e. transfer_keeps (above s) parts t m.rd a (slot_of t s a) s refl) (λ e. tt)
 does_frames parts fresh (Save f) s = saved_frames parts fresh f.rd (address (reg s) f.rs1 f.operand2) s
 does_frames parts fresh (Restore f) s = restored_frames f.rd (address (reg s) f.rs1 f.operand2) (popped s.registers) s refl
 does_frames parts fresh (Call displacement) s = written_keeps 15 s.pc (above s) s.registers refl

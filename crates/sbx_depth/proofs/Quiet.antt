@@ -85,7 +85,8 @@ calm_moved n most true o s next t enough moved low calm = record { windows = cal
 calm_moved n most false None s next t enough moved low calm = record { windows = calm.windows ∙ ap suc (sym moved); overflows = calm.overflows; underflows = calm.underflows }
 calm_moved n most false (Some word) s next t enough moved low calm = calm_after n most (asked word) s next t enough moved low calm
 
-calm_place : (parts : Parts) (n most : ℕ) (s next : State) (t : Traffic) → most + 2 ≤ n → Moved s.annulled (word_at parts.words s.pc) s next → Low most next → Calm s t → Calm next (after_place parts n (place_of parts s) t)
+calm_place : (parts : Parts) (n most : ℕ) (s next : State) (t : Traffic) → most + 2 ≤ n → Moved s.annulled (word_at parts.words s.pc) s next → Low most next →
+    Calm s t → Calm next (after_place parts n (place_of parts s) t)
 unfolding after_place place_of
 calm_place parts n most s next t enough moved low calm = calm_moved n most s.annulled (word_at parts.words s.pc) s next t enough moved low calm
 

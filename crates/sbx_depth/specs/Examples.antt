@@ -26,7 +26,8 @@ callers (suc n) f = framed (code_start + 20 * f) (96 * (n + 2)) (57 + 53 * (n + 
 
 abbrev pub chain : Parts
 chain = image_of
-    (0x9DE3BFA0 ∷ 0x40000004 ∷ 0x01000000 ∷ 0x90102000 ∷ 0x91D02000 ∷ calling_words 38 (0x9DE3BFA0 ∷ 0x90102021 ∷ 0x91D02002 ∷ 0x81C7E008 ∷ 0x81E80000 ∷ []))
+    (0x9DE3BFA0 ∷ 0x40000004 ∷ 0x01000000 ∷ 0x90102000 ∷ 0x91D02000
+    ∷ calling_words 38 (0x9DE3BFA0 ∷ 0x90102021 ∷ 0x91D02002 ∷ 0x81C7E008 ∷ 0x81E80000 ∷ []))
     (framed code_start 3840 2102 ∷ callers 38 1)
 
 -- ---- the places of its run: the words by number

@@ -11,8 +11,8 @@ use Rattle.sbx_rules.specs.Places.{IsPlace, callee_at}
 use Rattle.sbx_rules.specs.Verdicts.{Checked}
 use Rattle.sbx_sound.specs.Law.{IsFormed}
 
--- A depth for each function, by its number: a framed function's is at least 1, which is said at its entry, and at each CALL the
--- caller's is at least 1 plus the callee's, a leaf's too.
+-- A depth for each function, by its number: a framed function's is at least 1, which is said at its entry, and at each
+-- CALL the caller's is at least 1 plus the callee's, a leaf's too.
 pub record Deep (parts : Parts) (depth : ℕ → ℕ) : Type 0 where
   pub framed : (f : ℕ) → IsPlace parts f 0 0 → is_framed (function_at parts f).kind ≡ true → 1 ≤ depth f
   pub calls : (f b i g : ℕ) → IsPlace parts f b i → callee_at parts f b i ≡ Some g → depth g + 1 ≤ depth f
@@ -24,7 +24,8 @@ DepthBoundsFrames =
     → (input : List ℕ) (path : List Place) (s : State) → AreBytes input → FlatRun parts input path s
     → length s.registers.older ≤ depth 0
 
--- With a window for each of these frames, one for the first and one that is kept free, none overflows and none underflows.
+-- With a window for each of these frames, one for the first and one that is kept free, none overflows and none
+-- underflows.
 abbrev pub DepthBoundsTraffic : Type 0
 DepthBoundsTraffic =
     (parts : Parts) (depth : ℕ → ℕ) → IsFormed parts → Checked parts → Deep parts depth
@@ -47,8 +48,8 @@ declared parts f = (function_at parts f).depth
 abbrev pub DeclaredDepthsHold : Type 0
 DeclaredDepthsHold = (parts : Parts) → Checked parts → parts.version ≡ 3 → Deep parts (declared parts)
 
--- An image of version 3 needs no more windows than two beyond the depth of its first function: no run that ends overflows one or
--- underflows one where there are so many, or more.
+-- An image of version 3 needs no more windows than two beyond the depth of its first function: no run that ends
+-- overflows one or underflows one where there are so many, or more.
 abbrev pub DepthIsEnough : Parts → Type 0
 DepthIsEnough parts =
     parts.version ≡ 3 → (n : ℕ) → declared parts 0 + 2 ≤ n → (input output : List ℕ) (status : ℕ) (path : List Place) → AreBytes input → Behaves parts input output status path

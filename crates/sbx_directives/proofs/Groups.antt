@@ -14,15 +14,18 @@ behind_groups line [] = []
 behind_groups line (t ∷ ts) = slice_split is_comma (words_of line ts)
 
 step : (line : List ℕ) (t : Token) (ts : List Token) (c : Bool) → is_comma (word_of line t) ≡ c
-    → slice_split is_comma (words_of line ts) ≡ words_of line (take (prefix_len (λ u. not (is_comma (word_of line u))) ts) ts) ∷ behind_groups line (drop (prefix_len (λ u. not (is_comma (word_of line u))) ts) ts)
-    → slice_split is_comma (words_of line (t ∷ ts)) ≡ words_of line (take (prefix_len (λ u. not (is_comma (word_of line u))) (t ∷ ts)) (t ∷ ts)) ∷ behind_groups line (drop (prefix_len (λ u. not (is_comma (word_of line u))) (t ∷ ts)) (t ∷ ts))
+    → slice_split is_comma (words_of line ts) ≡ words_of line (take (prefix_len (λ u. not (is_comma (word_of line u))) ts) ts)
+    ∷ behind_groups line (drop (prefix_len (λ u. not (is_comma (word_of line u))) ts) ts)
+    → slice_split is_comma (words_of line (t ∷ ts)) ≡ words_of line (take (prefix_len (λ u. not (is_comma (word_of line u))) (t ∷ ts)) (t ∷ ts))
+    ∷ behind_groups line (drop (prefix_len (λ u. not (is_comma (word_of line u))) (t ∷ ts)) (t ∷ ts))
 step line t ts true e h = rw e refl
 step line t ts false e h =
     let k : 1 + prefix_len (λ u. not (is_comma (word_of line u))) ts ≡ suc (prefix_len (λ u. not (is_comma (word_of line u))) ts) = omega arith in
     rw (e, h, k) refl
 
 split_groups : (line : List ℕ) (ts : List Token)
-    → slice_split is_comma (words_of line ts) ≡ words_of line (take (prefix_len (λ u. not (is_comma (word_of line u))) ts) ts) ∷ behind_groups line (drop (prefix_len (λ u. not (is_comma (word_of line u))) ts) ts)
+    → slice_split is_comma (words_of line ts) ≡ words_of line (take (prefix_len (λ u. not (is_comma (word_of line u))) ts) ts)
+    ∷ behind_groups line (drop (prefix_len (λ u. not (is_comma (word_of line u))) ts) ts)
 split_groups line [] = refl
 split_groups line (t ∷ ts) = step line t ts (is_comma (word_of line t)) refl (split_groups line ts)
 

@@ -1,5 +1,6 @@
 -- The values of a data directive as bytes.
-use Rattle.std.specs.Prelude.{◌≡◌, ◌≢◌, ℕ, ◌-◌, ◌*◌, ◌^◌, Bool, false, not, if◌then◌else◌, ℤ, pos, ◌+ℤ◌, neg_ℤ, List, [], ◌++◌, drop, Option, Some, None, Result, Ok, Err, MatchResult}
+use Rattle.std.specs.Prelude.{◌≡◌, ◌≢◌, ℕ, ◌-◌, ◌*◌, ◌^◌, Bool, false, not, if◌then◌else◌, ℤ, pos, ◌+ℤ◌, neg_ℤ, List}
+use Rattle.std.specs.Prelude.{[], ◌++◌, drop, Option, Some, None, Result, Ok, Err, MatchResult}
 use Rattle.std.specs.List.{flat_map, list_all}
 use Rattle.std.specs.Int.{w8, w16, w32, to_be_bytes}
 use Rattle.std.specs.Option.{is_some, is_none, option_map, option_map_or}
@@ -43,10 +44,12 @@ module _ (values : List ℕ → Option ℕ) (line : List ℕ) where
   abbrev pub bytes_of : Width → Operand → List ℕ
   bytes_of width o = option_map_or (spelled width) (value_of o) []
 
-  -- why expressions have no bytes, where they have none: an unknown symbol anywhere is told before a value that does not fit
+  -- why expressions have no bytes, where they have none: an unknown symbol anywhere is told before a value that does
+  -- not fit
   abbrev pub misfit : Width → List Operand → Option DataFault
   misfit width os =
-      if not (list_all is_known os) then Some DataFault.UnknownSymbol else (if not (list_all (is_fit width) os) then Some DataFault.Malformed else None)
+      if not (list_all is_known os) then Some DataFault.UnknownSymbol
+      else (if not (list_all (is_fit width) os) then Some DataFault.Malformed else None)
 
   unfoldable pub listed : Width → List Operand → Result (List ℕ) DataFault
   listed width os =
@@ -61,4 +64,6 @@ module _ (values : List ℕ → Option ℕ) (line : List ℕ) where
 
 -- what a call gives is this, but want of memory may stand in the place of any answer
 abbrev pub Gives : Result (Unit {0}) DataFault → List ℕ → List ℕ → Result (List ℕ) DataFault → Type 0
-Gives result old new meant = MatchResult result (λ _. (bytes : List ℕ) × (meant ≡ Ok bytes) × (new ≡ old ++ bytes)) (λ e. (e ≢ DataFault.Memory refused → meant ≡ Err e) × (new ≡ old))
+Gives result old new meant =
+    MatchResult result (λ _. (bytes : List ℕ) × (meant ≡ Ok bytes) × (new ≡ old ++ bytes))
+    (λ e. (e ≢ DataFault.Memory refused → meant ≡ Err e) × (new ≡ old))

@@ -1,5 +1,7 @@
--- Lines of source but their instructions: the labels, the operands of a directive by shape, and what each directive and annotation asks for.
-use Rattle.std.specs.Prelude.{ℕ, suc, ◌+◌, ◌==◌, Bool, true, false, nat_le, ◌&&◌, ◌||◌, if◌then◌else◌, ℤ, pos, negsuc, neg_ℤ, int_le, List, [], ◌∷◌, length, map, Option, Some, None, codes}
+-- Lines of source but their instructions: the labels, the operands of a directive by shape, and what each directive and
+-- annotation asks for.
+use Rattle.std.specs.Prelude.{ℕ, suc, ◌+◌, ◌==◌, Bool, true, false, nat_le, ◌&&◌, ◌||◌, if◌then◌else◌, ℤ, pos, negsuc}
+use Rattle.std.specs.Prelude.{neg_ℤ, int_le, List, [], ◌∷◌, length, map, Option, Some, None, codes}
 use Rattle.std.specs.Str.{bytes_eq}
 use Rattle.std.specs.List.{list_any, list_all, slice_split}
 use Rattle.std.specs.Option.{option_map_or}
@@ -7,7 +9,8 @@ use Rattle.sbx_text.specs.declared.Token.{Token}
 use Rattle.v8_syntax.specs.declared.word.Word.{Word}
 use Rattle.v8_syntax.specs.Statements.{beside, bytes_between, word_of, words_of}
 use Rattle.sbx_image.specs.{Kind.Kind, Range.Range, Rules.is_coefficient, Services.Services}
-use Rattle.sbx_directives.specs.declared.directive.{Name.Name, Width.Width, Keyword.Keyword, Directive.Directive, Statement.Statement}
+use Rattle.sbx_directives.specs.declared.directive.{Name.Name, Width.Width, Keyword.Keyword, Directive.Directive}
+use Rattle.sbx_directives.specs.declared.directive.{Statement.Statement}
 use Rattle.sbx_directives.specs.declared.operand.Operand.{Operand}
 
 -- the bytes of a name
@@ -70,7 +73,8 @@ natural_in low high _ = None
 -- `LO,HI,AL`: signed words from lo to hi that are multiples of 2 to the power al
 unfoldable pub range_of : List Operand → Option Range
 range_of (a ∷ b ∷ c ∷ []) =
-    integer_in (negsuc 2147483647) (pos 2147483647) a >>= λ lo. integer_in (negsuc 2147483647) (pos 2147483647) b >>= λ hi.
+    integer_in (negsuc 2147483647) (pos 2147483647) a >>= λ lo. integer_in (negsuc 2147483647)
+    (pos 2147483647) b >>= λ hi.
     natural_in 0 3 c >>= λ alignment.
     (if int_le lo hi then Some (record { lo = lo; hi = hi; alignment = alignment }) else None)
 range_of _ = None
@@ -97,10 +101,14 @@ location line _ = None
 -- the directives and annotations by their names
 unfoldable pub named_keywords : List (List ℕ × Keyword)
 named_keywords =
-    (codes ".text", Keyword.Text) ∷ (codes ".data", Keyword.Data) ∷ (codes ".region", Keyword.Region) ∷ (codes ".services", Keyword.Services)
-    ∷ (codes ".stack", Keyword.Stack) ∷ (codes ".function", Keyword.Function) ∷ (codes ".param", Keyword.Param) ∷ (codes ".result", Keyword.Result)
-    ∷ (codes ".depth", Keyword.Depth) ∷ (codes ".block", Keyword.Block) ∷ (codes ".cell", Keyword.Cell) ∷ (codes ".fuel", Keyword.Fuel)
-    ∷ (codes ".term", Keyword.Term) ∷ (codes ".word", Keyword.Word) ∷ (codes ".half", Keyword.Half) ∷ (codes ".byte", Keyword.Byte)
+    (codes ".text", Keyword.Text) ∷ (codes ".data", Keyword.Data) ∷ (codes ".region", Keyword.Region)
+    ∷ (codes ".services", Keyword.Services)
+    ∷ (codes ".stack", Keyword.Stack) ∷ (codes ".function", Keyword.Function) ∷ (codes ".param", Keyword.Param)
+    ∷ (codes ".result", Keyword.Result)
+    ∷ (codes ".depth", Keyword.Depth) ∷ (codes ".block", Keyword.Block) ∷ (codes ".cell", Keyword.Cell)
+    ∷ (codes ".fuel", Keyword.Fuel)
+    ∷ (codes ".term", Keyword.Term) ∷ (codes ".word", Keyword.Word) ∷ (codes ".half", Keyword.Half)
+    ∷ (codes ".byte", Keyword.Byte)
     ∷ (codes ".skip", Keyword.Skip) ∷ (codes ".align", Keyword.Align) ∷ []
 
 -- the keyword of a name
@@ -113,7 +121,8 @@ names wanted line o = option_map_or (λ x. bytes_eq (text_of line x) wanted) (pl
 
 -- `leaf` or `framed`
 abbrev pub frames_of : List ℕ → Operand → Option Kind
-frames_of line o = plain_name o >>= λ x. beside (text_of line x) ((codes "leaf", Kind.Leaf) ∷ (codes "framed", Kind.Framed) ∷ [])
+frames_of line o =
+    plain_name o >>= λ x. beside (text_of line x) ((codes "leaf", Kind.Leaf) ∷ (codes "framed", Kind.Framed) ∷ [])
 
 -- `ro` or `rw`: whether the program may write
 abbrev pub right_of : List ℕ → Operand → Option Bool
@@ -161,28 +170,37 @@ directive_of line Keyword.Param os = range_of os >>= λ r. Some (Directive.Param
 directive_of line Keyword.Result os = range_of os >>= λ r. Some (Directive.Result r)
 directive_of line Keyword.Depth (o ∷ []) = natural_in 0 256 o >>= λ n. Some (Directive.Depth n)
 directive_of line Keyword.Block (o ∷ []) = plain_name o >>= λ x. Some (Directive.Block x)
-directive_of line Keyword.Cell (o ∷ os) = location line o >>= λ place. range_of os >>= λ r. Some (Directive.Cell (record { location = place; range = r }))
-directive_of line Keyword.Fuel (o ∷ []) = integer_in (negsuc 1099511627774) (pos 1099511627775) o >>= λ z. Some (Directive.Fuel z)
-directive_of line Keyword.Term (o ∷ p ∷ []) = location line o >>= λ place. coefficient p >>= λ z. Some (Directive.Term (record { location = place; coefficient = z }))
+directive_of line Keyword.Cell (o ∷ os) =
+    location line o >>= λ place. range_of os >>= λ r. Some (Directive.Cell (record { location = place; range = r }))
+directive_of line Keyword.Fuel (o ∷ []) =
+    integer_in (negsuc 1099511627774) (pos 1099511627775) o >>= λ z. Some (Directive.Fuel z)
+directive_of line Keyword.Term (o ∷ p ∷ []) =
+    location line o >>= λ place. coefficient p >>= λ z. Some
+    (Directive.Term (record { location = place; coefficient = z }))
 directive_of line Keyword.Word os = value_count os >>= λ n. Some (Directive.Values Width.Word n)
 directive_of line Keyword.Half os = value_count os >>= λ n. Some (Directive.Values Width.Half n)
 directive_of line Keyword.Byte os = value_count os >>= λ n. Some (Directive.Values Width.Byte n)
 directive_of line Keyword.Skip (o ∷ []) = natural_in 0 18446744073709551615 o >>= λ n. Some (Directive.Skip n)
-directive_of line Keyword.Align (o ∷ []) = natural_in 2 8 o >>= λ n. if n == 2 || (n == 4 || n == 8) then Some (Directive.Align n) else None
+directive_of line Keyword.Align (o ∷ []) =
+    natural_in 2 8 o >>= λ n. if n == 2 || (n == 4 || n == 8) then Some (Directive.Align n) else None
 directive_of line _ _ = None
 
--- what a function or a block is called, whatever else stands there: the first word behind the keyword, where it is a name
+-- what a function or a block is called, whatever else stands there: the first word behind the keyword, where it is a
+-- name
 unfoldable pub called : Keyword → List Word → Option Name
 called Keyword.Function (Word.Name k i j ∷ ws) = Some (record { start = i; stop = j })
 called Keyword.Block (Word.Name k i j ∷ ws) = Some (record { start = i; stop = j })
 called _ _ = None
 
 abbrev pub told : List ℕ → Keyword → List Token → Statement
-told line k rest = option_map_or Statement.Directive (directive_of line k (operands_of line rest)) (Statement.Malformed k (called k (words_of line rest)))
+told line k rest =
+    option_map_or Statement.Directive (directive_of line k (operands_of line rest))
+    (Statement.Malformed k (called k (words_of line rest)))
 
 -- a name that is no directive's begins an instruction
 abbrev pub begun : List ℕ → Word → List Token → Statement
-begun line (Word.Name k start stop) rest = option_map_or (λ k. told line k rest) (keyword_named (bytes_between line start stop)) Statement.Instruction
+begun line (Word.Name k start stop) rest =
+    option_map_or (λ k. told line k rest) (keyword_named (bytes_between line start stop)) Statement.Instruction
 begun line _ rest = Statement.Instruction
 
 -- What the tokens behind the labels of a line ask for.

@@ -103,8 +103,8 @@ pub enum Statement {
     /// No token.
     Nothing,
     Directive(Directive),
-    /// A directive's name, but its operands have another shape, or a number passes its bound. What a `.function` or `.block` is
-    /// called stands beside it, where a name is the first token behind it: that is a label all the same.
+    /// A directive's name, but its operands have another shape, or a number passes its bound. What a `.function` or
+    /// `.block` is called stands beside it, where a name is the first token behind it: that is a label all the same.
     Malformed(Keyword, Option<Name>),
     /// Anything else: an instruction, or what is neither.
     Instruction,

@@ -1,6 +1,7 @@
 // Numbers, ranges and locations among the operands of a directive.
 ghost use Rattle.std.specs.Prelude.{◌≡◌, ◌≤◌, ◌+◌, ℕ, pos, negsuc, ◌≤ℤ◌, IfSome, [], ◌∷◌};
-ghost use Rattle.sbx_directives.specs.Directives.{integer_in, natural_in, range_of, coefficient, plain_name, slot, location, behind};
+ghost use Rattle.sbx_directives.specs.Directives.{integer_in, natural_in, range_of, coefficient, plain_name, slot};
+ghost use Rattle.sbx_directives.specs.Directives.{location, behind};
 
 use crate::directive::{Name, text_of};
 use crate::operand::{Operand, next_operand, one};

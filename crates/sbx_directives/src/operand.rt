@@ -105,7 +105,8 @@ fn group_len(line: &[u8], tokens: &[Token]) -> usize
 /// The next operand behind a first token, and the comma behind it with what follows.
 #[tactic(auto, using(crate::proofs::Groups::first_group))]
 pub fn next_operand<'t>(line: &[u8], tokens: &'t [Token]) -> Option<(Operand, &'t [Token])>
-    ensures cases { MatchOption result (behind line.now tokens.now ≡ []) (λ x. behind line.now tokens.now ≡ x.0 ∷ behind line.now x.1.now) }
+    ensures cases { MatchOption result (behind line.now tokens.now ≡ [])
+        (λ x. behind line.now tokens.now ≡ x.0 ∷ behind line.now x.1.now) }
     ensures fewer { IfSome result (λ x. length x.1.now < length tokens.now) }
 {
     let Some((_, rest)) = tokens.split_first() else {
@@ -117,7 +118,8 @@ pub fn next_operand<'t>(line: &[u8], tokens: &'t [Token]) -> Option<(Operand, &'
 
 /// No operand.
 pub fn none(line: &[u8], tokens: &[Token]) -> Option<()>
-    ensures { MatchOption result ((o : Operand) × (os : List Operand) × (behind line.now tokens.now ≡ o ∷ os)) (λ _. behind line.now tokens.now ≡ []) }
+    ensures { MatchOption result ((o : Operand) × (os : List Operand) × (behind line.now tokens.now ≡ o ∷ os))
+        (λ _. behind line.now tokens.now ≡ []) }
 {
     match next_operand(line, tokens) {
         Some(_) => None,
@@ -136,7 +138,8 @@ pub fn one(line: &[u8], tokens: &[Token]) -> Option<Operand>
     Some(operand)
 }
 
-/// What a directive's tokens have behind its name: nothing where the name is the last one, else operands between commas.
+/// What a directive's tokens have behind its name: nothing where the name is the last one, else operands between
+/// commas.
 pub fn operands(tokens: &[Token]) -> &[Token]
     ensures { (line : List ℕ) → behind line result.now ≡ operands_of line (drop 1 tokens.now) }
 {

@@ -3,7 +3,9 @@ ghost use Rattle.std.specs.Prelude.{◌≡◌, ◌≤◌, if◌then◌else◌, [
 ghost use Rattle.std.specs.List.{list_any, list_all};
 ghost use Rattle.v8_syntax.specs.Statements.{words_of};
 ghost use Rattle.sbx_directives.specs.declared.directive.Keyword.TheVariants as keywords;
-ghost use Rattle.sbx_directives.specs.Directives.{behind, names, frames_of, right_of, is_service, named_services, services_of, is_expression, value_count, directive_of, called, told, statement_of};
+ghost use Rattle.sbx_directives.specs.Directives.{behind, names, frames_of, right_of, is_service, named_services};
+ghost use Rattle.sbx_directives.specs.Directives.{services_of, is_expression, value_count, directive_of, called, told};
+ghost use Rattle.sbx_directives.specs.Directives.{statement_of};
 
 use crate::directive::{Directive, Keyword, Name, Statement, Width, text_of};
 use crate::keyword::keyword_named;
@@ -240,7 +242,8 @@ fn directive_of(line: &[u8], keyword: Keyword, tokens: &[Token]) -> Option<Direc
     }
 }
 
-/// What a function or a block is called, whatever else stands there: the first token behind the keyword, where it is a name.
+/// What a function or a block is called, whatever else stands there: the first token behind the keyword, where it is a
+/// name.
 #[tactic(auto, unfolding(crate::specs::Directives::called))]
 fn called(line: &[u8], keyword: Keyword, tokens: &[Token]) -> Option<Name>
     ensures { result ≡ called keyword (words_of line.now tokens.now) }
@@ -264,8 +267,8 @@ fn told(line: &[u8], keyword: Keyword, tokens: &[Token]) -> Statement
     }
 }
 
-/// What the tokens behind the labels of a line ask for. A name with a dot that is no directive's is an instruction here, which
-/// has no mnemonic.
+/// What the tokens behind the labels of a line ask for. A name with a dot that is no directive's is an instruction
+/// here, which has no mnemonic.
 #[tactic(auto, unfolding(crate::specs::Directives::statement_of))]
 pub fn read_statement(line: &[u8], tokens: &[Token]) -> Statement
     ensures { result ≡ statement_of line.now tokens.now }

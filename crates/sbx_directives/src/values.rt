@@ -1,10 +1,12 @@
 // The values of a data directive as bytes.
-ghost use Rattle.std.specs.Prelude.{◌≡◌, ◌++◌, ℕ, List, Option, pos, negsuc, ◌+ℤ◌, ◌≤ℤ◌, length, take, OnOk, OnErr, true};
+ghost use Rattle.std.specs.Prelude.{◌≡◌, ◌++◌, ℕ, List, Option, pos, negsuc, ◌+ℤ◌, ◌≤ℤ◌, length, take, OnOk, OnErr};
+ghost use Rattle.std.specs.Prelude.{true};
 ghost use Rattle.std.specs.List.{flat_map, list_all};
 ghost use Rattle.std.specs.Option.{option_map};
 ghost use Rattle.std.specs.Result.{result_err};
 ghost use Rattle.sbx_directives.specs.Directives.{behind};
-ghost use Rattle.sbx_directives.specs.Data.{bytes_of_width, fits, spelled, value_of, is_fit, bytes_of, misfit, data_of, Gives};
+ghost use Rattle.sbx_directives.specs.Data.{bytes_of_width, fits, spelled, value_of, is_fit, bytes_of, misfit, data_of};
+ghost use Rattle.sbx_directives.specs.Data.{Gives};
 
 use crate::directive::{Width, text_of};
 use crate::fault::DataFault;
@@ -62,7 +64,8 @@ fn value_of<S: Symbols>(symbols: &S, line: &[u8], operand: Operand) -> Option<i1
     }
 }
 
-/// Why the values behind a first token have no bytes, where they are expressions: one is unknown, or else one does not fit.
+/// Why the values behind a first token have no bytes, where they are expressions: one is unknown, or else one does not
+/// fit.
 fn misfit<S: Symbols>(width: Width, symbols: &S, line: &[u8], tokens: &[Token]) -> Option<DataFault>
     ensures { result ≡ misfit (S.values symbols.now) line.now width (behind line.now tokens.now) }
 {
@@ -81,7 +84,8 @@ fn misfit<S: Symbols>(width: Width, symbols: &S, line: &[u8], tokens: &[Token]) 
 
 /// Why the values of a data directive have no bytes, where they have none. `tokens` begin with the directive's name.
 ///
-/// `Malformed` where they are no list of expressions; else `UnknownSymbol`; else `Malformed` where a value does not fit.
+/// `Malformed` where they are no list of expressions; else `UnknownSymbol`; else `Malformed` where a value does not
+/// fit.
 #[tactic(auto, unfolding(crate::specs::Data::listed))]
 pub fn value_fault<S: Symbols>(
     width: Width,
@@ -119,7 +123,8 @@ fn push_value<S: Symbols>(
     out: &mut Vec<u8>,
 ) -> Result<(), AllocError>
     requires { is_fit (S.values symbols.now) line.now width operand ≡ true }
-    ensures done { OnOk result (out.new.items ≡ out.old.items ++ bytes_of (S.values symbols.now) line.now width operand) }
+    ensures done { OnOk result
+        (out.new.items ≡ out.old.items ++ bytes_of (S.values symbols.now) line.now width operand) }
     ensures kept { OnErr result (out.new.items ≡ out.old.items) }
 {
     match value_of(symbols, line, operand) {
@@ -137,7 +142,9 @@ fn push_all<S: Symbols>(
     out: &mut Vec<u8>,
 ) -> Result<(), AllocError>
     requires { list_all (is_fit (S.values symbols.now) line.now width) (behind line.now tokens.now) ≡ true }
-    ensures done { OnOk result (out.new.items ≡ out.old.items ++ flat_map (bytes_of (S.values symbols.now) line.now width) (behind line.now tokens.now)) }
+    ensures done { OnOk result
+        (out.new.items ≡
+        out.old.items ++ flat_map (bytes_of (S.values symbols.now) line.now width) (behind line.now tokens.now)) }
     ensures kept { OnErr result (take (length out.old.items) out.new.items ≡ out.old.items) }
 {
     let mut rest = tokens;
@@ -148,11 +155,12 @@ fn push_all<S: Symbols>(
     Ok(())
 }
 
-/// Appends the values of a data directive, the most significant byte of each first. `tokens` begin with the directive's name.
+/// Appends the values of a data directive, the most significant byte of each first. `tokens` begin with the directive's
+/// name.
 ///
 /// # Errors
-/// `Malformed` where they are no list of expressions; else `UnknownSymbol`; else `Malformed` where a value does not fit. `Memory`
-/// may come in the place of any answer. After an error `out` is as before.
+/// `Malformed` where they are no list of expressions; else `UnknownSymbol`; else `Malformed` where a value does not
+/// fit. `Memory` may come in the place of any answer. After an error `out` is as before.
 pub fn push_values<S: Symbols>(
     width: Width,
     symbols: &S,

@@ -21,7 +21,8 @@ unfolding cell_entry started with_entry saved transferred
 relations_are_these = record { of_cmp = refl; of_tst = refl; of_value = refl; of_nothing = refl; ended = refl; formless = refl; stays = refl; set = refl; saved = refl }
 
 pub branches_know : BranchesKnow
-unfolding outcome range_add range_sub range_or range_sll range_of row_of common refine without below left_below right_below narrowed narrowed_by_value some_range both_of some_pair refine_by_value add_term add_terms is_kept cell_entry started with_entry form_of transferred narrowed_at refined
+unfolding outcome range_add range_sub range_or range_sll range_of row_of common refine without below left_below right_below narrowed narrowed_by_value
+    some_range both_of some_pair refine_by_value add_term add_terms is_kept cell_entry started with_entry form_of transferred narrowed_at refined
 branches_know = record { less = refl; equal = refl; greater = refl; never = refl; always = refl; by_value = refl }
 
 pub frames_keep : FramesKeep

@@ -49,7 +49,8 @@ not_filled A n k f xs ys past rest =
     rest k ∙ ap (λ (t : Bool). if t then f k else slice_index_or xs k None) above
 
 -- all is written, where the function agrees with what stands past the end
-pub all_filled : (A : Type 0) (n : ℕ) (f : ℕ → Option A) (xs ys : List (Option A)) → ((k : ℕ) → n ≤ k → f k ≡ slice_index_or xs k None) → FilledTo A n f xs ys → (k : ℕ) → slice_index_or ys k None ≡ f k
+pub all_filled : (A : Type 0) (n : ℕ) (f : ℕ → Option A) (xs ys : List (Option A)) → ((k : ℕ) → n ≤ k → f k ≡ slice_index_or xs k None) → FilledTo A n f xs ys →
+    (k : ℕ) → slice_index_or ys k None ≡ f k
 all_filled A n f xs ys agree rest k = by_test (nat_lt k n) refl
   where
     by_test : (t : Bool) → nat_lt k n ≡ t → slice_index_or ys k None ≡ f k
@@ -84,8 +85,11 @@ after_clear_past A from to xs k high =
 
 -- ---- entries that are copied
 
-pub all_copied : (A : Type 0) (n : ℕ) (from to old : List (Option A)) → length from ≡ 1040 → length to ≡ 1040 → length old ≡ 1040 → 1040 ≤ n → FilledTo A n (λ k. slice_index_or from k None) old to → to ≡ from
-all_copied A n from to old size same before end rest = ext_get_or {A = Option A} None to from (omega (arith, size, same)) (λ k within. all_filled A n (λ k. slice_index_or from k None) old to (λ k past. past_both k (omega (arith, past, end))) rest k)
+pub all_copied : (A : Type 0) (n : ℕ) (from to old : List (Option A)) → length from ≡ 1040 → length to ≡ 1040 → length old ≡ 1040 → 1040 ≤ n →
+    FilledTo A n (λ k. slice_index_or from k None) old to → to ≡ from
+all_copied A n from to old size same before end rest =
+    ext_get_or {A = Option A} None to from (omega (arith, size, same))
+    (λ k within. all_filled A n (λ k. slice_index_or from k None) old to (λ k past. past_both k (omega (arith, past, end))) rest k)
   where
     past_both : (k : ℕ) → 1040 ≤ k → slice_index_or from k None ≡ slice_index_or old k None
     past_both k past = get_or_past from k None (omega (arith, past, size)) ∙ sym (get_or_past old k None (omega (arith, past, before)))

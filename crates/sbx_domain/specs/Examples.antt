@@ -24,7 +24,9 @@ use Rattle.sbx_domain.specs.Transfer.{called, transferred}
 -- ---- a block whose cells are %o0, 0 to 10, and %l0, multiples of 4 from 0 to 400
 
 abbrev pub start : Known
-start = started (record { location = 8; range = range (pos 0) (pos 10) 0 } ∷ record { location = 16; range = range (pos 0) (pos 400) 2 } ∷ [])
+start = started
+    (record { location = 8; range = range (pos 0) (pos 10) 0 }
+    ∷ record { location = 16; range = range (pos 0) (pos 400) 2 } ∷ [])
 
 abbrev pub with_immediate : Op → ℕ → ℕ → ℕ → Operation
 with_immediate op rd rs1 w = Compute op (record { rd = rd; rs1 = rs1; operand2 = Immediate w })
@@ -64,13 +66,17 @@ pub record ResultsAreThese : Type 0 where
   pub cell : start.entry 8 ≡ Some (record { range = range (pos 0) (pos 10) 0; form = Some (form_of_location 8) })
   pub no_cell : start.entry 9 ≡ None
   -- add %o0,5,%o1
-  pub sum : (after (with_immediate Add 9 8 5) start).entry 9 ≡ Some (record { range = range (pos 5) (pos 15) 0; form = Some (shifted_form (pos 5)) })
+  pub sum : (after (with_immediate Add 9 8 5) start).entry 9 ≡
+      Some (record { range = range (pos 5) (pos 15) 0; form = Some (shifted_form (pos 5)) })
   -- subcc %o0,1,%o0
-  pub difference : (after (with_immediate SubCc 8 8 1) start).entry 8 ≡ Some (record { range = range (negsuc 0) (pos 9) 0; form = Some (shifted_form (negsuc 0)) })
+  pub difference : (after (with_immediate SubCc 8 8 1) start).entry 8 ≡
+      Some (record { range = range (negsuc 0) (pos 9) 0; form = Some (shifted_form (negsuc 0)) })
   -- sll %o0,2,%o1: no form
-  pub shift : (after (with_immediate Sll 9 8 2) start).entry 9 ≡ Some (record { range = range (pos 0) (pos 40) 2; form = None })
+  pub shift : (after (with_immediate Sll 9 8 2) start).entry 9 ≡
+      Some (record { range = range (pos 0) (pos 40) 2; form = None })
   -- add %g0,7,%o1: a known word
-  pub constant : (after (with_immediate Add 9 0 7) start).entry 9 ≡ Some (record { range = range (pos 7) (pos 7) 0; form = Some (record { constant = pos 7; terms = [] }) })
+  pub constant : (after (with_immediate Add 9 0 7) start).entry 9 ≡
+      Some (record { range = range (pos 7) (pos 7) 0; form = Some (record { constant = pos 7; terms = [] }) })
   -- add %o0,%o5,%o0: an undefined operand
   pub undefined : (after (with_register Add 8 8 13) start).entry 8 ≡ None
   -- add %o0,5,%g0: %g0 stays 0
@@ -95,7 +101,8 @@ pub record RelationsAreThese : Type 0 where
   pub stays : (with_range 9 None (compare start)).relation ≡ Some (Compared (Location 8) (Constant 5))
   -- so does the setter of the codes, and SAVE
   pub set : (with_icc true (compare start)).relation ≡ None
-  pub saved : (after (Save (record { rd = 14; rs1 = 14; operand2 = Immediate 0xFFFFFFA0 })) (compare start)).relation ≡ None
+  pub saved : (after (Save (record { rd = 14; rs1 = 14; operand2 = Immediate 0xFFFFFFA0 })) (compare start)).relation ≡
+      None
 
 -- ---- branches
 
@@ -109,20 +116,26 @@ pub record BranchesKnow : Type 0 where
   pub never : is_possible (refined Equal (after (with_immediate SubCc 0 0 5) start)) ≡ None
   pub always : is_possible (refined NotEqual (after (with_immediate SubCc 0 0 5) start)) ≡ Some 1
   -- subcc %o0,10,%o0 and bne: an end of -10 to 0
-  pub by_value : outcome_range (refined NotEqual (after (with_immediate SubCc 8 8 10) start)) 8 ≡ Some (range (negsuc 9) (negsuc 0) 0)
+  pub by_value : outcome_range (refined NotEqual (after (with_immediate SubCc 8 8 10) start)) 8 ≡
+      Some (range (negsuc 9) (negsuc 0) 0)
 
 -- ---- frames and calls
 
 -- Worked examples: what stays known over SAVE, RESTORE and a call.
 pub record FramesKeep : Type 0 where
   -- save %sp,-96,%sp: %i0 is known as %o0 was, and %l0 no longer
-  pub in_zero : (after (Save (record { rd = 14; rs1 = 14; operand2 = Immediate 0xFFFFFFA0 })) start).entry 24 ≡ start.entry 8
+  pub in_zero : (after (Save (record { rd = 14; rs1 = 14; operand2 = Immediate 0xFFFFFFA0 })) start).entry 24 ≡
+      start.entry 8
   pub locals : (after (Save (record { rd = 14; rs1 = 14; operand2 = Immediate 0xFFFFFFA0 })) start).entry 16 ≡ None
   -- and back: restore %g0,7,%o1
-  pub out_zero : (after (Restore (record { rd = 9; rs1 = 0; operand2 = Immediate 7 })) (after (Save (record { rd = 14; rs1 = 14; operand2 = Immediate 0xFFFFFFA0 })) start)).entry 8 ≡ start.entry 8
+  pub out_zero :
+      (after (Restore (record { rd = 9; rs1 = 0; operand2 = Immediate 7 }))
+      (after (Save (record { rd = 14; rs1 = 14; operand2 = Immediate 0xFFFFFFA0 })) start)).entry 8 ≡ start.entry 8
   -- st %o0,[%fp-4] and ld [%sp+92],%o3: frame word 7
-  pub word : (after (Transfer (Load LoadedWord) (near_pointer 11 14 92)) (after (Transfer (Store StoredWord) (near_pointer 8 30 0xFFFFFFFC)) start)).entry 11 ≡ start.entry 8
+  pub word : (after (Transfer (Load LoadedWord) (near_pointer 11 14 92))
+      (after (Transfer (Store StoredWord) (near_pointer 8 30 0xFFFFFFFC)) start)).entry 11 ≡ start.entry 8
   -- after a call with a result from 1 to 2
-  pub result : (called (range (pos 1) (pos 2) 0 ∷ []) start).entry 8 ≡ Some (record { range = range (pos 1) (pos 2) 0; form = None })
+  pub result : (called (range (pos 1) (pos 2) 0 ∷ []) start).entry 8 ≡
+      Some (record { range = range (pos 1) (pos 2) 0; form = None })
   pub other_outs : (called (range (pos 1) (pos 2) 0 ∷ []) start).entry 9 ≡ None
   pub kept : (called (range (pos 1) (pos 2) 0 ∷ []) start).entry 16 ≡ start.entry 16

@@ -48,7 +48,8 @@ Relates words icc None = Unit {0}
 Relates words icc (Some (Compared x y)) = AreCodesOf icc (word_of_related words x) (word_of_related words y)
 Relates words icc (Some (Signs l)) = HasSigns icc (words l)
 
--- Words that lie in the intervals, have the forms over these starting numbers, and relate as is known: all that fuel looks at.
+-- Words that lie in the intervals, have the forms over these starting numbers, and relate as is known: all that fuel
+-- looks at.
 pub record Near (start : Cells) (d : Known) (words : Words) (icc : Icc) (y : ℕ) : Type 0 where
   pub are_words : (l : ℕ) → words l < 2 ^ 32
   pub zero : words 0 ≡ 0

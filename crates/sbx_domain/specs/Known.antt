@@ -1,6 +1,7 @@
--- What the verifier knows between two words of a block: of each location a range and perhaps a linear form, the range of Y,
--- whether the condition codes are defined, and what they were set from.
-use Rattle.std.specs.Prelude.{ℕ, Bool, false, ◌&&◌, ◌||◌, ◌==◌, nat_lt, if◌then◌else◌, List, [], ◌∷◌, Option, Some, None, slice_index_or}
+-- What the verifier knows between two words of a block: of each location a range and perhaps a linear form, the range
+-- of Y, whether the condition codes are defined, and what they were set from.
+use Rattle.std.specs.Prelude.{ℕ, Bool, false, ◌&&◌, ◌||◌, ◌==◌, nat_lt, if◌then◌else◌, List, [], ◌∷◌, Option, Some}
+use Rattle.std.specs.Prelude.{None, slice_index_or}
 use Rattle.sbx_range.specs.Cell.{Cell}
 use Rattle.sbx_range.specs.Range.{Range}
 use Rattle.sbx_range.specs.Ranges.{is_empty}
@@ -115,4 +116,5 @@ cell_entry (c ∷ cs) l = if c.location == l then Some (entry_of_cell c) else ce
 
 -- A block starts with its cells alone, and only here a location starts as itself.
 unfoldable pub started : List Cell → Known
-started cells = record { entry = λ l. if is_location l then cell_entry cells l else None; y = None; icc = false; relation = None }
+started cells =
+    record { entry = λ l. if is_location l then cell_entry cells l else None; y = None; icc = false; relation = None }

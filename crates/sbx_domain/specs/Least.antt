@@ -17,7 +17,8 @@ ends_known d = record { lo = λ l. (range_or_zero (range_at d l)).lo; hi = λ l.
 unfoldable pub least_value : Ends → Form → ℤ
 least_value ends f = least_terms ends f.terms +ℤ f.constant
 
--- No numbers between the ends make a form less than this, and some make it this, where no lower end is above the upper one.
+-- No numbers between the ends make a form less than this, and some make it this, where no lower end is above the upper
+-- one.
 pub record IsLeast (ends : Ends) (f : Form) (least : ℤ) : Type 0 where
   pub below : (cells : Cells) → Within ends cells → least ≤ℤ form_value cells f
   pub reached : ((l : ℕ) → ends.lo l ≤ℤ ends.hi l) → (cells : Cells) × Within ends cells × (form_value cells f ≡ least)

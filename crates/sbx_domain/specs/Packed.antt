@@ -1,5 +1,6 @@
 -- Terms as a form keeps them, which are those that it has.
-use Rattle.std.proofs.Common.{◌≡◌, ℕ, ◌-◌, ◌≤◌, pos, List, [], ◌∷◌, ◌++◌, length, take, drop, map, replicate, refl, sym, ap, ◌∙◌, take-append-drop, length-take-le}
+use Rattle.std.proofs.Common.{◌≡◌, ℕ, ◌-◌, ◌≤◌, pos, List, [], ◌∷◌, ◌++◌, length, take, drop, map, replicate, refl, sym}
+use Rattle.std.proofs.Common.{ap, ◌∙◌, take-append-drop, length-take-le}
 use Rattle.std.proofs.lemmas.List.{length-map}
 use Rattle.sbx_form.specs.declared.terms.FormTerm.{FormTerm}
 use Rattle.sbx_domain.specs.declared.lin.KeptTerm.{KeptTerm}

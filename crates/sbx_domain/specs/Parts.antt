@@ -3,4 +3,5 @@ use Rattle.std.specs.Prelude.{◌≡◌, ℕ, ◌/◌, ◌<◌, ◌≤◌, Bool,
 
 -- from one location on and below another, nothing stands in a part without a mark
 abbrev pub AreMarked : {A : Type 0} → ℕ → ℕ → List Bool → List (Option A) → Type 0
-AreMarked from to marks xs = (k : ℕ) → from ≤ k → k < to → slice_index_or marks (k / 16) false ≡ false → slice_index_or xs k None ≡ None
+AreMarked from to marks xs = (k : ℕ) → from ≤ k → k < to → slice_index_or marks (k / 16) false ≡ false →
+    slice_index_or xs k None ≡ None

@@ -60,7 +60,7 @@ refined_by c None d = Some d
 refined_by c (Some (Compared x y)) d = refined_pair c x y (range_of_related d x) (range_of_related d y) d
 refined_by c (Some (Signs l)) d = refined_signs c l (range_at d l) d
 
--- What is known where a condition holds of the codes; none where it can't hold. A location or word without a range changes
--- nothing, and neither do codes that are related to nothing.
+-- What is known where a condition holds of the codes; none where it can't hold. A location or word without a range
+-- changes nothing, and neither do codes that are related to nothing.
 unfoldable pub refined : Cond → Known → Option Known
 refined c d = refined_by c d.relation d

@@ -1,5 +1,6 @@
 -- What is known after a word, by its operation.
-use Rattle.std.specs.Prelude.{ℕ, ◌+◌, ◌-◌, ◌/◌, ◌%◌, ◌&&◌, Bool, true, false, ◌==◌, nat_lt, nat_le, if◌then◌else◌, List, Option, Some, None, ℤ, pos, negsuc, ◌+ℤ◌, slice_get}
+use Rattle.std.specs.Prelude.{ℕ, ◌+◌, ◌-◌, ◌/◌, ◌%◌, ◌&&◌, Bool, true, false, ◌==◌, nat_lt, nat_le, if◌then◌else◌, List}
+use Rattle.std.specs.Prelude.{Option, Some, None, ℤ, pos, negsuc, ◌+ℤ◌, slice_get}
 use Rattle.v8_word.specs.Registers.{frame_pointer, stack_pointer}
 use Rattle.v8_word.specs.declared.Size.{Size}
 use Rattle.v8_word.specs.declared.Size.TheVariants as sizes
@@ -18,7 +19,8 @@ use Rattle.sbx_flat.specs.Loading.{Loading}
 use Rattle.sbx_flat.specs.Loading.TheVariants as loadings
 use Rattle.sbx_flat.specs.MemoryOperand.{MemoryOperand}
 use Rattle.sbx_flat.specs.Operation.{Operation}
-use Rattle.sbx_flat.specs.Operation.TheVariants.{Compute, Divide, TaggedTrap, SetHigh, ReadY, WriteY, Transfer, Save, Restore, Call, TrapOnCondition}
+use Rattle.sbx_flat.specs.Operation.TheVariants.{Compute, Divide, TaggedTrap, SetHigh, ReadY, WriteY, Transfer, Save}
+use Rattle.sbx_flat.specs.Operation.TheVariants.{Restore, Call, TrapOnCondition}
 use Rattle.sbx_flat.specs.Transfer.{Transfer as Moving}
 use Rattle.sbx_flat.specs.Transfer.TheVariants.{Load, Store, Exchange}
 use Rattle.sbx_range.specs.Range.{Range}
@@ -32,7 +34,8 @@ use Rattle.sbx_domain.specs.declared.relation.Related.TheVariants.{Location, Wor
 use Rattle.sbx_domain.specs.declared.relation.Related.{Related}
 use Rattle.sbx_domain.specs.declared.relation.Relation.{Relation}
 use Rattle.sbx_domain.specs.Known.{Known, plain_entry, plain_entry_of, with_entry, with_icc, with_y}
-use Rattle.sbx_domain.specs.Results.{constant_entry, entry_of_y, operand_entry, quotient_of, register_entry, result_of, tagged_of, written_y}
+use Rattle.sbx_domain.specs.Results.{constant_entry, entry_of_y, operand_entry, quotient_of, register_entry, result_of}
+use Rattle.sbx_domain.specs.Results.{tagged_of, written_y}
 
 -- ---- condition codes and Y
 
@@ -136,7 +139,8 @@ loaded_entry _ loading d = Some (plain_entry (loaded_range loading))
 
 -- LDD fills a pair
 abbrev pub with_loaded : Option ℕ → Loading → ℕ → Known → Known
-with_loaded word loadings.Double rd d = with_entry (odd_of rd) (Some (plain_entry (all 0))) (with_entry rd (Some (plain_entry (all 0))) d)
+with_loaded word loadings.Double rd d =
+    with_entry (odd_of rd) (Some (plain_entry (all 0))) (with_entry rd (Some (plain_entry (all 0))) d)
 with_loaded word loading rd d = with_entry rd (loaded_entry word loading d) d
 
 -- ST to a frame word gives it what is known of the register
@@ -184,21 +188,24 @@ served None d = d
 
 -- ---- transfer
 
--- What is known after an operation, in a frame of this many bytes (0 in a leaf). Transfers of control know what was known;
--- so do the operations that sandboxed code may not have.
+-- What is known after an operation, in a frame of this many bytes (0 in a leaf). Transfers of control know what was
+-- known; so do the operations that sandboxed code may not have.
 unfoldable pub transferred : ℕ → Operation → Known → Known
 transferred frame (Compute op f) d =
     with_product_y op (with_codes (sets_codes op) (relation_of op f)
     (with_entry f.rd (result_of op (register_entry d f.rs1) (operand_entry d f.operand2)) d))
 transferred frame (Divide op f) d =
-    with_codes (division_sets_codes op) None (with_entry f.rd (quotient_of d.y (register_entry d f.rs1) (operand_entry d f.operand2)) d)
-transferred frame (TaggedTrap op f) d = with_icc true (with_entry f.rd (tagged_of op (register_entry d f.rs1) (operand_entry d f.operand2)) d)
+    with_codes (division_sets_codes op) None
+    (with_entry f.rd (quotient_of d.y (register_entry d f.rs1) (operand_entry d f.operand2)) d)
+transferred frame (TaggedTrap op f) d =
+    with_icc true (with_entry f.rd (tagged_of op (register_entry d f.rs1) (operand_entry d f.operand2)) d)
 transferred frame (SetHigh f) d = with_entry f.rd (Some (constant_entry (high_word f))) d
 transferred frame (ReadY rd) d = with_entry rd (entry_of_y d.y) d
 transferred frame (WriteY f) d = with_y (written_y (register_entry d f.rs1) (operand_entry d f.operand2)) d
 transferred frame (Transfer t m) d = with_moved (frame_word_of frame m) t m.rd d
 transferred frame (Save f) d = saved d
-transferred frame (Restore f) d = with_entry f.rd (result_of ops.Add (register_entry d f.rs1) (operand_entry d f.operand2)) (restored d)
+transferred frame (Restore f) d =
+    with_entry f.rd (result_of ops.Add (register_entry d f.rs1) (operand_entry d f.operand2)) (restored d)
 -- %o7 is never known
 transferred frame (Call displacement) d = record (with_entry 15 None d) { relation = None }
 transferred frame (TrapOnCondition t) d = served (service_of t) d
@@ -214,8 +221,8 @@ is_kept_by_calls l = nat_le 16 l
 abbrev pub result_entry : List Range → ℕ → Option Entry
 result_entry results l = if is_out l then plain_entry_of (slice_get results (l - 8)) else None
 
--- What is known where a call's callee has returned: its results, and locals, ins and frame words as they were; other outs,
--- globals, codes and Y are undefined.
+-- What is known where a call's callee has returned: its results, and locals, ins and frame words as they were; other
+-- outs, globals, codes and Y are undefined.
 unfoldable pub called : List Range → Known → Known
 called results d = record {
   entry = λ l. if is_kept_by_calls l then d.entry l else result_entry results l;

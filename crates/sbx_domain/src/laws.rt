@@ -22,8 +22,8 @@ pub fn frames_keep()
     ensures { FramesKeep }
 {}
 
-/// Words that fit still fit after a location gets a word that has what is then known of it; so do words that fit but for
-/// multiples.
+/// Words that fit still fit after a location gets a word that has what is then known of it; so do words that fit but
+/// for multiples.
 pub fn writes_keep_fitting()
     ensures { WritesKeepFitting }
 {}

@@ -1,10 +1,12 @@
 //! Linear forms as a state keeps them.
-ghost use Rattle.std.specs.Prelude.{◌≡◌, ℕ, ℤ, ◌≤◌, ◌^◌, ◌+◌, ◌-◌, ◌+ℤ◌, ◌*ℤ◌, true, Some, length, take, drop, map, replicate, unsigned_abs, slice_index_or};
+ghost use Rattle.std.specs.Prelude.{◌≡◌, ℕ, ℤ, ◌≤◌, ◌^◌, ◌+◌, ◌-◌, ◌+ℤ◌, ◌*ℤ◌, true, Some, length, take, drop, map};
+ghost use Rattle.std.specs.Prelude.{replicate, unsigned_abs, slice_index_or};
 ghost use Rattle.std.specs.List.{list_all};
 ghost use Rattle.arrayvec.specs.ArrayVec.{array_vec_len};
 ghost use Rattle.sbx_form.specs.declared.terms.FormTerm.{FormTerm};
 ghost use Rattle.sbx_form.specs.Forms.{AreWithin, AscendFrom};
-ghost use Rattle.sbx_domain.specs.Forms.{ascend_from, combined, constant_form, form_of_location, is_kept, is_small, kept};
+ghost use Rattle.sbx_domain.specs.Forms.{ascend_from, combined, constant_form, form_of_location, is_kept, is_small};
+ghost use Rattle.sbx_domain.specs.Forms.{kept};
 ghost use Rattle.sbx_domain.specs.Packed.{blank, narrowed, no_term, widened};
 
 use arrayvec::ArrayVec;
@@ -18,8 +20,8 @@ struct KeptTerm {
     coefficient: i64,
 }
 
-/// A constant plus at most eight terms, by location, over the numbers that a block's cells start with. No coefficient is
-/// above 2^32 in magnitude, and the constant isn't above 2^40. Locations ascend, so each stands once.
+/// A constant plus at most eight terms, by location, over the numbers that a block's cells start with. No coefficient
+/// is above 2^32 in magnitude, and the constant isn't above 2^40. Locations ascend, so each stands once.
 #[derive(Clone, Copy)]
 pub struct Lin {
     constant: i64,
@@ -46,9 +48,18 @@ impl Model for Lin {
         × (is_kept (record { constant = f.constant; terms = map widened (take f.count f.terms) }) ≡ true)
         × (ascend_from 0 (map widened (take f.count f.terms)) ≡ true) };
 
-    ghost inverse = { λ v. record { constant = v.constant; terms = map narrowed v.terms ++ replicate (8 - length v.terms) blank; count = length v.terms } };
+    ghost inverse = { λ v. record {
+      constant = v.constant;
+      terms = map narrowed v.terms ++ replicate (8 - length v.terms) blank;
+      count = length v.terms;
+    } };
 
-    ghost inverse_ok = { λ f h i. record { constant = f.constant; terms = terms_back f.count f.terms h.1 h.2 i; count = count_back f.count f.terms h.1 i } };
+    ghost inverse_ok = { λ f h i. record {
+      constant = f.constant;
+      terms = terms_back f.count f.terms h.1 h.2 i;
+      count =
+          count_back f.count f.terms h.1 i;
+    } };
 }
 
 /// The term as it is kept.

@@ -36,8 +36,8 @@ fn least_of(terms: &[FormTerm], start: &State) -> i128
 }
 
 /// The least value of a form over all numbers from the lower to the upper ends of what is known where its block starts.
-/// Alignments don't matter. A location that isn't defined there counts as 0. No such numbers make the form less, and some make it
-/// that, where there are any.
+/// Alignments don't matter. A location that isn't defined there counts as 0. No such numbers make the form less, and
+/// some make it that, where there are any.
 #[tactic(auto, unfolding(crate::specs::Least::least_value))]
 pub fn least(form: &Lin, start: &State) -> i128
     ensures value { result ≡ least_value (ends_known (known start.now)) form.now }

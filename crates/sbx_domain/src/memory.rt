@@ -1,7 +1,8 @@
 //! What is known after a load, a store or an exchange.
 ghost use Rattle.std.specs.Prelude.{◌≡◌, if◌then◌else◌, ◌+◌, ◌-◌, ◌/◌, Some, None};
 ghost use Rattle.sbx_flat.specs.Transfers.{odd_of};
-ghost use Rattle.sbx_domain.specs.Transfer.{exchanged_range, frame_word_of, is_word_offset, loaded_range, offset_from_sp, word_at_offset};
+ghost use Rattle.sbx_domain.specs.Transfer.{exchanged_range, frame_word_of, is_word_offset, loaded_range};
+ghost use Rattle.sbx_domain.specs.Transfer.{offset_from_sp, word_at_offset};
 
 use crate::entry::{Entry, plain_entry};
 use crate::state::State;

@@ -12,7 +12,8 @@ pub(crate) fn save_entries<T: Copy>(entries: &mut [Option<T>], marks: &[bool; PA
     requires size { length entries.old ≡ 1040 }
     requires marked { AreMarked 0 1040 marks.now entries.old }
     ensures size { length entries.new ≡ length entries.old }
-    ensures moved { (k : ℕ) → slice_index_or entries.new k None ≡ (if is_in k then slice_index_or entries.old (k - 16) None else None) }
+    ensures moved { (k : ℕ) →
+        slice_index_or entries.new k None ≡ (if is_in k then slice_index_or entries.old (k - 16) None else None) }
 {
     for location in 24..32 {
         let entry = entries[location - 16];
@@ -27,7 +28,10 @@ pub(crate) fn restore_entries<T: Copy>(entries: &mut [Option<T>], marks: &[bool;
     requires size { length entries.old ≡ 1040 }
     requires marked { AreMarked 0 1040 marks.now entries.old }
     ensures size { length entries.new ≡ length entries.old }
-    ensures moved { (k : ℕ) → slice_index_or entries.new k None ≡ (if is_global k then slice_index_or entries.old k None else (if is_out k then slice_index_or entries.old (k + 16) None else None)) }
+    ensures moved { (k : ℕ) →
+        slice_index_or entries.new k None ≡
+        (if is_global k then slice_index_or entries.old k None
+        else (if is_out k then slice_index_or entries.old (k + 16) None else None)) }
 {
     for location in 8..16 {
         let entry = entries[location + 16];
@@ -51,7 +55,9 @@ fn returned_entry(results: &[Range], location: usize) -> Option<Entry>
 pub(crate) fn return_entries(entries: &mut [Option<Entry>], results: &[Range])
     requires { length entries.old ≡ 1040 }
     ensures size { length entries.new ≡ length entries.old }
-    ensures moved { (k : ℕ) → slice_index_or entries.new k None ≡ (if is_kept_by_calls k then slice_index_or entries.old k None else result_entry results.now k) }
+    ensures moved { (k : ℕ) →
+        slice_index_or entries.new k None ≡
+        (if is_kept_by_calls k then slice_index_or entries.old k None else result_entry results.now k) }
 {
     for location in 0..16 {
         entries[location] = returned_entry(results, location);

@@ -1,6 +1,7 @@
 //! What is known of operands, and of results whose form can only be a constant.
 ghost use Rattle.std.specs.Prelude.{◌≡◌};
-ghost use Rattle.sbx_domain.specs.Results.{constant_entry, entry_of_result, entry_of_y, quotient_of, tagged_of, written_y};
+ghost use Rattle.sbx_domain.specs.Results.{constant_entry, entry_of_result, entry_of_y, quotient_of, tagged_of};
+ghost use Rattle.sbx_domain.specs.Results.{written_y};
 
 use crate::entry::Entry;
 use crate::lin::Lin;

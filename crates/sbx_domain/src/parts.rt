@@ -1,5 +1,6 @@
 //! Entries by parts of sixteen locations, each with a mark where it may have some: a part without a mark is passed by.
-ghost use Rattle.std.specs.Prelude.{◌≡◌, ℕ, ◌/◌, ◌<◌, ◌≤◌, ◌&&◌, ◌||◌, true, false, None, length, nat_le, nat_lt, replicate, slice_index_or, slice_set, if◌then◌else◌};
+ghost use Rattle.std.specs.Prelude.{◌≡◌, ℕ, ◌/◌, ◌<◌, ◌≤◌, ◌&&◌, ◌||◌, true, false, None, length, nat_le, nat_lt};
+ghost use Rattle.std.specs.Prelude.{replicate, slice_index_or, slice_set, if◌then◌else◌};
 ghost use Rattle.sbx_domain.specs.Known.{is_empty_range, range_of_entry};
 ghost use Rattle.sbx_domain.specs.Parts.{AreMarked};
 
@@ -32,7 +33,8 @@ fn is_marked(marks: &[bool; PARTS], location: usize) -> bool
 /// Whether it has one among either marks.
 fn is_marked_in_either(first: &[bool; PARTS], second: &[bool; PARTS], location: usize) -> bool
     requires { location < 1040 }
-    ensures { result ≡ (slice_index_or first.now (location / 16) false || slice_index_or second.now (location / 16) false) }
+    ensures { result ≡
+        (slice_index_or first.now (location / 16) false || slice_index_or second.now (location / 16) false) }
 {
     is_marked(first, location) || is_marked(second, location)
 }
@@ -58,7 +60,9 @@ pub(crate) fn clear_entries<T: Copy>(
     requires within { to ≤ 1040 }
     requires marked { AreMarked from to marks.now entries.old }
     ensures size { length entries.new ≡ length entries.old }
-    ensures cleared { (k : ℕ) → slice_index_or entries.new k None ≡ (if nat_le from k && nat_lt k to then None else slice_index_or entries.old k None) }
+    ensures cleared { (k : ℕ) →
+        slice_index_or entries.new k None ≡
+        (if nat_le from k && nat_lt k to then None else slice_index_or entries.old k None) }
 {
     let mut location = from;
     while location < to {
@@ -100,8 +104,10 @@ pub(crate) fn copy_entries<T: Copy>(
 pub(crate) fn has_empty(entries: &[Option<Entry>], marks: &[bool; PARTS]) -> bool
     requires size { length entries.now ≡ 1040 }
     requires marked { AreMarked 0 1040 marks.now entries.now }
-    ensures some { result ≡ true → (l : ℕ) × (is_empty_range (range_of_entry (slice_index_or entries.now l None)) ≡ true) }
-    ensures none { result ≡ false → (l : ℕ) → is_empty_range (range_of_entry (slice_index_or entries.now l None)) ≡ false }
+    ensures some { result ≡ true →
+        (l : ℕ) × (is_empty_range (range_of_entry (slice_index_or entries.now l None)) ≡ true) }
+    ensures none { result ≡ false → (l : ℕ) →
+        is_empty_range (range_of_entry (slice_index_or entries.now l None)) ≡ false }
 {
     let mut location = 0;
     while location < entries.len() {

@@ -2,7 +2,8 @@
 ghost use Rattle.std.specs.Prelude.{◌≡◌};
 ghost use Rattle.sbx_range.specs.Ranges.{is_zero};
 ghost use Rattle.sbx_domain.specs.Results.{copied_form, difference_form, form_of, result_of, sum_form};
-ghost use Rattle.sbx_domain.specs.Transfer.{compared, related_operand, related_register, relation_of, sets_codes, tells_signs};
+ghost use Rattle.sbx_domain.specs.Transfer.{compared, related_operand, related_register, relation_of, sets_codes};
+ghost use Rattle.sbx_domain.specs.Transfer.{tells_signs};
 
 use crate::entry::Entry;
 use crate::lin::{Lin, combined};

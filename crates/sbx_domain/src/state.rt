@@ -43,12 +43,14 @@ impl Model for State {
 impl State {
     ghost use Rattle.std.specs.Prelude.{Some, None, true, false, if◌then◌else◌};
     ghost use Rattle.sbx_domain.specs.declared.relation.Relation.TheVariants.{Compared, Signs};
-    ghost use Rattle.sbx_domain.specs.Refining.{narrowed_at, narrowed_related, range_of_related, refined, refined_by, with_pair};
+    ghost use Rattle.sbx_domain.specs.Refining.{narrowed_at, narrowed_related, range_of_related, refined, refined_by};
+    ghost use Rattle.sbx_domain.specs.Refining.{with_pair};
     ghost use Rattle.std.specs.Prelude.{ℕ};
     ghost use Rattle.sbx_flat.specs.Three.{Three};
     ghost use Rattle.sbx_flat.specs.Operation.TheVariants.{Save};
     ghost use Rattle.sbx_domain.specs.Transfer.{called, restored, transferred, with_codes};
-    ghost use Rattle.sbx_domain.specs.Known.{entry_of_cell, form_at, is_empty_range, known, nothing_known, range_at, started, with_entry, with_icc, with_range, with_y};
+    ghost use Rattle.sbx_domain.specs.Known.{entry_of_cell, form_at, is_empty_range, known, nothing_known, range_at};
+    ghost use Rattle.sbx_domain.specs.Known.{started, with_entry, with_icc, with_range, with_y};
 
     /// Nothing defined, with room for every location.
     pub fn new(alloc: Global) -> Result<Self, AllocError>
@@ -95,8 +97,8 @@ impl State {
         }
     }
 
-    /// Gives a location a range, or makes it undefined. This is a write: the location has no form then, and a relation that
-    /// names it ends. A number that is no location changes nothing.
+    /// Gives a location a range, or makes it undefined. This is a write: the location has no form then, and a relation
+    /// that names it ends. A number that is no location changes nothing.
     pub fn set(&mut self, location: u16, range: Option<Range>)
         ensures { known self.new ≡ with_range location range (known self.old) }
     {
@@ -177,7 +179,8 @@ impl State {
         self.relation = None;
     }
 
-    /// Where a call's callee has returned: outs are its results, locals, ins and frame words stay, and nothing else is known.
+    /// Where a call's callee has returned: outs are its results, locals, ins and frame words stay, and nothing else is
+    /// known.
     pub fn return_with(&mut self, results: &[Range])
         ensures { known self.new ≡ called results.now (known self.old) }
     {
@@ -244,7 +247,8 @@ impl State {
         has_empty(self.entries.as_slice(), &self.marks)
     }
 
-    /// Puts a range in the place of a location's, where it is defined. This is no write: its form and the relation stay.
+    /// Puts a range in the place of a location's, where it is defined. This is no write: its form and the relation
+    /// stay.
     fn narrow(&mut self, location: u16, range: Range)
         ensures { known self.new ≡ narrowed_at location range (known self.old) }
     {
@@ -289,7 +293,8 @@ impl State {
     }
 
     fn refine_compared(&mut self, cond: Cond, x: Related, y: Related) -> bool
-        ensures answer { refined_by cond (Some (Compared x y)) (known self.old) ≡ (if result then Some (known self.new) else None) }
+        ensures answer { refined_by cond (Some (Compared x y)) (known self.old) ≡
+            (if result then Some (known self.new) else None) }
         ensures refused { result ≡ false → self.new ≡ self.old }
     {
         match (self.range_of(x), self.range_of(y)) {
@@ -299,7 +304,8 @@ impl State {
     }
 
     fn refine_signs(&mut self, cond: Cond, location: u16) -> bool
-        ensures answer { refined_by cond (Some (Signs location)) (known self.old) ≡ (if result then Some (known self.new) else None) }
+        ensures answer { refined_by cond (Some (Signs location)) (known self.old) ≡
+            (if result then Some (known self.new) else None) }
         ensures refused { result ≡ false → self.new ≡ self.old }
     {
         let Some(range) = self.range(location) else {
@@ -314,7 +320,8 @@ impl State {
         }
     }
 
-    /// Goes on where a condition holds of the codes, and says whether it can hold. Where it can't the state stays as it is.
+    /// Goes on where a condition holds of the codes, and says whether it can hold. Where it can't the state stays as it
+    /// is.
     #[tactic(auto, unfolding(crate::specs::Refining::refined, crate::specs::Known::known))]
     pub fn refine(&mut self, cond: Cond) -> bool
         ensures answer { refined cond (known self.old) ≡ (if result then Some (known self.new) else None) }

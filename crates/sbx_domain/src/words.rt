@@ -12,11 +12,13 @@ use v8_word::Reg;
 
 impl State {
     ghost use Rattle.std.specs.Prelude.{Some, true};
-    ghost use Rattle.sbx_flat.specs.Operation.TheVariants.{Call, Compute, Divide, ReadY, Restore, SetHigh, TaggedTrap, TrapOnCondition, WriteY};
+    ghost use Rattle.sbx_flat.specs.Operation.TheVariants.{Call, Compute, Divide, ReadY, Restore, SetHigh, TaggedTrap};
+    ghost use Rattle.sbx_flat.specs.Operation.TheVariants.{TrapOnCondition, WriteY};
     ghost use Rattle.sbx_flat.specs.Operations.{operation_of};
     ghost use Rattle.sbx_domain.specs.Known.{known};
     ghost use Rattle.sbx_domain.specs.Results.{operand_entry, register_entry};
-    ghost use Rattle.sbx_domain.specs.Transfer.{relation_of, served, sets_codes, transferred, with_codes, with_product_y};
+    ghost use Rattle.sbx_domain.specs.Transfer.{relation_of, served, sets_codes, transferred, with_codes};
+    ghost use Rattle.sbx_domain.specs.Transfer.{with_product_y};
 
     /// What is known of a register; %g0 is 0.
     pub fn register_entry(&self, r: Reg) -> Option<Entry>
@@ -162,7 +164,8 @@ impl State {
     /// CALL, before its slot: %o7 is undefined, and the codes relate nothing.
     #[tactic(auto, unfolding(crate::specs::Transfer::transferred))]
     pub fn call(&mut self)
-        ensures { (frame : ℕ) → (displacement : ℕ) → known self.new ≡ transferred frame (Call displacement) (known self.old) }
+        ensures { (frame : ℕ) → (displacement : ℕ) →
+            known self.new ≡ transferred frame (Call displacement) (known self.old) }
     {
         self.write(15, None);
         let defined = self.icc();

@@ -1,4 +1,5 @@
-//! What steps come to on a machine with n windows, of which one stays free for traps: windows are counted, and not made.
+//! What steps come to on a machine with n windows, of which one stays free for traps: windows are counted, and not
+//! made.
 ghost use Rattle.std.specs.Prelude.{◌≡◌, ℕ, ◌+◌, ◌^◌, ◌<◌, ◌≤◌, Some};
 ghost use Rattle.std.specs.Option.{option_copied};
 ghost use Rattle.v8_formats.specs.declared.instr.Three.{Three};
@@ -22,8 +23,11 @@ fn saved(n: u32, traffic: Traffic) -> Traffic
     requires room { (traffic.turns + 25 < 2 ^ 64) × (traffic.overflows + 1 < 2 ^ 64) }
     ensures value { (f : Three) → result ≡ saved n (Save f) traffic }
     ensures windows { (1 ≤ result.windows) × (result.windows < n) }
-    ensures bound { (result.turns ≤ traffic.turns + 25) × (result.overflows ≤ traffic.overflows + 1) × (result.underflows ≤ traffic.underflows + 1) }
-    ensures more { (traffic.turns < result.turns) × (result.overflows + traffic.turns ≤ result.turns + traffic.overflows) × (result.underflows + traffic.turns ≤ result.turns + traffic.underflows) }
+    ensures bound { (result.turns ≤ traffic.turns + 25) × (result.overflows ≤ traffic.overflows + 1)
+        × (result.underflows ≤ traffic.underflows + 1) }
+    ensures more { (traffic.turns < result.turns)
+        × (result.overflows + traffic.turns ≤ result.turns + traffic.overflows)
+        × (result.underflows + traffic.turns ≤ result.turns + traffic.underflows) }
 {
     let mut after = traffic;
     if traffic.windows == n - 1 {
@@ -42,8 +46,11 @@ fn restored(traffic: Traffic) -> Traffic
     requires room { (traffic.turns + 25 < 2 ^ 64) × (traffic.underflows + 1 < 2 ^ 64) }
     ensures value { (f : Three) → result ≡ restored (Restore f) traffic }
     ensures windows { (1 ≤ result.windows) × (result.windows ≤ traffic.windows) }
-    ensures bound { (result.turns ≤ traffic.turns + 25) × (result.overflows ≤ traffic.overflows + 1) × (result.underflows ≤ traffic.underflows + 1) }
-    ensures more { (traffic.turns < result.turns) × (result.overflows + traffic.turns ≤ result.turns + traffic.overflows) × (result.underflows + traffic.turns ≤ result.turns + traffic.underflows) }
+    ensures bound { (result.turns ≤ traffic.turns + 25) × (result.overflows ≤ traffic.overflows + 1)
+        × (result.underflows ≤ traffic.underflows + 1) }
+    ensures more { (traffic.turns < result.turns)
+        × (result.overflows + traffic.turns ≤ result.turns + traffic.overflows)
+        × (result.underflows + traffic.turns ≤ result.turns + traffic.underflows) }
 {
     let mut after = traffic;
     if traffic.windows == 1 {
@@ -69,12 +76,16 @@ fn with_turns(traffic: Traffic, turns: u64) -> Traffic
 /// The traffic after an operation of this weight, on n windows.
 fn performed(n: u32, operation: &Operation, weight: u64, traffic: Traffic) -> Traffic
     requires windows { (1 ≤ traffic.windows) × (traffic.windows < n) }
-    requires room { (traffic.turns + 25 < 2 ^ 64) × (traffic.overflows + 1 < 2 ^ 64) × (traffic.underflows + 1 < 2 ^ 64) }
+    requires room { (traffic.turns + 25 < 2 ^ 64) × (traffic.overflows + 1 < 2 ^ 64)
+        × (traffic.underflows + 1 < 2 ^ 64) }
     requires few { (1 ≤ weight) × (weight ≤ 25) }
     ensures value { weight ≡ weight_of operation.now → result ≡ after_operation n operation.now traffic }
     ensures windows { (1 ≤ result.windows) × (result.windows < n) }
-    ensures bound { (result.turns ≤ traffic.turns + 25) × (result.overflows ≤ traffic.overflows + 1) × (result.underflows ≤ traffic.underflows + 1) }
-    ensures more { (traffic.turns < result.turns) × (result.overflows + traffic.turns ≤ result.turns + traffic.overflows) × (result.underflows + traffic.turns ≤ result.turns + traffic.underflows) }
+    ensures bound { (result.turns ≤ traffic.turns + 25) × (result.overflows ≤ traffic.overflows + 1)
+        × (result.underflows ≤ traffic.underflows + 1) }
+    ensures more { (traffic.turns < result.turns)
+        × (result.overflows + traffic.turns ≤ result.turns + traffic.overflows)
+        × (result.underflows + traffic.turns ≤ result.turns + traffic.underflows) }
 {
     match operation {
         Operation::Save(_) => saved(n, traffic),
@@ -86,11 +97,15 @@ fn performed(n: u32, operation: &Operation, weight: u64, traffic: Traffic) -> Tr
 /// The traffic after a decoded word, on n windows.
 fn count_word(n: u32, next: &Decoded, traffic: Traffic) -> Traffic
     requires windows { (1 ≤ traffic.windows) × (traffic.windows < n) }
-    requires room { (traffic.turns + 25 < 2 ^ 64) × (traffic.overflows + 1 < 2 ^ 64) × (traffic.underflows + 1 < 2 ^ 64) }
+    requires room { (traffic.turns + 25 < 2 ^ 64) × (traffic.overflows + 1 < 2 ^ 64)
+        × (traffic.underflows + 1 < 2 ^ 64) }
     ensures value { (word : ℕ) → next.now ≡ decoded word → result ≡ after_word n (Some word) traffic }
     ensures windows { (1 ≤ result.windows) × (result.windows < n) }
-    ensures bound { (result.turns ≤ traffic.turns + 25) × (result.overflows ≤ traffic.overflows + 1) × (result.underflows ≤ traffic.underflows + 1) }
-    ensures more { (traffic.turns < result.turns) × (result.overflows + traffic.turns ≤ result.turns + traffic.overflows) × (result.underflows + traffic.turns ≤ result.turns + traffic.underflows) }
+    ensures bound { (result.turns ≤ traffic.turns + 25) × (result.overflows ≤ traffic.overflows + 1)
+        × (result.underflows ≤ traffic.underflows + 1) }
+    ensures more { (traffic.turns < result.turns)
+        × (result.overflows + traffic.turns ≤ result.turns + traffic.overflows)
+        × (result.underflows + traffic.turns ≤ result.turns + traffic.underflows) }
 {
     let weight = u64::from(next.weight).clamp(1, MOST);
     performed(n, &next.operation, weight, traffic)
@@ -100,11 +115,16 @@ fn count_word(n: u32, next: &Decoded, traffic: Traffic) -> Traffic
 #[inline(always)]
 pub fn count(n: u32, next: Option<&Decoded>, traffic: Traffic) -> Traffic
     requires windows { (1 ≤ traffic.windows) × (traffic.windows < n) }
-    requires room { (traffic.turns + 25 < 2 ^ 64) × (traffic.overflows + 1 < 2 ^ 64) × (traffic.underflows + 1 < 2 ^ 64) }
-    ensures value { (parts : Parts) (place : Place) → option_copied next.entry ≡ next_at parts place → result ≡ after_place parts n place traffic }
+    requires room { (traffic.turns + 25 < 2 ^ 64) × (traffic.overflows + 1 < 2 ^ 64)
+        × (traffic.underflows + 1 < 2 ^ 64) }
+    ensures value { (parts : Parts) (place : Place) → option_copied next.entry ≡ next_at parts place →
+        result ≡ after_place parts n place traffic }
     ensures windows { (1 ≤ result.windows) × (result.windows < n) }
-    ensures bound { (result.turns ≤ traffic.turns + 25) × (result.overflows ≤ traffic.overflows + 1) × (result.underflows ≤ traffic.underflows + 1) }
-    ensures more { (traffic.turns < result.turns) × (result.overflows + traffic.turns ≤ result.turns + traffic.overflows) × (result.underflows + traffic.turns ≤ result.turns + traffic.underflows) }
+    ensures bound { (result.turns ≤ traffic.turns + 25) × (result.overflows ≤ traffic.overflows + 1)
+        × (result.underflows ≤ traffic.underflows + 1) }
+    ensures more { (traffic.turns < result.turns)
+        × (result.overflows + traffic.turns ≤ result.turns + traffic.overflows)
+        × (result.underflows + traffic.turns ≤ result.turns + traffic.underflows) }
 {
     match next {
         Some(decoded) => count_word(n, decoded, traffic),

@@ -1,4 +1,5 @@
-//! Runs of accepted images on the fast flat machine: output, exit word and counts are those of a run on a board, which isn't made.
+//! Runs of accepted images on the fast flat machine: output, exit word and counts are those of a run on a board, which
+//! isn't made.
 #![tactic(auto)]
 
 mod counts;

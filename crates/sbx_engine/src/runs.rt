@@ -11,8 +11,8 @@ use sbx_quick::Engine;
 use sbx_verify::{Accepted, budget};
 use std::alloc::{AllocError, Global};
 
-/// What a run gave: the exit word, the bytes written, the turns that it would make on a machine with the windows that were asked for,
-/// and how often that would have no window to save to or to restore from.
+/// What a run gave: the exit word, the bytes written, the turns that it would make on a machine with the windows that
+/// were asked for, and how often that would have no window to save to or to restore from.
 #[derive(Drop)]
 pub struct Finished {
     pub status: u32,
@@ -72,9 +72,9 @@ fn run_image(
     }
 }
 
-/// Runs an accepted image on an input to its end, on the flat machine. The output and the status are those of every run on the flat
-/// machine, and so of `run_accepted`; turns, overflows and underflows are those of a board of so many windows, 2 or more, which are
-/// counted and not made. The only fault is want of memory.
+/// Runs an accepted image on an input to its end, on the flat machine. The output and the status are those of every run
+/// on the flat machine, and so of `run_accepted`; turns, overflows and underflows are those of a board of so many
+/// windows, 2 or more, which are counted and not made. The only fault is want of memory.
 pub fn run_flat(
     alloc: Global,
     accepted: &Accepted,

@@ -79,7 +79,8 @@ fn push_outs(
     Ok(())
 }
 
-/// What a block begins with, beside what is known: its cells, or the parameters of the function that it is the first block of.
+/// What a block begins with, beside what is known: its cells, or the parameters of the function that it is the first
+/// block of.
 fn push_begins(
     out: &mut String,
     image: &Image,
@@ -105,8 +106,8 @@ fn push_begins(
     )
 }
 
-/// What a way leads to, beside what is known after the word: what another block begins with, or back in the caller the function's
-/// results.
+/// What a way leads to, beside what is known after the word: what another block begins with, or back in the caller the
+/// function's results.
 fn push_way(
     out: &mut String,
     image: &Image,

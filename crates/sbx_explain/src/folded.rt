@@ -2,8 +2,8 @@
 use sbx_lines::{MARGIN, WIDTH};
 use std::alloc::AllocError;
 
-/// Where a line is broken that has to fit into so many columns: at the last blank of these that stands before a `+`, a `=` or another
-/// blank, as before an arrow, or behind a comma; none where there is no such blank.
+/// Where a line is broken that has to fit into so many columns: at the last blank of these that stands before a `+`, a
+/// `=` or another blank, as before an arrow, or behind a comma; none where there is no such blank.
 fn break_of(line: &[u8], room: usize) -> Option<usize> {
     let mut found = None;
     for (place, three) in line.windows(3).enumerate() {
@@ -15,7 +15,8 @@ fn break_of(line: &[u8], room: usize) -> Option<usize> {
     found
 }
 
-/// The items of a line that fit into so many columns, and those that don't; none where the line fits, or can't be parted.
+/// The items of a line that fit into so many columns, and those that don't; none where the line fits, or can't be
+/// parted.
 fn broken(line: &str, room: usize) -> Option<(&str, &str)> {
     if line.len() <= room {
         return None;

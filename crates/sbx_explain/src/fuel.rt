@@ -216,8 +216,8 @@ fn push_ends(
     }
 }
 
-/// What the fuel of the word's block is asked for at the word itself: of its terms and of the budget where block and function begin,
-/// and of its turns where the run or the function ends.
+/// What the fuel of the word's block is asked for at the word itself: of its terms and of the budget where block and
+/// function begin, and of its turns where the run or the function ends.
 fn push_here(
     out: &mut String,
     image: &Image,
@@ -237,8 +237,8 @@ fn push_here(
     push_ends(out, sight, sides, beginning)
 }
 
-/// The two sides of the rule of fuel at a word, each worked out with the numbers at which the fuel is scarcest; an arrow marks where it
-/// doesn't last, and terms that name no cell.
+/// The two sides of the rule of fuel at a word, each worked out with the numbers at which the fuel is scarcest; an
+/// arrow marks where it doesn't last, and terms that name no cell.
 pub(crate) fn push_fuel(
     alloc: Global,
     out: &mut String,

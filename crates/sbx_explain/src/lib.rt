@@ -1,4 +1,5 @@
-//! Why an image is refused, in words: the rule, what is known at the word, and what the rule asks for there, beside what there is.
+//! Why an image is refused, in words: the rule, what is known at the word, and what the rule asks for there, beside
+//! what there is.
 #![tactic(auto)]
 
 mod arrivals;

@@ -120,8 +120,8 @@ const UNWRITTEN: &str =
     "    write it on this way, or list a cell for it in each block between it and the word that wrote it;\n    \
      a call keeps locals, ins and slots only\n";
 
-/// Pushes what mends a location that isn't shown to hold what is declared of it. `is_back` says whether the way leads to
-/// its own block or an earlier one.
+/// Pushes what mends a location that isn't shown to hold what is declared of it. `is_back` says whether the way leads
+/// to its own block or an earlier one.
 pub(crate) fn push_mend(
     out: &mut String,
     location: u16,

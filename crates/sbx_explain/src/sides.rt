@@ -1,14 +1,14 @@
-//! The two sides of the rule of fuel worked out, with the numbers at which the fuel is scarcest. A block's cells began with numbers of
-//! their ranges, whose multiples aren't looked at; a location with a form holds what that makes of them, another one any number of
-//! its range.
+//! The two sides of the rule of fuel worked out, with the numbers at which the fuel is scarcest. A block's cells began
+//! with numbers of their ranges, whose multiples aren't looked at; a location with a form holds what that makes of
+//! them, another one any number of its range.
 use sbx_domain::State;
 use sbx_form::FormTerm;
 use sbx_image::Range;
 use sbx_inspect::{Fuel, FuelSides};
 use std::alloc::AllocError;
 
-/// A way from a block to another one: the fuel of the block and what is known where it begins, the fuel of the other block and what
-/// is known on the way to it.
+/// A way from a block to another one: the fuel of the block and what is known where it begins, the fuel of the other
+/// block and what is known on the way to it.
 #[derive(Clone, Copy)]
 pub(crate) struct Edge<'a> {
     pub(crate) fuel: &'a Fuel,

@@ -98,8 +98,8 @@ fn push_flags(out: &mut String, codes: bool, y: bool, state: &State) -> Result<(
     }
 }
 
-/// What a word reads, and what is known of it. SAVE, CALL and the returns, which read %sp, %i7 or %o7 alone, read nothing that has a
-/// range.
+/// What a word reads, and what is known of it. SAVE, CALL and the returns, which read %sp, %i7 or %o7 alone, read
+/// nothing that has a range.
 fn push_reads(out: &mut String, image: &Image, spot: &Spot, state: &State) -> Result<(), AllocError>
     requires { IsSpot image.now spot.now }
 {

@@ -19,7 +19,8 @@ fn multiple_text(alignment: u8) -> &'static str
     }
 }
 
-/// What is known of a location: the words of its range, read as signed, as `1 to 1000, a multiple of 4`, or that it is undefined.
+/// What is known of a location: the words of its range, read as signed, as `1 to 1000, a multiple of 4`, or that it is
+/// undefined.
 #[derive(Clone, Copy)]
 pub(crate) struct Known(pub(crate) Option<Range>);
 

@@ -199,9 +199,10 @@ fn push_refused(
     }
 }
 
-/// Pushes why an image is refused: the refusal and its rule in words; function, block and word; what is known of each location that
-/// the word reads, on each of its ways; and of cells, results, fuel and stack room what is asked for, beside what there is. Of an
-/// image that breaks no rule it says so. It gives the refusal, if there is one. It fails where memory is refused.
+/// Pushes why an image is refused: the refusal and its rule in words; function, block and word; what is known of each
+/// location that the word reads, on each of its ways; and of cells, results, fuel and stack room what is asked for,
+/// beside what there is. Of an image that breaks no rule it says so. It gives the refusal, if there is one. It fails
+/// where memory is refused.
 pub fn push_why(
     alloc: Global,
     out: &mut String,

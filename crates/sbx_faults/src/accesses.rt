@@ -3,7 +3,9 @@ ghost use Rattle.std.specs.Prelude.{◌≡◌, ◌≤◌};
 ghost use Rattle.sbx_rules.specs.Known.{known};
 ghost use Rattle.sbx_rules.specs.Results.{address_of, operand_entry, register_entry};
 ghost use Rattle.sbx_rules.specs.Operations.{access_of};
-ghost use Rattle.sbx_rules.specs.Rules.{holds_zero, is_aligned_access, is_aligned_range, is_in_data, is_in_frame, is_multiple_of_4, is_placed_access, may_divide_by_zero, may_overflow, needed_alignment, tagged_ranges_fit};
+ghost use Rattle.sbx_rules.specs.Rules.{holds_zero, is_aligned_access, is_aligned_range, is_in_data, is_in_frame};
+ghost use Rattle.sbx_rules.specs.Rules.{is_multiple_of_4, is_placed_access, may_divide_by_zero, may_overflow};
+ghost use Rattle.sbx_rules.specs.Rules.{needed_alignment, tagged_ranges_fit};
 
 use crate::reads::frame_offset;
 use sbx_image::{Function, Image};
@@ -14,7 +16,9 @@ use v8_meaning::{MemoryOperand, Operation, bytes_in};
 
 /// The addresses that an operand can have, where both of its parts are defined.
 fn address_of(state: &State, operand: &MemoryOperand) -> Option<Range>
-    ensures { result ≡ address_of (register_entry (known state.now) operand.now.rs1) (operand_entry (known state.now) operand.now.operand2) }
+    ensures { result ≡
+        address_of (register_entry (known state.now) operand.now.rs1)
+        (operand_entry (known state.now) operand.now.operand2) }
 {
     match (
         state.register_entry(operand.rs1),
@@ -90,7 +94,8 @@ fn is_in_data(image: &Image, size: u32, writes: bool, range: Option<Range>) -> b
 /// Whether what an operation reaches is shown to lie in one region of the data or in the frame.
 #[tactic(auto, unfolding(sbx_rules::specs::Operations::access_of))]
 pub fn is_placed(image: &Image, function: &Function, operation: &Operation, state: &State) -> bool
-    ensures { result ≡ is_placed_access image.now function.now.frame (access_of function.now operation.now (known state.now)) }
+    ensures { result ≡
+        is_placed_access image.now function.now.frame (access_of function.now operation.now (known state.now)) }
 {
     match operation {
         Operation::Transfer(transfer, operand) => match frame_offset(function, *transfer, operand) {

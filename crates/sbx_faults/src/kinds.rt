@@ -1,6 +1,7 @@
 //! Kinds of operations.
 ghost use Rattle.std.specs.Prelude.{◌≡◌};
-ghost use Rattle.sbx_rules.specs.Operations.{is_call, is_framed, is_framed_return, is_reserved, is_restore, is_return, is_save, is_transfer, is_trap, loads_word, moves_word};
+ghost use Rattle.sbx_rules.specs.Operations.{is_call, is_framed, is_framed_return, is_reserved, is_restore, is_return};
+ghost use Rattle.sbx_rules.specs.Operations.{is_save, is_transfer, is_trap, loads_word, moves_word};
 
 use sbx_image::Kind;
 use v8_meaning::{Loading, Operation, Transfer, is_ret};

@@ -2,7 +2,8 @@
 ghost use Rattle.std.specs.Prelude.{◌≡◌, ◌∷◌, Some};
 ghost use Rattle.std.specs.List.{list_any};
 ghost use Rattle.sbx_rules.specs.Known.{Known, known};
-ghost use Rattle.sbx_rules.specs.Operations.{address_reads, frame_offset, frame_word_read, moved_reads, reads_codes, reads_of, reads_y, second_reads, service_reads};
+ghost use Rattle.sbx_rules.specs.Operations.{address_reads, frame_offset, frame_word_read, moved_reads, reads_codes};
+ghost use Rattle.sbx_rules.specs.Operations.{reads_of, reads_y, second_reads, service_reads};
 ghost use Rattle.sbx_rules.specs.Rules.{is_undefined_word, reads_undefined};
 ghost use Rattle.sbx_faults.specs.Registers.{is_unknown};
 

@@ -2,7 +2,8 @@
 ghost use Rattle.std.specs.Prelude.{◌≡◌, ◌<◌, ◌⊎◌, ◌↔◌, IsTrue};
 ghost use Rattle.v8_formats.specs.Table.{IsCanonical, meaning};
 ghost use Rattle.sbx_rules.specs.Places.{ends_run, is_exit, service_asked};
-ghost use Rattle.sbx_rules.specs.Rules.{enters_well, is_declared, is_frame_size, is_minus, is_save_of, is_undefined, suits};
+ghost use Rattle.sbx_rules.specs.Rules.{enters_well, is_declared, is_frame_size, is_minus, is_save_of, is_undefined};
+ghost use Rattle.sbx_rules.specs.Rules.{suits};
 
 use crate::kinds::is_framed;
 use sbx_image::{Function, Kind, Services};
@@ -67,7 +68,8 @@ pub fn enters_well(function: &Function, operation: &Operation) -> bool
     }
 }
 
-/// Whether a function of that kind may have the operation: a leaf returns by `retl` and calls nothing, a framed one by `ret`.
+/// Whether a function of that kind may have the operation: a leaf returns by `retl` and calls nothing, a framed one by
+/// `ret`.
 pub fn suits(kind: Kind, operation: &Operation) -> bool
     ensures { result ≡ suits kind operation.now }
 {

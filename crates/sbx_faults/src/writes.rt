@@ -1,7 +1,9 @@
 //! Which registers an operation uses or writes that it must leave alone.
 ghost use Rattle.std.specs.Prelude.{◌≡◌, ◌&&◌, ◌||◌, ◌==◌, ◌∷◌, nat_le, nat_lt, not};
 ghost use Rattle.std.specs.List.{list_any};
-ghost use Rattle.sbx_rules.specs.Operations.{address_reads, is_reserved, is_framed, may_write, moved_reads, moved_writes, reads_of, second_reads, service_reads, service_writes, writes_of};
+ghost use Rattle.sbx_rules.specs.Operations.{address_reads, is_reserved, is_framed, may_write, moved_reads};
+ghost use Rattle.sbx_rules.specs.Operations.{moved_writes, reads_of, second_reads, service_reads, service_writes};
+ghost use Rattle.sbx_rules.specs.Operations.{writes_of};
 ghost use Rattle.sbx_rules.specs.Rules.{touches_reserved};
 
 use crate::kinds::{is_framed, is_reserved};
@@ -74,7 +76,8 @@ fn may_write(kind: Kind, rd: Reg) -> bool
 }
 
 fn may_write_moved(kind: Kind, transfer: Transfer, rd: Reg) -> bool
-    ensures { not result ≡ list_any (λ r. not (not (is_reserved r) && (is_framed kind || nat_lt r 16))) (moved_writes transfer rd) }
+    ensures { not result ≡
+        list_any (λ r. not (not (is_reserved r) && (is_framed kind || nat_lt r 16))) (moved_writes transfer rd) }
 {
     match transfer {
         Transfer::Load(Loading::Double) => may_write(kind, rd) && may_write(kind, odd_of(rd)),
@@ -108,7 +111,8 @@ fn writes_reserved(function: &Function, operation: &Operation) -> bool
     }
 }
 
-/// Whether an operation uses %sp, %fp, %o7 or %i7 otherwise than by its own form, or writes a register that isn't its to write.
+/// Whether an operation uses %sp, %fp, %o7 or %i7 otherwise than by its own form, or writes a register that isn't its
+/// to write.
 #[tactic(auto, unfolding(sbx_rules::specs::Rules::touches_reserved))]
 pub fn touches_reserved(function: &Function, operation: &Operation) -> bool
     ensures { result ≡ touches_reserved function.now operation.now }

@@ -28,20 +28,23 @@ IsSource bytes = (parts : Parts) × (source_image bytes ≡ Ok parts)
 abbrev pub FitsItsFields : Parts → Type 0
 FitsItsFields parts = IsTyped parts
 
--- The output grew by the spelling of the image that the bytes of the file mean, where they are known. Each of its numbers fits its field:
--- so a law says that it is read again, and is safe where it breaks no rule.
+-- The output grew by the spelling of the image that the bytes of the file mean, where they are known. Each of its
+-- numbers fits its field: so a law says that it is read again, and is safe where it breaks no rule.
 abbrev pub AssembledFrom : List ℕ → Option (List ℕ) → Option (List ℕ) → Type 0
-AssembledFrom bytes old new = (parts : Parts) × (source_image bytes ≡ Ok parts) × FitsItsFields parts × Appends old new (spelling parts)
+AssembledFrom bytes old new = (parts : Parts) × (source_image bytes ≡ Ok parts) × FitsItsFields parts
+    × Appends old new (spelling parts)
 
 abbrev pub Assembled : Option (List ℕ) → Option (List ℕ) → Option (List ℕ) → Type 0
 Assembled file old new = IfSome file (λ bytes. AssembledFrom bytes old new)
 
 -- The output grew by the listing of the image that the bytes of the file spell, where they are known.
 abbrev pub Listed : Option (List ℕ) → Option (List ℕ) → Option (List ℕ) → Type 0
-Listed file old new = IfSome file (λ bytes. (parts : Parts) × (reading bytes ≡ Ok parts) × Appends old new (listing CODE_START parts.words))
+Listed file old new =
+    IfSome file (λ bytes. (parts : Parts) × (reading bytes ≡ Ok parts)
+    × Appends old new (listing CODE_START parts.words))
 
--- The first bytes of what a job puts out when all else is done: of the object of a source, of the line of an accepted image, of the
--- listing of an image.
+-- The first bytes of what a job puts out when all else is done: of the object of a source, of the line of an accepted
+-- image, of the listing of an image.
 abbrev pub BeginsObject : List ℕ → List ℕ → Type 0
 BeginsObject bytes written = (parts : Parts) × (source_image bytes ≡ Ok parts) × Begins written (spelling parts)
 
@@ -49,7 +52,8 @@ abbrev pub BeginsVerdict : List ℕ → List ℕ → Type 0
 BeginsVerdict bytes written = IsAccepted bytes × Begins written (codes "accepted\n")
 
 abbrev pub BeginsListing : List ℕ → List ℕ → Type 0
-BeginsListing bytes written = (parts : Parts) × (reading bytes ≡ Ok parts) × Begins written (listing CODE_START parts.words)
+BeginsListing bytes written = (parts : Parts) × (reading bytes ≡ Ok parts)
+    × Begins written (listing CODE_START parts.words)
 
 -- What a stop of such a job leaves: the output's own the first bytes, any other none.
 abbrev pub FrontLeaves : (List ℕ → Type 0) → Stop → List ℕ → Type 0

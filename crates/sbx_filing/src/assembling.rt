@@ -60,7 +60,8 @@ pub fn assemble_file<F: Read, O: Write>(
     ensures assembled { OnOk result (Assembled (F.remaining file.old) (O.contents out.old) (O.contents out.new)) }
     ensures stop { IfErr result (λ stop. IfSome (F.remaining file.old) (IsTrueOfSource stop)) }
     ensures untouched { IfErr result (λ stop. (IsOfOutput stop → ⊥) → out.new ≡ out.old) }
-    ensures left { IfErr result (FrontLeft BeginsObject (F.remaining file.old) (O.contents out.old) (O.contents out.new)) }
+    ensures left { IfErr result
+        (FrontLeft BeginsObject (F.remaining file.old) (O.contents out.old) (O.contents out.new)) }
 {
     let image = source_in(alloc, file)?;
     tells_fields(&image);

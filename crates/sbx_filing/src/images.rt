@@ -30,8 +30,8 @@ fn feed_all<F: Read>(reader: &mut ImageReader, file: &mut F) -> Result<(), Stop>
     Err(Stop::File)
 }
 
-/// The image that the bytes of a file spell. A fault is told by the piece that brings the last byte of the first bad field, and
-/// nothing behind that piece is read.
+/// The image that the bytes of a file spell. A fault is told by the piece that brings the last byte of the first bad
+/// field, and nothing behind that piece is read.
 pub fn image_in<F: Read>(alloc: Global, file: &mut F) -> Result<Image, Stop>
     ensures image { IfOk result (λ image. IfSome (F.remaining file.old) (λ bytes. reading bytes ≡ Ok image)) }
     ensures stop { IfErr result (λ stop. IfSome (F.remaining file.old) (IsTrueOfImage stop)) }

@@ -16,7 +16,8 @@ pub fn list_file<F: Read, O: Write>(alloc: Global, file: &mut F, out: &mut O) ->
     ensures listed { OnOk result (Listed (F.remaining file.old) (O.contents out.old) (O.contents out.new)) }
     ensures stop { IfErr result (λ stop. IfSome (F.remaining file.old) (IsTrueOfImage stop)) }
     ensures untouched { IfErr result (λ stop. (IsOfOutput stop → ⊥) → out.new ≡ out.old) }
-    ensures left { IfErr result (FrontLeft BeginsListing (F.remaining file.old) (O.contents out.old) (O.contents out.new)) }
+    ensures left { IfErr result
+        (FrontLeft BeginsListing (F.remaining file.old) (O.contents out.old) (O.contents out.new)) }
 {
     let image = image_in(alloc, file)?;
     let _count = image.word_count();

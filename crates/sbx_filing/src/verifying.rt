@@ -38,7 +38,8 @@ pub fn verify_file<F: Read, O: Write>(alloc: Global, file: &mut F, out: &mut O) 
     ensures stop { IfErr result (λ stop. IfSome (F.remaining file.old) (IsTrueOf stop)) }
     ensures line { OnOk result (Appends (O.contents out.old) (O.contents out.new) (codes "accepted\n")) }
     ensures untouched { IfErr result (λ stop. (IsOfOutput stop → ⊥) → out.new ≡ out.old) }
-    ensures left { IfErr result (FrontLeft BeginsVerdict (F.remaining file.old) (O.contents out.old) (O.contents out.new)) }
+    ensures left { IfErr result
+        (FrontLeft BeginsVerdict (F.remaining file.old) (O.contents out.old) (O.contents out.new)) }
 {
     let _accepted = accepted_in(alloc, file)?;
     match put_through(out, b"accepted\n") {

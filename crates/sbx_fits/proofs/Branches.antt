@@ -39,7 +39,8 @@ use Rattle.sbx_fits.proofs.Memory.{plain_keeps}
 
 -- ---- services
 
-served_keeps : (frame v : ℕ) (t : Trap) (d : Known) (h : Held) → service_of t ≡ Some 1 → ((e : Known) → Keeps d (served (Some 1) d) h (with_location 8 v h)) → Keeps d (transferred frame (TrapOnCondition t) d) h (with_location 8 v h)
+served_keeps : (frame v : ℕ) (t : Trap) (d : Known) (h : Held) → service_of t ≡ Some 1 → ((e : Known) → Keeps d (served (Some 1) d) h (with_location 8 v h)) →
+    Keeps d (transferred frame (TrapOnCondition t) d) h (with_location 8 v h)
 unfolding transferred
 served_keeps frame v t d h is keeps = subst (λ s. Keeps d (served s d) h (with_location 8 v h)) (sym is) (keeps d)
 
@@ -158,11 +159,13 @@ narrowed_y : (d : Known) (l : ℕ) (r : Range) (y : ℕ) → HasAlignment d.y y 
 unfolding narrowed_at
 narrowed_y d l r y h = h
 
-near_narrowed_related : (start : Cells) (d : Known) (words : Words) (icc : Icc) (y : ℕ) (x : Related) (r : Range) → InInterval r (word_of_related words x) → Near start d words icc y → Near start (narrowed_related x r d) words icc y
+near_narrowed_related : (start : Cells) (d : Known) (words : Words) (icc : Icc) (y : ℕ) (x : Related) (r : Range) → InInterval r (word_of_related words x) →
+    Near start d words icc y → Near start (narrowed_related x r d) words icc y
 near_narrowed_related start d words icc y (Location l) r is near = near_narrowed start d words icc y l r is near
 near_narrowed_related start d words icc y (Word w) r is near = near
 
-fits_narrowed_related : (start : Cells) (d : Known) (words : Words) (icc : Icc) (y : ℕ) (x : Related) (r : Range) → InInterval r (word_of_related words x) → IsAligned r.alignment (word_of_related words x)
+fits_narrowed_related : (start : Cells) (d : Known) (words : Words) (icc : Icc) (y : ℕ) (x : Related) (r : Range) → InInterval r (word_of_related words x) →
+    IsAligned r.alignment (word_of_related words x)
     → Fits start d words icc y → Fits start (narrowed_related x r d) words icc y
 fits_narrowed_related start d words icc y (Location l) r is aligned fits = record {
   near = near_narrowed start d words icc y l r is fits.near;
@@ -213,7 +216,8 @@ left_in_both true p v w aligned same leaves =
           (m, subst (IsAligned r.alignment) (same refl) m));
     }
 
-left_of_refine : (cond : Cond) (a b : Range) (v w : ℕ) → AreIn a b v w → holds cond (difference_codes v w false) ≡ true → Leaves (refine cond a b) v w (IsAligned a.alignment v × IsAligned b.alignment w)
+left_of_refine : (cond : Cond) (a b : Range) (v w : ℕ) → AreIn a b v w → holds cond (difference_codes v w false) ≡ true →
+    Leaves (refine cond a b) v w (IsAligned a.alignment v × IsAligned b.alignment w)
 left_of_refine cond a b v w are h =
     let k = refinement_keeps_pairs cond a b v w are h in
     record { pair = narrowed cond a b; is = k.0; both = k.1; multiples = λ m. k.2 m.0 m.1 }
@@ -238,7 +242,8 @@ goes_compared cond start d words icc y x z (Some a) (Some b) h codes p q m near 
     let v = word_of_related words x in
     let w = word_of_related words z in
     let are : AreIn a b v w = record { first_word = codes.first; second_word = codes.second; first = p; second = q } in
-    let left = left_in_both (is_same x z) (refine cond a b) v w (IsAligned a.alignment v × IsAligned b.alignment w) (same_related words x z) (left_of_refine cond a b v w are (ap (holds cond) (sym codes.codes) ∙ h)) in
+    let left = left_in_both (is_same x z) (refine cond a b) v w (IsAligned a.alignment v × IsAligned b.alignment w) (same_related words x z)
+    (left_of_refine cond a b v w are (ap (holds cond) (sym codes.codes) ∙ h)) in
     let pair = left.pair in
     record {
       known = narrowed_related x pair.left (narrowed_related z pair.right d);
@@ -267,7 +272,8 @@ goes_signed cond start d words icc y l (Some a) h signs p m near =
       };
     }
 
-goes_by : (cond : Cond) (start : Cells) (d : Known) (words : Words) (icc : Icc) (y : ℕ) (r : Option Relation) → holds cond icc ≡ true → Relates words icc r → Near start d words icc y → Goes start d words icc y (refined_by cond r d)
+goes_by : (cond : Cond) (start : Cells) (d : Known) (words : Words) (icc : Icc) (y : ℕ) (r : Option Relation) → holds cond icc ≡ true → Relates words icc r →
+    Near start d words icc y → Goes start d words icc y (refined_by cond r d)
 goes_by cond start d words icc y None h relates near = stays start d words icc y near
 goes_by cond start d words icc y (Some (Compared x z)) h relates near =
     goes_compared cond start d words icc y x z (range_of_related d x) (range_of_related d z) h relates (related_interval start d words icc y x near) (related_interval start d words icc y z near)

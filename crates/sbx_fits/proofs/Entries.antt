@@ -77,13 +77,16 @@ form_by : (t : Bool) (start : Cells) (f g : Option Form) (v : ℕ) → (t ≡ tr
 form_by true start f g v p q = p refl
 form_by false start f g v p q = q refl
 
-sum_has : (start : Cells) (a b : Entry) (x y v : ℕ) → HasForm start a.form x → HasForm start b.form y → (sums_fit a.range b.range ≡ true → signed v ≡ signed x +ℤ signed y) → HasForm start (sum_form a b) v
+sum_has : (start : Cells) (a b : Entry) (x y v : ℕ) → HasForm start a.form x → HasForm start b.form y →
+    (sums_fit a.range b.range ≡ true → signed v ≡ signed x +ℤ signed y) → HasForm start (sum_form a b) v
 sum_has start a b x y v p q e = form_by (sums_fit a.range b.range) start _ _ v (λ t. sum_of_forms start a.form b.form x y v p q (e t)) (λ t. tt)
 
-difference_has : (start : Cells) (a b : Entry) (x y v : ℕ) → HasForm start a.form x → HasForm start b.form y → (differences_fit a.range b.range ≡ true → signed v ≡ signed x -ℤ signed y) → HasForm start (difference_form a b) v
+difference_has : (start : Cells) (a b : Entry) (x y v : ℕ) → HasForm start a.form x → HasForm start b.form y →
+    (differences_fit a.range b.range ≡ true → signed v ≡ signed x -ℤ signed y) → HasForm start (difference_form a b) v
 difference_has start a b x y v p q e = form_by (differences_fit a.range b.range) start _ _ v (λ t. difference_of_forms start b.form a.form y x v q p (e t)) (λ t. tt)
 
-copy_has : (start : Cells) (a b : Entry) (x y : ℕ) → x < 2 ^ 32 → y < 2 ^ 32 → InInterval a.range x → InInterval b.range y → HasForm start a.form x → HasForm start b.form y → HasForm start (copied_form a b) (bit_or x y)
+copy_has : (start : Cells) (a b : Entry) (x y : ℕ) → x < 2 ^ 32 → y < 2 ^ 32 → InInterval a.range x → InInterval b.range y → HasForm start a.form x →
+    HasForm start b.form y → HasForm start (copied_form a b) (bit_or x y)
 copy_has start a b x y u w s r p q =
     form_by (is_zero a.range) start _ _ (bit_or x y)
     (λ t. let e : bit_or x y ≡ y = ap (λ n. bit_or n y) (is_zero-word a.range x u t s) ∙ or_zero_l y in subst (HasForm start b.form) (sym e) q)
@@ -91,7 +94,8 @@ copy_has start a b x y u w s r p q =
     (λ t. let e : bit_or x y ≡ x = ap (λ n. bit_or x n) (is_zero-word b.range y w t r) ∙ or_zero_r x in subst (HasForm start a.form) (sym e) p)
     (λ t. tt))
 
-form_has : (start : Cells) (op : Op) (a b : Entry) (x y : ℕ) (icc : Icc) (high : ℕ) → x < 2 ^ 32 → y < 2 ^ 32 → InInterval a.range x → InInterval b.range y → HasForm start a.form x → HasForm start b.form y
+form_has : (start : Cells) (op : Op) (a b : Entry) (x y : ℕ) (icc : Icc) (high : ℕ) → x < 2 ^ 32 → y < 2 ^ 32 → InInterval a.range x → InInterval b.range y →
+    HasForm start a.form x → HasForm start b.form y
     → HasForm start (form_of op a b) (outcome op x y icc high).value
 unfolding form_of outcome
 form_has start Add a b x y icc high u w s r p q = sum_has start a b x y _ p q (exact-sum a.range b.range x y u w s r)

@@ -57,7 +57,8 @@ fits_saved start d h k is fits = record {
 chosen : Known → ℕ → Option Entry
 chosen d l = if is_global l then d.entry l else (if is_out l then d.entry (l + 16) else None)
 
-by_window : (P : Option Entry → ℕ → Type 0) (d : Known) (before after : Words) → AreRestored before after → ((l : ℕ) → P (d.entry l) (before l)) → ((w : ℕ) → P None w) → (l : ℕ) → P (chosen d l) (after l)
+by_window : (P : Option Entry → ℕ → Type 0) (d : Known) (before after : Words) → AreRestored before after → ((l : ℕ) → P (d.entry l) (before l)) →
+    ((w : ℕ) → P None w) → (l : ℕ) → P (chosen d l) (after l)
 unfolding chosen
 by_window P d before after is all none l =
     by_if (is_global l) (λ e. P e (after l)) _ _
@@ -111,14 +112,16 @@ near_restored : (frame : ℕ) (f : Three) (start : Cells) (d : Known) (h : Held)
     → Near start (transferred frame (Restore f) d) (with_word f.rd (address h.words f.rs1 f.operand2) after) h.icc h.y
 unfolding transferred
 near_restored frame f start d h after operand is near =
-    near_written start (restored d) after h.icc h.y f.rd (address h.words f.rs1 f.operand2) (result_of ops.Add (register_entry d f.rs1) (operand_entry d f.operand2)) (address_word h.words f.rs1 f.operand2)
+    near_written start (restored d) after h.icc h.y f.rd (address h.words f.rs1 f.operand2)
+    (result_of ops.Add (register_entry d f.rs1) (operand_entry d f.operand2)) (address_word h.words f.rs1 f.operand2)
     (sum_has start d h.words h.icc h.y f.rs1 f.operand2 operand near) (near_popped start d h.words after h.icc h.y is near)
 
 fits_restored : (frame : ℕ) (f : Three) (start : Cells) (d : Known) (h : Held) (after : Words) → IsOperand f.operand2 → AreRestored h.words after → Fits start d h.words h.icc h.y
     → Fits start (transferred frame (Restore f) d) (with_word f.rd (address h.words f.rs1 f.operand2) after) h.icc h.y
 unfolding transferred
 fits_restored frame f start d h after operand is fits =
-    fits_written start (restored d) after h.icc h.y f.rd (address h.words f.rs1 f.operand2) (result_of ops.Add (register_entry d f.rs1) (operand_entry d f.operand2)) (address_word h.words f.rs1 f.operand2)
+    fits_written start (restored d) after h.icc h.y f.rd (address h.words f.rs1 f.operand2)
+    (result_of ops.Add (register_entry d f.rs1) (operand_entry d f.operand2)) (address_word h.words f.rs1 f.operand2)
     (sum_has start d h.words h.icc h.y f.rs1 f.operand2 operand fits.near) (sum_multiple start d h.words h.icc h.y f.rs1 f.operand2 operand fits) (fits_popped start d h.words after h.icc h.y is fits)
 
 save_keeps : (frame : ℕ) (f : Three) (d : Known) (h k : Held) → AreSaved h k → Keeps d (transferred frame (Save f) d) h k
@@ -136,13 +139,15 @@ frames_keep_fitting = record {
 
 -- ---- calls
 
-near_linked : (frame displacement v : ℕ) (start : Cells) (d : Known) (h : Held) → v < 2 ^ 32 → Near start d h.words h.icc h.y → Near start (transferred frame (Call displacement) d) (with_word 15 v h.words) h.icc h.y
+near_linked : (frame displacement v : ℕ) (start : Cells) (d : Known) (h : Held) → v < 2 ^ 32 → Near start d h.words h.icc h.y →
+    Near start (transferred frame (Call displacement) d) (with_word 15 v h.words) h.icc h.y
 unfolding transferred
 near_linked frame displacement v start d h small near =
     let n = near_written start d h.words h.icc h.y 15 v None small (record { interval = tt; form = tt }) near in
     record { are_words = n.are_words; zero = n.zero; intervals = n.intervals; forms = n.forms; y_word = n.y_word; y_interval = n.y_interval; relates = tt }
 
-fits_linked : (frame displacement v : ℕ) (start : Cells) (d : Known) (h : Held) → v < 2 ^ 32 → Fits start d h.words h.icc h.y → Fits start (transferred frame (Call displacement) d) (with_word 15 v h.words) h.icc h.y
+fits_linked : (frame displacement v : ℕ) (start : Cells) (d : Known) (h : Held) → v < 2 ^ 32 → Fits start d h.words h.icc h.y →
+    Fits start (transferred frame (Call displacement) d) (with_word 15 v h.words) h.icc h.y
 unfolding transferred
 fits_linked frame displacement v start d h small fits =
     let f = fits_written start d h.words h.icc h.y 15 v None small (record { interval = tt; form = tt }) tt fits in

@@ -102,11 +102,13 @@ load_keeps loadings.Double rd d h n small =
     let low : n % 2 ^ 32 < 2 ^ 32 = mod_below n (2 ^ 32) (omega arith) in
     let e : Option Entry = Some (plain_entry (all 0)) in
     let first = plain_keeps (odd_of rd) (n % 2 ^ 32) (all 0) d h low (any_range _ low) in
-    let both = then_keeps d (with_entry (odd_of rd) e d) (with_entry rd e (with_entry (odd_of rd) e d)) h (with_location (odd_of rd) (n % 2 ^ 32) h) (with_location rd (n / 2 ^ 32) (with_location (odd_of rd) (n % 2 ^ 32) h))
+    let both = then_keeps d (with_entry (odd_of rd) e d) (with_entry rd e (with_entry (odd_of rd) e d)) h (with_location (odd_of rd) (n % 2 ^ 32) h)
+    (with_location rd (n / 2 ^ 32) (with_location (odd_of rd) (n % 2 ^ 32) h))
     first (plain_keeps rd (n / 2 ^ 32) (all 0) (with_entry (odd_of rd) e d) (with_location (odd_of rd) (n % 2 ^ 32) h) high (any_range _ high)) in
     subst (λ k. Keeps d k h (with_location rd (n / 2 ^ 32) (with_location (odd_of rd) (n % 2 ^ 32) h))) (either_written rd (odd_of rd) e d) both
 
-exchange_keeps : (word : Option ℕ) (e : Exchanging) (rd : ℕ) (d : Known) (h : Held) (n : ℕ) → n < 2 ^ (8 * bytes_in (exchanged_size e)) → Keeps d (with_moved word (Exchange e) rd d) h (with_location rd n h)
+exchange_keeps : (word : Option ℕ) (e : Exchanging) (rd : ℕ) (d : Known) (h : Held) (n : ℕ) → n < 2 ^ (8 * bytes_in (exchanged_size e)) →
+    Keeps d (with_moved word (Exchange e) rd d) h (with_location rd n h)
 exchange_keeps word exchanges.Ones rd d h n small = plain_keeps rd n _ d h (omega arith) (loads_stay_in.unsigned_bytes n small)
 exchange_keeps word exchanges.Register rd d h n small = plain_keeps rd n _ d h small (any_range n small)
 
@@ -114,7 +116,8 @@ same_keeps : (d : Known) (h : Held) → Keeps d d h h
 same_keeps d h = record { near = λ start near. near; fits = λ start fits. fits }
 
 -- by the frame word that an address names
-moved_keeps : (frame : ℕ) (t : Moving) (m : MemoryOperand) (d : Known) (h k : Held) (word : Option ℕ) → frame_word_of frame m ≡ word → Keeps d (with_moved word t m.rd d) h k → Keeps d (transferred frame (Transfer t m) d) h k
+moved_keeps : (frame : ℕ) (t : Moving) (m : MemoryOperand) (d : Known) (h k : Held) (word : Option ℕ) → frame_word_of frame m ≡ word →
+    Keeps d (with_moved word t m.rd d) h k → Keeps d (transferred frame (Transfer t m) d) h k
 unfolding transferred
 moved_keeps frame t m d h k word is keeps = subst (λ w. Keeps d (with_moved w t m.rd d) h k) (sym is) keeps
 
@@ -130,7 +133,8 @@ data_keeps_fitting = record {
 read_keeps : (l rd : ℕ) (d : Known) (h : Held) → Keeps d (with_entry rd (d.entry l) d) h (with_location rd (h.words l) h)
 read_keeps l rd d h = record {
   near = λ start near. near_written start d h.words h.icc h.y rd (h.words l) (d.entry l) (near.are_words l) (record { interval = near.intervals l; form = near.forms l }) near;
-  fits = λ start fits. fits_written start d h.words h.icc h.y rd (h.words l) (d.entry l) (fits.near.are_words l) (record { interval = fits.near.intervals l; form = fits.near.forms l }) (fits.multiples l) fits;
+  fits = λ start fits. fits_written start d h.words h.icc h.y rd (h.words l) (d.entry l) (fits.near.are_words l)
+      (record { interval = fits.near.intervals l; form = fits.near.forms l }) (fits.multiples l) fits;
 }
 
 stored_keeps : (l rd : ℕ) (d : Known) (h : Held) → Keeps d (with_entry l (register_entry d rd) d) h (with_location l (h.words rd) h)

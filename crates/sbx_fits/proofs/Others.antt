@@ -42,7 +42,8 @@ are_in start a b x y p q s u = record { first_word = p; second_word = q; first =
 -- ---- quotients
 
 quotient_has : (start : Cells) (op : Division) (ys : Option Range) (a b : Option Entry) (x y : ℕ) (icc : Icc) (high : ℕ) → x < 2 ^ 32 → y < 2 ^ 32 → high < 2 ^ 32
-    → HasInterval ys high → Has start a x → Has start b y → Has start (quotient_of ys a b) (divided op x y icc high).value × HasAlignment (range_of_entry (quotient_of ys a b)) (divided op x y icc high).value
+    → HasInterval ys high → Has start a x → Has start b y →
+    Has start (quotient_of ys a b) (divided op x y icc high).value × HasAlignment (range_of_entry (quotient_of ys a b)) (divided op x y icc high).value
 quotient_has start op (Some ys) (Some a) (Some b) x y icc high p q r s u w =
     let is : InRange (range_divide ys a.range b.range) (divided op x y icc high).value = quotients_stay_in op ys a.range b.range high x y icc (are_in start a b x y p q u w) r s in
     (entry_has start (range_divide ys a.range b.range) None _ is.interval tt, is.aligned)
@@ -137,7 +138,8 @@ near_tagged frame op f start d h icc operand near =
     let b = second h.words f.operand2 in
     let x = register_entry d f.rs1 in
     let z = operand_entry d f.operand2 in
-    let has = tagged_has start op x z a b (near.are_words f.rs1) (operand_word h.words f.operand2 near.are_words operand) (register_has start d h.words h.icc h.y f.rs1 near) (operand_has start d h.words h.icc h.y f.operand2 near) in
+    let has = tagged_has start op x z a b (near.are_words f.rs1) (operand_word h.words f.operand2 near.are_words operand)
+    (register_has start d h.words h.icc h.y f.rs1 near) (operand_has start d h.words h.icc h.y f.operand2 near) in
     let wrote = near_written start d h.words h.icc h.y f.rd (tagged_value op a b) (tagged_of op x z) (tagged_word op a b) has near in
     near_related start (with_entry f.rd (tagged_of op x z) d) (with_word f.rd (tagged_value op a b) h.words) h.icc icc h.y true None tt wrote
 
@@ -156,12 +158,15 @@ fits_tagged frame op f d h out operand is start fits =
     let first = register_has start d h.words h.icc h.y f.rs1 near in
     let other = operand_has start d h.words h.icc h.y f.operand2 near in
     let has = subst (Has start (tagged_of op x z)) same.0 (tagged_has start op x z a b p q first other) in
-    let multiple = tagged_multiple start op x z a b h.icc h.y out p q first other (register_multiple start d h.words h.icc h.y f.rs1 fits) (operand_multiple start d h.words h.icc h.y f.operand2 fits) is in
+    let multiple =
+    tagged_multiple start op x z a b h.icc h.y out p q first other (register_multiple start d h.words h.icc h.y f.rs1 fits)
+    (operand_multiple start d h.words h.icc h.y f.operand2 fits) is in
     let wrote = fits_written start d h.words h.icc h.y f.rd out.value (tagged_of op x z) (subst (λ v. v < 2 ^ 32) same.0 (tagged_word op a b)) has multiple fits in
     subst (λ n. Fits start (transferred frame (TaggedTrap op f) d) (with_word f.rd out.value h.words) out.icc n) same.1
     (fits_related start (with_entry f.rd (tagged_of op x z) d) (with_word f.rd out.value h.words) h.icc out.icc h.y true None tt wrote)
 
-near_tagged_out : (frame : ℕ) (op : TaggedOp) (f : Three) (d : Known) (h : Held) (out : AluOut) → IsOperand f.operand2 → tagged_outcome op (h.words f.rs1) (second h.words f.operand2) h.icc h.y ≡ Some out
+near_tagged_out : (frame : ℕ) (op : TaggedOp) (f : Three) (d : Known) (h : Held) (out : AluOut) → IsOperand f.operand2 →
+    tagged_outcome op (h.words f.rs1) (second h.words f.operand2) h.icc h.y ≡ Some out
     → (start : Cells) → Near start d h.words h.icc h.y → Near start (transferred frame (TaggedTrap op f) d) (with_word f.rd out.value h.words) out.icc out.y
 near_tagged_out frame op f d h out operand is start near =
     let same = tagged_is op (h.words f.rs1) (second h.words f.operand2) h.icc h.y out is in

@@ -170,7 +170,8 @@ near_result frame op f d h fields start near =
     let out = outcome op a b h.icc h.y in
     let p : a < 2 ^ 32 = near.are_words f.rs1 in
     let q : b < 2 ^ 32 = operand_word h.words f.operand2 near.are_words fields.operand2 in
-    let has = result_has start op (register_entry d f.rs1) (operand_entry d f.operand2) a b h.icc h.y p q (register_has start d h.words h.icc h.y f.rs1 near) (operand_has start d h.words h.icc h.y f.operand2 near) in
+    let has = result_has start op (register_entry d f.rs1) (operand_entry d f.operand2) a b h.icc h.y p q (register_has start d h.words h.icc h.y f.rs1 near)
+    (operand_has start d h.words h.icc h.y f.operand2 near) in
     let e = result_of op (register_entry d f.rs1) (operand_entry d f.operand2) in
     let wrote = near_written start d h.words h.icc h.y f.rd out.value e (value_word op a b h.icc h.y p q) has near in
     let coded = near_coded (sets_codes op) start (with_entry f.rd e d) (with_word f.rd out.value h.words) h.icc out.icc h.y (relation_of op f)

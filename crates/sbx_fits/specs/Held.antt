@@ -19,8 +19,8 @@ pub record Held : Type 0 where
   pub icc : Icc
   pub y : ℕ
 
--- What was known before, and what is known after, of what is held before and after: it keeps fitting. Intervals, forms and
--- the relation stay by themselves, whatever the multiples are.
+-- What was known before, and what is known after, of what is held before and after: it keeps fitting. Intervals, forms
+-- and the relation stay by themselves, whatever the multiples are.
 pub record Keeps (d e : Known) (h k : Held) : Type 0 where
   pub near : (start : Cells) → Near start d h.words h.icc h.y → Near start e k.words k.icc k.y
   pub fits : (start : Cells) → Fits start d h.words h.icc h.y → Fits start e k.words k.icc k.y

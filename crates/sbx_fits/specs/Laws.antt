@@ -21,7 +21,9 @@ use Rattle.v8_meaning.specs.declared.operation.Exchange.{Exchange as Exchanging}
 use Rattle.v8_meaning.specs.declared.operation.Loading.{Loading}
 use Rattle.v8_meaning.specs.declared.operation.Loading.TheVariants as loadings
 use Rattle.v8_meaning.specs.declared.operation.MemoryOperand.{MemoryOperand}
-use Rattle.v8_meaning.specs.declared.operation.Operation.TheVariants.{BranchOnCondition, Call, Compute, Divide, JumpAndLink, ReadY, Restore, Save, SetHigh, TaggedTrap, Transfer, TrapOnCondition, WriteY}
+use Rattle.v8_meaning.specs.declared.operation.Operation.TheVariants.{BranchOnCondition, Call, Compute, Divide}
+use Rattle.v8_meaning.specs.declared.operation.Operation.TheVariants.{JumpAndLink, ReadY, Restore, Save, SetHigh}
+use Rattle.v8_meaning.specs.declared.operation.Operation.TheVariants.{TaggedTrap, Transfer, TrapOnCondition, WriteY}
 use Rattle.v8_meaning.specs.declared.operation.Transfer.TheVariants.{Exchange, Load, Store}
 use Rattle.sbx_flat.specs.Effects.{high_word, service_of}
 use Rattle.sbx_image.specs.Cell.{Cell}
@@ -31,7 +33,8 @@ use Rattle.sbx_domain.specs.Fits.{Fits, HasAlignment, HasInterval, Near, Words, 
 use Rattle.sbx_domain.specs.Known.{Known, range_at, range_of_entry, started}
 use Rattle.sbx_domain.specs.Refining.{refined}
 use Rattle.sbx_domain.specs.Transfer.{called, frame_word_of, result_entry, transferred}
-use Rattle.sbx_fits.specs.Held.{AreFields, AreRestored, AreReturned, AreSaved, Held, IsOperand, Keeps, numbers, tagged_value, with_location, with_pairs, with_result}
+use Rattle.sbx_fits.specs.Held.{AreFields, AreRestored, AreReturned, AreSaved, Held, IsOperand, Keeps, numbers}
+use Rattle.sbx_fits.specs.Held.{tagged_value, with_location, with_pairs, with_result}
 
 -- ---- results
 
@@ -44,13 +47,16 @@ ResultsKeepFitting =
 abbrev pub QuotientsKeepFitting : Type 0
 QuotientsKeepFitting =
     (frame : ℕ) (op : Division) (f : Three) (d : Known) (h : Held) → IsOperand f.operand2
-    → Keeps d (transferred frame (Divide op f) d) h (with_result f.rd (divided op (h.words f.rs1) (second h.words f.operand2) h.icc h.y) h)
+    → Keeps d (transferred frame (Divide op f) d) h
+    (with_result f.rd (divided op (h.words f.rs1) (second h.words f.operand2) h.icc h.y) h)
 
 -- of the tagged operations that may trap, intervals and forms stay also where they would, whatever the codes
 pub record TaggedResultsKeepFitting : Type 0 where
-  pub near : (frame : ℕ) (op : TaggedOp) (f : Three) (start : Cells) (d : Known) (h : Held) (icc : Icc) → IsOperand f.operand2
+  pub near : (frame : ℕ) (op : TaggedOp) (f : Three) (start : Cells) (d : Known) (h : Held) (icc : Icc) →
+      IsOperand f.operand2
       → Near start d h.words h.icc h.y
-      → Near start (transferred frame (TaggedTrap op f) d) (with_word f.rd (tagged_value op (h.words f.rs1) (second h.words f.operand2)) h.words) icc h.y
+      → Near start (transferred frame (TaggedTrap op f) d)
+      (with_word f.rd (tagged_value op (h.words f.rs1) (second h.words f.operand2)) h.words) icc h.y
   pub fits : (frame : ℕ) (op : TaggedOp) (f : Three) (d : Known) (h : Held) (out : AluOut) → IsOperand f.operand2
       → tagged_outcome op (h.words f.rs1) (second h.words f.operand2) h.icc h.y ≡ Some out
       → Keeps d (transferred frame (TaggedTrap op f) d) h (with_result f.rd out h)
@@ -59,10 +65,13 @@ pub record TaggedResultsKeepFitting : Type 0 where
 
 -- What fits before SETHI, RDY or WRY fits after it.
 pub record MovesKeepFitting : Type 0 where
-  pub set_high : (frame : ℕ) (f : Upper) (d : Known) (h : Held) → Keeps d (transferred frame (SetHigh f) d) h (with_location f.rd (high_word f) h)
-  pub read_y : (frame rd : ℕ) (d : Known) (h : Held) → Keeps d (transferred frame (ReadY rd) d) h (with_location rd h.y h)
+  pub set_high : (frame : ℕ) (f : Upper) (d : Known) (h : Held) →
+      Keeps d (transferred frame (SetHigh f) d) h (with_location f.rd (high_word f) h)
+  pub read_y : (frame rd : ℕ) (d : Known) (h : Held) →
+      Keeps d (transferred frame (ReadY rd) d) h (with_location rd h.y h)
   pub write_y : (frame : ℕ) (f : Two) (d : Known) (h : Held) → IsOperand f.operand2
-      → Keeps d (transferred frame (WriteY f) d) h (record h { y = bit_xor (h.words f.rs1) (second h.words f.operand2) })
+      → Keeps d (transferred frame (WriteY f) d) h
+      (record h { y = bit_xor (h.words f.rs1) (second h.words f.operand2) })
 
 -- ---- loads and stores
 
@@ -72,7 +81,8 @@ pub record DataKeepsFitting : Type 0 where
       → Keeps d (transferred frame (Transfer (Load l) m) d) h (with_pairs (loaded l m.rd n) h)
   pub store : (frame : ℕ) (size : Size) (m : MemoryOperand) (d : Known) (h : Held) → frame_word_of frame m ≡ None
       → Keeps d (transferred frame (Transfer (Store size) m) d) h h
-  pub exchange : (frame : ℕ) (e : Exchanging) (m : MemoryOperand) (d : Known) (h : Held) (n : ℕ) → n < 2 ^ (8 * bytes_in (exchanged_size e))
+  pub exchange : (frame : ℕ) (e : Exchanging) (m : MemoryOperand) (d : Known) (h : Held) (n : ℕ) →
+      n < 2 ^ (8 * bytes_in (exchanged_size e))
       → Keeps d (transferred frame (Transfer (Exchange e) m) d) h (with_location m.rd n h)
 
 -- of a frame word
@@ -86,9 +96,12 @@ pub record FrameWordsKeepFitting : Type 0 where
 
 -- What fits before SAVE or RESTORE fits after it, whatever the fresh words are.
 pub record FramesKeepFitting : Type 0 where
-  pub save : (frame : ℕ) (f : Three) (d : Known) (h k : Held) → AreSaved h k → Keeps d (transferred frame (Save f) d) h k
-  pub restore : (frame : ℕ) (f : Three) (d : Known) (h : Held) (after : Words) → IsOperand f.operand2 → AreRestored h.words after
-      → Keeps d (transferred frame (Restore f) d) h (record h { words = with_word f.rd (address h.words f.rs1 f.operand2) after })
+  pub save : (frame : ℕ) (f : Three) (d : Known) (h k : Held) → AreSaved h k →
+      Keeps d (transferred frame (Save f) d) h k
+  pub restore : (frame : ℕ) (f : Three) (d : Known) (h : Held) (after : Words) → IsOperand f.operand2 →
+      AreRestored h.words after
+      → Keeps d (transferred frame (Restore f) d) h
+      (record h { words = with_word f.rd (address h.words f.rs1 f.operand2) after })
 
 -- What fits before a CALL fits in its slot, and again where the callee has returned.
 pub record CallsKeepFitting : Type 0 where
@@ -111,7 +124,8 @@ pub record ServicesKeepFitting : Type 0 where
       → Keeps d (transferred frame (TrapOnCondition t) d) h (with_location 8 n h)
   pub get_end : (frame : ℕ) (t : Trap) (d : Known) (h : Held) → service_of t ≡ Some 1
       → Keeps d (transferred frame (TrapOnCondition t) d) h (with_location 8 (2 ^ 32 - 1) h)
-  pub others : (frame : ℕ) (t : Trap) (d : Known) → (service_of t ≡ Some 1 → ⊥) → transferred frame (TrapOnCondition t) d ≡ d
+  pub others : (frame : ℕ) (t : Trap) (d : Known) → (service_of t ≡ Some 1 → ⊥) →
+      transferred frame (TrapOnCondition t) d ≡ d
   pub branch : (frame : ℕ) (b : Branch) (d : Known) → transferred frame (BranchOnCondition b) d ≡ d
   pub jump : (frame : ℕ) (f : Three) (d : Known) → transferred frame (JumpAndLink f) d ≡ d
 
@@ -121,14 +135,18 @@ pub record ServicesKeepFitting : Type 0 where
 pub record RefinementKeepsFitting : Type 0 where
   pub near : (cond : Cond) (start : Cells) (d : Known) (words : Words) (icc : Icc) (y : ℕ) → holds cond icc ≡ true → Near start d words icc y
       → (e : Known) × (refined cond d ≡ Some e) × Near start e words icc y
-  pub fits : (cond : Cond) (start : Cells) (d : Known) (words : Words) (icc : Icc) (y : ℕ) → holds cond icc ≡ true → Fits start d words icc y
+  pub fits : (cond : Cond) (start : Cells) (d : Known) (words : Words) (icc : Icc) (y : ℕ) → holds cond icc ≡ true →
+      Fits start d words icc y
       → (e : Known) × (refined cond d ≡ Some e) × Fits start e words icc y
 
 -- A block starts from its words' numbers, where its cells hold them.
 pub record StartsFit : Type 0 where
-  pub near : (cells : List Cell) (words : Words) (icc : Icc) (y : ℕ) → ((l : ℕ) → words l < 2 ^ 32) → words 0 ≡ 0 → y < 2 ^ 32
+  pub near : (cells : List Cell) (words : Words) (icc : Icc) (y : ℕ) → ((l : ℕ) → words l < 2 ^ 32) → words 0 ≡ 0 →
+      y < 2 ^ 32
       → ((l : ℕ) → HasInterval (range_at (started cells) l) (words l))
       → Near (numbers words) (started cells) words icc y
-  pub fits : (cells : List Cell) (words : Words) (icc : Icc) (y : ℕ) → ((l : ℕ) → words l < 2 ^ 32) → words 0 ≡ 0 → y < 2 ^ 32
-      → ((l : ℕ) → HasInterval (range_at (started cells) l) (words l)) → ((l : ℕ) → HasAlignment (range_at (started cells) l) (words l))
+  pub fits : (cells : List Cell) (words : Words) (icc : Icc) (y : ℕ) → ((l : ℕ) → words l < 2 ^ 32) → words 0 ≡ 0 →
+      y < 2 ^ 32
+      → ((l : ℕ) → HasInterval (range_at (started cells) l) (words l)) →
+      ((l : ℕ) → HasAlignment (range_at (started cells) l) (words l))
       → Fits (numbers words) (started cells) words icc y

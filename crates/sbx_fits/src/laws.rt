@@ -1,6 +1,8 @@
-//! Each law is the contract of a function that does nothing. All have two halves: intervals, forms and relations stay whatever
-//! the multiples are, and multiples stay too.
-ghost use Rattle.sbx_fits.specs.Laws.{CallsKeepFitting, DataKeepsFitting, FrameWordsKeepFitting, FramesKeepFitting, MovesKeepFitting, QuotientsKeepFitting, RefinementKeepsFitting, ResultsKeepFitting, ServicesKeepFitting, StartsFit, TaggedResultsKeepFitting};
+//! Each law is the contract of a function that does nothing. All have two halves: intervals, forms and relations stay
+//! whatever the multiples are, and multiples stay too.
+ghost use Rattle.sbx_fits.specs.Laws.{CallsKeepFitting, DataKeepsFitting, FrameWordsKeepFitting, FramesKeepFitting};
+ghost use Rattle.sbx_fits.specs.Laws.{MovesKeepFitting, QuotientsKeepFitting, RefinementKeepsFitting};
+ghost use Rattle.sbx_fits.specs.Laws.{ResultsKeepFitting, ServicesKeepFitting, StartsFit, TaggedResultsKeepFitting};
 
 /// After an operation that has a result for all operands: its word, its codes and its Y.
 pub fn results_keep_fitting()

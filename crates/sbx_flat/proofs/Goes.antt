@@ -7,12 +7,15 @@ use Rattle.v8_meaning.specs.Admitted.{is_admitted}
 use Rattle.v8_meaning.specs.Operands.{address}
 use Rattle.v8_meaning.specs.Transfers.{bytes_in, size_of, sent, received}
 use Rattle.v8_meaning.specs.declared.operation.Operation.{Operation}
-use Rattle.v8_meaning.specs.declared.operation.Operation.TheVariants.{Compute, Divide, TaggedTrap, SetHigh, ReadY, WriteY, ReadState, WriteState, Save, Restore, Call, BranchOnCondition, JumpAndLink, ReturnFromTrap, TrapOnCondition, Nothing, Illegal, FloatingPoint, Coprocessor}
+use Rattle.v8_meaning.specs.declared.operation.Operation.TheVariants.{Compute, Divide, TaggedTrap, SetHigh, ReadY, WriteY, ReadState, WriteState, Save, Restore}
+use Rattle.v8_meaning.specs.declared.operation.Operation.TheVariants.{Call, BranchOnCondition, JumpAndLink, ReturnFromTrap, TrapOnCondition, Nothing, Illegal}
+use Rattle.v8_meaning.specs.declared.operation.Operation.TheVariants.{FloatingPoint, Coprocessor}
 use Rattle.v8_meaning.specs.declared.operation.Operation.TheVariants as operation
 use Rattle.v8_meaning.specs.declared.operation.Transfer.{Transfer}
 use Rattle.sbx_image.specs.Parts.{Parts}
 use Rattle.sbx_image.specs.Services.{Services}
-use Rattle.sbx_flat.specs.Effects.{address_in, declares, does, found, high_word, is_base, is_stack_pointer, leaves_in_data, leaves_in_slot, operand_value, restores, served, serves, service_of, slot_of, takes, transfers_data, transfers_in, with_regs, writes, writes_some}
+use Rattle.sbx_flat.specs.Effects.{address_in, declares, does, found, high_word, is_base, is_stack_pointer, leaves_in_data, leaves_in_slot, operand_value}
+use Rattle.sbx_flat.specs.Effects.{restores, served, serves, service_of, slot_of, takes, transfers_data, transfers_in, with_regs, writes, writes_some}
 use Rattle.sbx_flat.specs.Registers.{Fresh, IsFresh, Registers, popped, pushed}
 use Rattle.sbx_flat.specs.States.{State, reg, with_reg, advanced, transferred, Turn, Goes, Fails, Over, Wrong, NotAdmitted, Misaligned, ZeroDivisor, TagOverflow, NoService, BadFrame, StackPointer}
 use Rattle.sbx_flat.specs.Turns.{IsWrong, asked, fetches, goes_on, turn, word_at}
@@ -97,7 +100,8 @@ never_over : (parts : Parts) (fresh : Fresh) (s : State) → s.exit ≡ None →
 unfolding turn
 never_over parts fresh s e = ap (λ x. is_over (goes_on parts fresh s x s.annulled)) e ∙ going parts fresh s s.annulled
 
-by_turn : (parts : Parts) (fresh : Fresh) (s : State) (t : Turn) → IsFresh fresh → turn parts fresh s ≡ t → is_over t ≡ false → (IsWrong parts s → ⊥) → (next : State) × (turn parts fresh s ≡ Goes next)
+by_turn : (parts : Parts) (fresh : Fresh) (s : State) (t : Turn) → IsFresh fresh → turn parts fresh s ≡ t → is_over t ≡ false → (IsWrong parts s → ⊥) →
+    (next : State) × (turn parts fresh s ≡ Goes next)
 by_turn parts fresh s (Goes next) is_fresh e on fine = (next, e)
 by_turn parts fresh s (Fails why) is_fresh e on fine = absurd (fine (fresh, is_fresh, why, e))
 by_turn parts fresh s Over is_fresh e on fine = absurd (cc)

@@ -74,8 +74,22 @@ in_words n v globals newest (f ∷ fs) oldest small a = record {
 pub registers_written : (n v : ℕ) (file : Registers) → v < 2 ^ 32 → AreRegisters file → AreRegisters (written n v file)
 registers_written n v file small a = by_class AreRegisters n v file a
     (record { globals = words_with file.globals n v a.globals small; newest = a.newest; older = a.older; oldest_ins = a.oldest_ins })
-    (λ low high. record { globals = a.globals; newest = record { locals = a.newest.locals; outs = words_with file.newest.outs n v a.newest.outs small; slots = a.newest.slots }; older = a.older; oldest_ins = a.oldest_ins })
-    (record { globals = a.globals; newest = record { locals = words_with file.newest.locals n v a.newest.locals small; outs = a.newest.outs; slots = a.newest.slots }; older = a.older; oldest_ins = a.oldest_ins })
+    (λ low high. record {
+      globals = a.globals;
+      newest =
+          record { locals = a.newest.locals; outs = words_with file.newest.outs n v a.newest.outs small; slots = a.newest.slots };
+      older = a.older;
+      oldest_ins =
+          a.oldest_ins;
+    })
+    (record {
+      globals = a.globals;
+      newest =
+          record { locals = words_with file.newest.locals n v a.newest.locals small; outs = a.newest.outs; slots = a.newest.slots };
+      older = a.older;
+      oldest_ins =
+          a.oldest_ins;
+    })
     (λ low. in_words n v file.globals file.newest file.older file.oldest_ins small a)
 
 -- ---- bases and slots
@@ -123,14 +137,16 @@ first_base n v globals newest oldest zero less = refl
 first_base n v globals newest oldest (suc k) less = absurd (omega arith)
 
 caller_base : (n v : ℕ) (globals : Words) (newest f : Frame) (fs : List Frame) (oldest : Words) (k : ℕ) → n ≢ 30 → 24 ≤ n
-    → base (record { globals = globals; newest = newest; older = record f { outs = with_word f.outs (n - 16) v } ∷ fs; oldest_ins = oldest }) k ≡ base (record { globals = globals; newest = newest; older = f ∷ fs; oldest_ins = oldest }) k
+    → base (record { globals = globals; newest = newest; older = record f { outs = with_word f.outs (n - 16) v } ∷ fs; oldest_ins = oldest }) k ≡
+    base (record { globals = globals; newest = newest; older = f ∷ fs; oldest_ins = oldest }) k
 unfolding cell
 caller_base n v globals newest f fs oldest zero apart low = refl
 caller_base n v globals newest f fs oldest (suc zero) apart low = let other : 14 ≢ n - 16 = omega arith in other_word f.outs (n - 16) v 14 other
 caller_base n v globals newest f fs oldest (suc (suc k)) apart low = refl
 
 caller_slot : (globals : Words) (newest f : Frame) (fs : List Frame) (oldest outs : Words) (k a : ℕ)
-    → slot (record { globals = globals; newest = newest; older = record f { outs = outs } ∷ fs; oldest_ins = oldest }) k a ≡ slot (record { globals = globals; newest = newest; older = f ∷ fs; oldest_ins = oldest }) k a
+    → slot (record { globals = globals; newest = newest; older = record f { outs = outs } ∷ fs; oldest_ins = oldest }) k a ≡
+    slot (record { globals = globals; newest = newest; older = f ∷ fs; oldest_ins = oldest }) k a
 unfolding slot
 caller_slot globals newest f fs oldest outs zero a = refl
 caller_slot globals newest f fs oldest outs (suc zero) a = refl
@@ -150,8 +166,10 @@ stand_written : (n v : ℕ) (file : Registers) → n ≢ 14 → n ≢ 30 → Sta
 stand_written n v file pointer caller = by_class (StandAlike file) n v file
     (record { many = refl; bases = λ k less. refl; slots = λ k a. refl })
     (same_globals file (with_word file.globals n v))
-    (λ low high. stand_still file (record file { newest = record file.newest { outs = with_word file.newest.outs n v } }) (λ k. out_base file n v k pointer) refl (out_slot file (with_word file.newest.outs n v)))
-    (stand_still file (record file { newest = record file.newest { locals = with_word file.newest.locals n v } }) (local_base file (with_word file.newest.locals n v)) refl (local_slot file (with_word file.newest.locals n v)))
+    (λ low high. stand_still file (record file { newest = record file.newest { outs = with_word file.newest.outs n v } })
+    (λ k. out_base file n v k pointer) refl (out_slot file (with_word file.newest.outs n v)))
+    (stand_still file (record file { newest = record file.newest { locals = with_word file.newest.locals n v } })
+    (local_base file (with_word file.newest.locals n v)) refl (local_slot file (with_word file.newest.locals n v)))
     (λ low. in_stand n v file.globals file.newest file.older file.oldest_ins caller low)
 
 still_stacked : (pages : ℕ) (old new : Registers) → StandAlike old new → IsStacked pages old → IsStacked pages new
@@ -300,7 +318,9 @@ slots_pushed pages fresh b file s slots zero a w less e =
   where
     each : (i : ℕ) → 0 < i → i < suc (suc (length file.older)) → a + 4 ≤ base (pushed fresh b file) i
     each zero more within = absurd (omega arith)
-    each (suc i) more within = word_below_all pages file a i s (let h = slot_says b (file.newest.outs 14) a (some_word (is_slot b (file.newest.outs 14) a) (fresh.slots a) w e).0 in let eight = s.aligned 0 (omega arith) in let x = h.high in let y = h.aligned in let z = base_0 file in omega (arith, z)) (omega arith)
+    each (suc i) more within =
+        word_below_all pages file a i s (let h = slot_says b (file.newest.outs 14) a (some_word (is_slot b (file.newest.outs 14) a) (fresh.slots a) w e).0 in
+        let eight = s.aligned 0 (omega arith) in let x = h.high in let y = h.aligned in let z = base_0 file in omega (arith, z)) (omega arith)
 slots_pushed pages fresh b file s slots (suc k) a w less e =
     let h = slots k a w (omega arith) e in
     record { aligned = h.aligned; low = h.low; high = h.high; below = each h }
@@ -309,7 +329,8 @@ slots_pushed pages fresh b file s slots (suc k) a w less e =
     each h zero more within = absurd (omega arith)
     each h (suc i) more within = h.below i (omega arith) (omega arith)
 
-pub calls_pushed : (pages : ℕ) (fresh : Fresh) (b : ℕ) (file : Registers) → IsFresh fresh → b < 2 ^ 32 → IsBase pages (file.newest.outs 14) b → AreCalls pages file → AreCalls pages (pushed fresh b file)
+pub calls_pushed : (pages : ℕ) (fresh : Fresh) (b : ℕ) (file : Registers) → IsFresh fresh → b < 2 ^ 32 → IsBase pages (file.newest.outs 14) b →
+    AreCalls pages file → AreCalls pages (pushed fresh b file)
 calls_pushed pages fresh b file f small h a = record {
   words = registers_pushed fresh b file f small a.words;
   stacked = stacked_pushed pages fresh b file h a.stacked;
@@ -318,7 +339,9 @@ calls_pushed pages fresh b file f small h a = record {
 
 -- ---- a frame popped
 
-calls_left : (pages : ℕ) (globals : Words) (newest f : Frame) (fs : List Frame) (oldest : Words) → AreCalls pages (record { globals = globals; newest = newest; older = f ∷ fs; oldest_ins = oldest }) → AreCalls pages (record { globals = globals; newest = f; older = fs; oldest_ins = oldest })
+calls_left : (pages : ℕ) (globals : Words) (newest f : Frame) (fs : List Frame) (oldest : Words) →
+    AreCalls pages (record { globals = globals; newest = newest; older = f ∷ fs; oldest_ins = oldest }) →
+    AreCalls pages (record { globals = globals; newest = f; older = fs; oldest_ins = oldest })
 unfolding cell slot
 calls_left pages globals newest f fs oldest a = record {
   words = record { globals = a.words.globals; newest = a.words.older.0; older = a.words.older.1; oldest_ins = a.words.oldest_ins };
@@ -333,7 +356,8 @@ calls_left pages globals newest f fs oldest a = record {
       record { aligned = h.aligned; low = h.low; high = h.high; below = λ i more within. h.below (suc i) (omega arith) (omega arith) };
 }
 
-popped_by : (pages : ℕ) (globals : Words) (newest : Frame) (older : List Frame) (oldest : Words) (left : Registers) → popped (record { globals = globals; newest = newest; older = older; oldest_ins = oldest }) ≡ Some left
+popped_by : (pages : ℕ) (globals : Words) (newest : Frame) (older : List Frame) (oldest : Words) (left : Registers) →
+    popped (record { globals = globals; newest = newest; older = older; oldest_ins = oldest }) ≡ Some left
     → AreCalls pages (record { globals = globals; newest = newest; older = older; oldest_ins = oldest }) → AreCalls pages left
 popped_by pages globals newest [] oldest left e a = absurd (cc)
 popped_by pages globals newest (f ∷ fs) oldest left e a =
@@ -374,7 +398,8 @@ calls_slot pages address v old file there small a =
         newest = record {
           locals = a.words.newest.locals;
           outs = a.words.newest.outs;
-          slots = λ at word e. pick (λ (o : Option ℕ). o ≡ Some word → word < 2 ^ 32) (at == address) (Some v) (file.newest.slots at) (λ h f. small_some v word small f) (λ h f. a.words.newest.slots at word f) e;
+          slots = λ at word e. pick (λ (o : Option ℕ). o ≡ Some word → word < 2 ^ 32) (at == address) (Some v) (file.newest.slots at)
+              (λ h f. small_some v word small f) (λ h f. a.words.newest.slots at word f) e;
         };
         older = a.words.older;
         oldest_ins = a.words.oldest_ins;

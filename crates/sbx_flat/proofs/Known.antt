@@ -9,7 +9,8 @@ use Rattle.sbx_flat.proofs.Kept.{below, from, pick}
 
 -- ---- reads
 
-ins_alike : (ks : List FrameKnown) (oldest : ℕ → Bool) (fs gs : List Frame) (i j : Words) (n : ℕ) → AlikeFrames ks fs gs → ((m : ℕ) → oldest m ≡ true → i m ≡ j m) → nat_lt n 32 ≡ true → in_known ks oldest n ≡ true → ins_of fs i n ≡ ins_of gs j n
+ins_alike : (ks : List FrameKnown) (oldest : ℕ → Bool) (fs gs : List Frame) (i j : Words) (n : ℕ) → AlikeFrames ks fs gs →
+    ((m : ℕ) → oldest m ≡ true → i m ≡ j m) → nat_lt n 32 ≡ true → in_known ks oldest n ≡ true → ins_of fs i n ≡ ins_of gs j n
 ins_alike [] oldest [] [] i j n frames ins within h = ins n h
 ins_alike (k ∷ ks) oldest (f ∷ fs) (g ∷ gs) i j n frames ins within h = frames.0.outs (n - 16) h (grind (arith, nat_tests))
 ins_alike [] oldest [] (g ∷ gs) i j n frames ins within h = absurd frames
@@ -34,7 +35,8 @@ reads_alike k s t r a small h = let within : nat_lt r 32 ≡ true = grind (arith
 -- ---- writes
 
 -- the same test decides three times
-three : {A B C : Type 0} (P : A → B → C → Type 0) (t : Bool) (x y : A) (u v : B) (p q : C) → (t ≡ true → P x u p) → (t ≡ false → P y v q) → P (if t then x else y) (if t then u else v) (if t then p else q)
+three : {A B C : Type 0} (P : A → B → C → Type 0) (t : Bool) (x y : A) (u v : B) (p q : C) → (t ≡ true → P x u p) → (t ≡ false → P y v q) →
+    P (if t then x else y) (if t then u else v) (if t then p else q)
 three P true x y u v p q f g = f refl
 three P false x y u v p q f g = g refl
 
@@ -52,24 +54,35 @@ same_with known x y n v m same h = by_test (m == n) h
 was_known : (known : ℕ → Bool) (n m : ℕ) → m ≢ n → also known n m ≡ true → known m ≡ true
 was_known known n m apart h = grind (arith, nat_tests)
 
-frame_out : (k : FrameKnown) (f g : Frame) (n v : ℕ) → n < 16 → AlikeFrame k f g → AlikeFrame (record k { words = also k.words n }) (record f { outs = with_word f.outs n v }) (record g { outs = with_word g.outs n v })
+frame_out : (k : FrameKnown) (f g : Frame) (n v : ℕ) → n < 16 → AlikeFrame k f g →
+    AlikeFrame (record k { words = also k.words n }) (record f { outs = with_word f.outs n v }) (record g { outs = with_word g.outs n v })
 frame_out k f g n v low a = record {
   outs = λ m h less. same_with k.words f.outs g.outs n v m (λ e. a.outs m e less) h;
   locals = λ m h more. a.locals m (was_known k.words n m (let e : 16 ≤ m = from m 16 more in omega arith) h) more;
   slots = a.slots;
 }
 
-frame_local : (k : FrameKnown) (f g : Frame) (n v : ℕ) → 16 ≤ n → AlikeFrame k f g → AlikeFrame (record k { words = also k.words n }) (record f { locals = with_word f.locals n v }) (record g { locals = with_word g.locals n v })
+frame_local : (k : FrameKnown) (f g : Frame) (n v : ℕ) → 16 ≤ n → AlikeFrame k f g →
+    AlikeFrame (record k { words = also k.words n }) (record f { locals = with_word f.locals n v }) (record g { locals = with_word g.locals n v })
 frame_local k f g n v high a = record {
   outs = λ m h less. a.outs m (was_known k.words n m (let e : m < 16 = below m 16 less in omega arith) h) less;
   locals = λ m h more. same_with k.words f.locals g.locals n v m (λ e. a.locals m e more) h;
   slots = a.slots;
 }
 
-in_alike : (n v : ℕ) (known : Known) (ks : List FrameKnown) (a b : Registers) (fs gs : List Frame) → n < 32 → AlikeRegisters (record known { older = ks }) (record a { older = fs }) (record b { older = gs })
+in_alike : (n v : ℕ) (known : Known) (ks : List FrameKnown) (a b : Registers) (fs gs : List Frame) → n < 32 →
+    AlikeRegisters (record known { older = ks }) (record a { older = fs }) (record b { older = gs })
     → AlikeRegisters (known_in n (record known { older = ks })) (with_in n v (record a { older = fs })) (with_in n v (record b { older = gs }))
-in_alike n v known [] a b [] [] small h = record { globals = h.globals; newest = h.newest; older = tt; oldest_ins = λ m e. same_with known.oldest_ins a.oldest_ins b.oldest_ins n v m (h.oldest_ins m) e }
-in_alike n v known (k ∷ ks) a b (f ∷ fs) (g ∷ gs) small h = record { globals = h.globals; newest = h.newest; older = (frame_out k f g (n - 16) v (omega arith) h.older.0, h.older.1); oldest_ins = h.oldest_ins }
+in_alike n v known [] a b [] [] small h =
+    record {
+      globals = h.globals;
+      newest = h.newest;
+      older = tt;
+      oldest_ins =
+          λ m e. same_with known.oldest_ins a.oldest_ins b.oldest_ins n v m (h.oldest_ins m) e;
+    }
+in_alike n v known (k ∷ ks) a b (f ∷ fs) (g ∷ gs) small h =
+    record { globals = h.globals; newest = h.newest; older = (frame_out k f g (n - 16) v (omega arith) h.older.0, h.older.1); oldest_ins = h.oldest_ins }
 in_alike n v known [] a b [] (g ∷ gs) small h = absurd h.older
 in_alike n v known [] a b (f ∷ fs) [] small h = absurd h.older
 in_alike n v known [] a b (f ∷ fs) (g ∷ gs) small h = absurd h.older

@@ -68,7 +68,8 @@ pub record Ends (parts : Parts) (n : ℕ) (calm : State) (way : List Place) (t :
   pub path : way ≡ calm_path parts n calm
 
 -- one more step in front
-more : (parts : Parts) (n : ℕ) (calm next : State) (p : Place) (way : List Place) (t : State) → turn parts still calm ≡ Goes next → p ≡ place_of parts calm → Ends parts n next way t → Ends parts (suc n) calm (p ∷ way) t
+more : (parts : Parts) (n : ℕ) (calm next : State) (p : Place) (way : List Place) (t : State) → turn parts still calm ≡ Goes next → p ≡ place_of parts calm →
+    Ends parts n next way t → Ends parts (suc n) calm (p ∷ way) t
 more parts n calm next p way t e same ends =
     let end : calm_end parts (suc n) calm ≡ calm_end parts n next = ap (calm_end_on (calm_end parts n) calm) e in
     let path : calm_path parts (suc n) calm ≡ place_of parts calm ∷ calm_path parts n next = ap (calm_path_on (calm_path parts n) (place_of parts calm)) e in
@@ -128,7 +129,8 @@ module _ (parts : Parts) (I : ℕ → State → State → Type 0) (keeps : Keeps
       let left : budget parts < w + weight_at parts (place_of parts s) + n = omega arith in
       more parts n calm a.0.next_calm p way t a.0.calm_goes (run.1 ∙ a.0.place) (ends way n (w + weight_at parts (place_of parts s)) run.0 a.0.next_calm t word a.1 left run.3 over)
 
-  pub behaves : (input : List ℕ) (calm : State) → ((s : State) → IsStart parts input s → I 0 s calm) → let n = suc (budget parts) in Behaves parts input (calm_end parts n calm).output (unwrap_or (calm_end parts n calm).exit 0) (calm_path parts n calm)
+  pub behaves : (input : List ℕ) (calm : State) → ((s : State) → IsStart parts input s → I 0 s calm) → let n = suc (budget parts) in
+      Behaves parts input (calm_end parts n calm).output (unwrap_or (calm_end parts n calm).exit 0) (calm_path parts n calm)
   behaves input calm start = record {
     never_wrong = λ way s run wrong.
         let a = along way 0 run.0 calm s (start run.0 run.1) run.2 in
@@ -151,7 +153,8 @@ module _ (parts : Parts) (I : ℕ → State → State → Type 0) (keeps : Keeps
   }
 
 -- an invariant that begins at each start makes the image safe
-pub safe : (parts : Parts) (I : ℕ → State → State → Type 0) → Keeps parts I → (calm_start : List ℕ → State) → ((input : List ℕ) (s : State) → AreBytes input → IsStart parts input s → I 0 s (calm_start input)) → FlatSafe parts
+pub safe : (parts : Parts) (I : ℕ → State → State → Type 0) → Keeps parts I → (calm_start : List ℕ → State) →
+    ((input : List ℕ) (s : State) → AreBytes input → IsStart parts input s → I 0 s (calm_start input)) → FlatSafe parts
 safe parts I keeps calm_start start input bytes =
     let calm = calm_start input in
     let n = suc (budget parts) in

@@ -32,7 +32,26 @@ out_word : (n : ℕ) → (if n == 14 then 0x000FFFC0 else 0) < 2 ^ 32
 out_word n = grind (arith, nat_tests)
 
 calm_is_start : (parts : Parts) (input : List ℕ) → IsStart parts input (calm_start parts input)
-calm_is_start parts input = record { pc = refl; npc = refl; annulled = refl; icc = refl; y = omega arith; one_frame = refl; base = refl; slots = λ a. refl; globals = λ n. omega arith; locals = λ n. omega arith; outs = out_word; ins = λ n. omega arith; memory = λ a. refl; input = refl; output = refl; exit = refl }
+calm_is_start parts input =
+    record {
+      pc = refl;
+      npc = refl;
+      annulled = refl;
+      icc = refl;
+      y = omega arith;
+      one_frame = refl;
+      base = refl;
+      slots = λ a. refl;
+      globals =
+          λ n. omega arith;
+      locals = λ n. omega arith;
+      outs = out_word;
+      ins = λ n. omega arith;
+      memory = λ a. refl;
+      input = refl;
+      output = refl;
+      exit = refl;
+    }
 
 module _ (parts : Parts) (I : ℕ → State → State → Type 0) (inv : IsInvariant parts I) where
   moves : (w : ℕ) (s calm : State) → I w s calm → s.exit ≡ None → Moves parts I w s calm

@@ -7,7 +7,8 @@ use Rattle.sbx_flat.specs.Registers.{Frame, Registers, Words, with_in, with_slot
 use Rattle.sbx_flat.proofs.Kept.{by_class}
 use Rattle.sbx_flat.proofs.Registers.{word_written}
 
-in_slots : (n v : ℕ) (globals : Words) (newest : Frame) (older : List Frame) (oldest : Words) (a : ℕ) → (with_in n v (record { globals = globals; newest = newest; older = older; oldest_ins = oldest })).newest.slots a ≡ newest.slots a
+in_slots : (n v : ℕ) (globals : Words) (newest : Frame) (older : List Frame) (oldest : Words) (a : ℕ) →
+    (with_in n v (record { globals = globals; newest = newest; older = older; oldest_ins = oldest })).newest.slots a ≡ newest.slots a
 in_slots n v globals newest [] oldest a = refl
 in_slots n v globals newest (f ∷ fs) oldest a = refl
 
@@ -15,7 +16,8 @@ in_slots n v globals newest (f ∷ fs) oldest a = refl
 slots_written : (n v : ℕ) (file : Registers) (a : ℕ) → (written n v file).newest.slots a ≡ file.newest.slots a
 slots_written n v file a = by_class (λ x. x.newest.slots a ≡ file.newest.slots a) n v file refl refl (λ low high. refl) refl (λ low. in_slots n v file.globals file.newest file.older file.oldest_ins a)
 
-chosen : (l n v x : ℕ) (y z : Option ℕ) (w : ℕ) → n < 32 → x ≡ (if l == n then v else w) → y ≡ z → (if nat_lt l 32 then Some x else y) ≡ (if l == n then Some v else (if nat_lt l 32 then Some w else z))
+chosen : (l n v x : ℕ) (y z : Option ℕ) (w : ℕ) → n < 32 → x ≡ (if l == n then v else w) → y ≡ z →
+    (if nat_lt l 32 then Some x else y) ≡ (if l == n then Some v else (if nat_lt l 32 then Some w else z))
 chosen l n v x y z w small e f = by_tests (nat_lt l 32) (l == n) refl refl
   where
     within : nat_lt l 32 ≡ false → l ≡ n → ⊥
@@ -31,13 +33,16 @@ chosen l n v x y z w small e f = by_tests (nat_lt l 32) (l == n) refl refl
     by_tests false false p q = f
 
 pub register_written : (base n v : ℕ) (file : Registers) (l : ℕ) → n ≢ 0 → n < 32 → location_in base (written n v file) l ≡ (if l == n then Some v else location_in base file l)
-register_written base n v file l some small = chosen l n v (word_in (written n v file) l) (frame_word base (written n v file).newest (l - 32)) (frame_word base file.newest (l - 32)) (word_in file l) small (word_written n v file l some) (slots_written n v file (base + 64 + 4 * (l - 32)))
+register_written base n v file l some small =
+    chosen l n v (word_in (written n v file) l) (frame_word base (written n v file).newest (l - 32)) (frame_word base file.newest (l - 32))
+    (word_in file l) small (word_written n v file l some) (slots_written n v file (base + 64 + 4 * (l - 32)))
 
 slot_same : (file : Registers) (a v l : ℕ) → word_in (with_slot a v file) l ≡ word_in file l
 slot_same file a v l = refl
 
 slot_chosen : (base k v l : ℕ) (x : ℕ) (slots : ℕ → Option ℕ)
-    → (if nat_lt l 32 then Some x else (if base + 64 + 4 * (l - 32) == base + 64 + 4 * k then Some v else slots (base + 64 + 4 * (l - 32)))) ≡ (if l == 32 + k then Some v else (if nat_lt l 32 then Some x else slots (base + 64 + 4 * (l - 32))))
+    → (if nat_lt l 32 then Some x else (if base + 64 + 4 * (l - 32) == base + 64 + 4 * k then Some v else slots (base + 64 + 4 * (l - 32)))) ≡
+    (if l == 32 + k then Some v else (if nat_lt l 32 then Some x else slots (base + 64 + 4 * (l - 32))))
 slot_chosen base k v l x slots = by_tests (nat_lt l 32) (base + 64 + 4 * (l - 32) == base + 64 + 4 * k) (l == 32 + k) refl refl refl
   where
     low : nat_lt l 32 ≡ true → (l == 32 + k) ≡ true → ⊥

@@ -22,7 +22,9 @@ use Rattle.v8_meaning.specs.declared.operation.Exchange.TheVariants as exchanges
 use Rattle.v8_meaning.specs.declared.operation.Loading.{Loading}
 use Rattle.v8_meaning.specs.declared.operation.Loading.TheVariants as loadings
 use Rattle.v8_meaning.specs.declared.operation.Operation.{Operation}
-use Rattle.v8_meaning.specs.declared.operation.Operation.TheVariants.{Compute, Divide, TaggedTrap, SetHigh, ReadY, WriteY, ReadState, WriteState, Save, Restore, Call, BranchOnCondition, JumpAndLink, ReturnFromTrap, TrapOnCondition, Nothing, Illegal, FloatingPoint, Coprocessor}
+use Rattle.v8_meaning.specs.declared.operation.Operation.TheVariants.{Compute, Divide, TaggedTrap, SetHigh, ReadY, WriteY, ReadState, WriteState, Save, Restore}
+use Rattle.v8_meaning.specs.declared.operation.Operation.TheVariants.{Call, BranchOnCondition, JumpAndLink, ReturnFromTrap, TrapOnCondition, Nothing, Illegal}
+use Rattle.v8_meaning.specs.declared.operation.Operation.TheVariants.{FloatingPoint, Coprocessor}
 use Rattle.v8_meaning.specs.declared.operation.Operation.TheVariants as operation
 use Rattle.v8_meaning.specs.declared.operation.Transfer.{Transfer}
 use Rattle.v8_meaning.specs.declared.operation.Transfer.TheVariants as transfers
@@ -30,7 +32,9 @@ use Rattle.sbx_image.specs.Parts.{Parts}
 use Rattle.sbx_image.specs.Spelling.{IsTypedRegion}
 use Rattle.sbx_image.proofs.Within.{data_is_byte}
 use Rattle.sbx_image.specs.Services.{Services}
-use Rattle.sbx_flat.specs.Effects.{address_in, branched, declares, does, found, gets, high_word, is_base, is_stack_pointer, leaves_in_data, leaves_in_slot, operand_value, restores, served, serves, service_of, slot_of, takes, transfers_data, transfers_in, with_regs, writes, writes_some}
+use Rattle.sbx_flat.specs.Effects.{address_in, branched, declares, does, found, gets, high_word, is_base, is_stack_pointer, leaves_in_data, leaves_in_slot}
+use Rattle.sbx_flat.specs.Effects.{operand_value, restores, served, serves, service_of, slot_of, takes, transfers_data, transfers_in, with_regs, writes}
+use Rattle.sbx_flat.specs.Effects.{writes_some}
 use Rattle.sbx_flat.specs.Memory.{Bytes, byte_of, followed_by, number_at, with_number}
 use Rattle.sbx_flat.specs.Registers.{Frame, Fresh, IsFresh, Registers, popped, pushed, with_slot, written}
 use Rattle.sbx_flat.specs.Calls.{base, cell, depth, slot}
@@ -69,7 +73,8 @@ number_bound memory a (suc count) all =
 
 stored_data : (memory : Bytes) (address count n : ℕ) → AreData memory → AreData (with_number memory address count n)
 stored_data memory address count n all a byte e =
-    pick (λ (o : Option ℕ). o ≡ Some byte → byte < 2 ^ 8) (nat_le address a && nat_lt a (address + count)) (Some (byte_of count n (a - address))) (memory a) (λ h f. small (n / 2 ^ (8 * (count - 1 - (a - address)))) byte f) (λ h f. all a byte f) e
+    pick (λ (o : Option ℕ). o ≡ Some byte → byte < 2 ^ 8) (nat_le address a && nat_lt a (address + count)) (Some (byte_of count n (a - address))) (memory a)
+    (λ h f. small (n / 2 ^ (8 * (count - 1 - (a - address)))) byte f) (λ h f. all a byte f) e
   where
     small : (x byte : ℕ) → Some (x % 2 ^ 8) ≡ Some byte → byte < 2 ^ 8
     small x byte f = let s : x % 2 ^ 8 ≡ byte = cc in omega (arith, s)
@@ -213,9 +218,13 @@ module _ (pages : ℕ) where
   saved_fine : (parts : Parts) (fresh : Fresh) (rd b : ℕ) (s : State) → parts.stack_pages ≡ pages → IsFresh fresh → b < 2 ^ 32 → IsWellFormed pages s
       → Fine (if (rd == 14) && is_base parts (reg s 14) b then Goes (advanced (record s { registers = pushed fresh b s.registers })) else Fails BadFrame)
   unfolding reg
-  saved_fine parts fresh rd b s same fresh_words small h = pick Fine ((rd == 14) && is_base parts (s.registers.newest.outs 14) b) (Goes (advanced (record s { registers = pushed fresh b s.registers }))) (Fails BadFrame)
+  saved_fine parts fresh rd b s same fresh_words small h =
+      pick Fine ((rd == 14) && is_base parts (s.registers.newest.outs 14) b) (Goes (advanced (record s { registers = pushed fresh b s.registers })))
+      (Fails BadFrame)
       (λ e. let base = base_says parts (s.registers.newest.outs 14) b (second_of (rd == 14) (is_base parts (s.registers.newest.outs 14) b) e) in
-      on (record s { registers = pushed fresh b s.registers }) (with_calls s (pushed fresh b s.registers) (calls_pushed pages fresh b s.registers fresh_words small (subst (λ n. IsBase n (s.registers.newest.outs 14) b) same base) h.calls) h))
+      on (record s { registers = pushed fresh b s.registers })
+      (with_calls s (pushed fresh b s.registers)
+      (calls_pushed pages fresh b s.registers fresh_words small (subst (λ n. IsBase n (s.registers.newest.outs 14) b) same base) h.calls) h))
       (λ e. tt)
     where
       second_of : (a b : Bool) → (a && b) ≡ true → b ≡ true
@@ -262,10 +271,12 @@ module _ (pages : ℕ) where
 
   -- ---- the step
 
-  does_fine : (parts : Parts) (fresh : Fresh) (op : Operation) (s : State) → parts.stack_pages ≡ pages → IsFresh fresh → is_admitted op ≡ true → SmallSecond op → IsWellFormed pages s → Fine (does parts fresh op s)
+  does_fine : (parts : Parts) (fresh : Fresh) (op : Operation) (s : State) → parts.stack_pages ≡ pages → IsFresh fresh → is_admitted op ≡ true →
+      SmallSecond op → IsWellFormed pages s → Fine (does parts fresh op s)
   unfolding is_admitted
   does_fine parts fresh (Compute op f) s same fresh_words can small h =
-      result_fine f.rd (outcome op (reg s f.rs1) (operand_value s f.operand2) s.icc s.y) s (outcome_words op (reg s f.rs1) (operand_value s f.operand2) s.icc s.y (word_of s f.rs1 h) (operand_word s f.operand2 small h) h.y) h
+      result_fine f.rd (outcome op (reg s f.rs1) (operand_value s f.operand2) s.icc s.y) s
+      (outcome_words op (reg s f.rs1) (operand_value s f.operand2) s.icc s.y (word_of s f.rs1 h) (operand_word s f.operand2 small h) h.y) h
   does_fine parts fresh (Divide op f) s same fresh_words can small h =
       some_fine f.rd ZeroDivisor (division_of op (reg s f.rs1) (operand_value s f.operand2) s.icc s.y) s (division_words op (reg s f.rs1) (operand_value s f.operand2) s.icc s.y h.y) h
   does_fine parts fresh (TaggedTrap op f) s same fresh_words can small h =
@@ -280,7 +291,9 @@ module _ (pages : ℕ) where
       pick Fine (a % bytes_in (size_of t) == 0) (transfers_in parts t m.rd a (slot_of t s a) s) (Fails Misaligned) (λ e. transfer_fine parts t m.rd a (slot_of t s a) s refl h) (λ e. tt)
   does_fine parts fresh (Save f) s same fresh_words can small h = saved_fine parts fresh f.rd (address (reg s) f.rs1 f.operand2) s same fresh_words (omega arith) h
   does_fine parts fresh (Restore f) s same fresh_words can small h = restored_fine f.rd (address (reg s) f.rs1 f.operand2) (popped s.registers) s refl (omega arith) h
-  does_fine parts fresh (Call displacement) s same fresh_words can small h = moved (with_reg 15 s.pc s) (target s.pc displacement) (target_place s.pc displacement h.pc) (with_word_in 15 s.pc s (omega arith) (omega arith) h.pc.word h)
+  does_fine parts fresh (Call displacement) s same fresh_words can small h =
+      moved (with_reg 15 s.pc s) (target s.pc displacement) (target_place s.pc displacement h.pc)
+      (with_word_in 15 s.pc s (omega arith) (omega arith) h.pc.word h)
   does_fine parts fresh (BranchOnCondition b) s same fresh_words can small h =
       let to = moved s (branched b s) (branched_place b s h) h in
       record { pc = to.pc; npc = to.npc; y = to.y; calls = to.calls; memory = to.memory; input = to.input; output = to.output; exit = to.exit }
@@ -296,11 +309,15 @@ module _ (pages : ℕ) where
 
   fetched_fine : (parts : Parts) (fresh : Fresh) (o : Option ℕ) (s : State) → parts.stack_pages ≡ pages → IsFresh fresh → IsWellFormed pages s → Fine (fetches parts fresh o s)
   fetched_fine parts fresh None s same fresh_words h = tt
-  fetched_fine parts fresh (Some word) s same fresh_words h = pick Fine (is_admitted (asked word)) (does parts fresh (asked word) s) (Fails NotAdmitted) (λ e. does_fine parts fresh (asked word) s same fresh_words e (small_second word) h) (λ e. tt)
+  fetched_fine parts fresh (Some word) s same fresh_words h =
+      pick Fine (is_admitted (asked word)) (does parts fresh (asked word) s) (Fails NotAdmitted)
+      (λ e. does_fine parts fresh (asked word) s same fresh_words e (small_second word) h) (λ e. tt)
 
-  going_fine : (parts : Parts) (fresh : Fresh) (s : State) (exit : Option ℕ) (annulled : Bool) → parts.stack_pages ≡ pages → IsFresh fresh → IsWellFormed pages s → Fine (goes_on parts fresh s exit annulled)
+  going_fine : (parts : Parts) (fresh : Fresh) (s : State) (exit : Option ℕ) (annulled : Bool) → parts.stack_pages ≡ pages → IsFresh fresh →
+      IsWellFormed pages s → Fine (goes_on parts fresh s exit annulled)
   going_fine parts fresh s (Some status) annulled same fresh_words h = tt
-  going_fine parts fresh s None true same fresh_words h = record { pc = h.npc; npc = next_place s.npc h.npc; y = h.y; calls = h.calls; memory = h.memory; input = h.input; output = h.output; exit = h.exit }
+  going_fine parts fresh s None true same fresh_words h =
+      record { pc = h.npc; npc = next_place s.npc h.npc; y = h.y; calls = h.calls; memory = h.memory; input = h.input; output = h.output; exit = h.exit }
   going_fine parts fresh s None false same fresh_words h = fetched_fine parts fresh (word_at parts.words s.pc) s same fresh_words h
 
   turn_fine : (parts : Parts) (fresh : Fresh) (s : State) → parts.stack_pages ≡ pages → IsFresh fresh → IsWellFormed pages s → Fine (turn parts fresh s)
@@ -338,7 +355,8 @@ stacked_start pages file some one e =
       apart = λ k i less within. absurd (omega arith);
     }
 
-pub starts_well_formed : (parts : Parts) (input : List ℕ) (s : State) → 1 ≤ parts.stack_pages → AllByRecursion IsTypedRegion parts.regions → AreBytes input → IsStart parts input s → IsWellFormed parts.stack_pages s
+pub starts_well_formed : (parts : Parts) (input : List ℕ) (s : State) → 1 ≤ parts.stack_pages → AllByRecursion IsTypedRegion parts.regions → AreBytes input →
+    IsStart parts input s → IsWellFormed parts.stack_pages s
 starts_well_formed parts input s some bytes all start =
     let one = one_call s.registers.older start.one_frame in
     let single : depth s.registers ≡ 1 = ap suc one.1 in
@@ -356,7 +374,8 @@ starts_well_formed parts input s some bytes all start =
           oldest_ins = start.ins;
         };
         stacked = stacked_start parts.stack_pages s.registers some single start.base;
-        slots = λ k a w less e. absurd (let z : k ≡ 0 = omega (arith, single) in no_slot (s.registers.newest.slots a) w (start.slots a) (first_slot s.registers a w (subst (λ i. slot s.registers i a ≡ Some w) z e)));
+        slots = λ k a w less e. absurd (let z : k ≡ 0 = omega (arith, single) in
+            no_slot (s.registers.newest.slots a) w (start.slots a) (first_slot s.registers a w (subst (λ i. slot s.registers i a ≡ Some w) z e)));
       };
       memory = λ a b e. data_is_byte parts.regions a b bytes (sym (start.memory a) ∙ e);
       input = subst AreBytes (sym start.input) all;
@@ -376,5 +395,6 @@ run_stays : (parts : Parts) (path : List Place) (s t : State) → IsWellFormed p
 run_stays parts [] s t h run = subst (IsWellFormed parts.stack_pages) run h
 run_stays parts (p ∷ path) s t h run = run_stays parts path run.0 t (stays_well_formed parts s run.0 h run.2) run.3
 
-pub runs_well_formed : (parts : Parts) (input : List ℕ) (path : List Place) (s : State) → 1 ≤ parts.stack_pages → AllByRecursion IsTypedRegion parts.regions → AreBytes input → FlatRun parts input path s → IsWellFormed parts.stack_pages s
+pub runs_well_formed : (parts : Parts) (input : List ℕ) (path : List Place) (s : State) → 1 ≤ parts.stack_pages → AllByRecursion IsTypedRegion parts.regions →
+    AreBytes input → FlatRun parts input path s → IsWellFormed parts.stack_pages s
 runs_well_formed parts input path s some bytes all run = run_stays parts path run.0 s (starts_well_formed parts input run.0 some bytes all run.1) run.2

@@ -9,14 +9,17 @@ use Rattle.v8_meaning.specs.Operands.{address}
 use Rattle.v8_meaning.specs.Transfers.{bytes_in, received, sent, size_of, writes_memory}
 use Rattle.v8_meaning.specs.declared.operation.Loading.TheVariants as loadings
 use Rattle.v8_meaning.specs.declared.operation.Operation.{Operation}
-use Rattle.v8_meaning.specs.declared.operation.Operation.TheVariants.{Compute, Divide, TaggedTrap, SetHigh, ReadY, WriteY, ReadState, WriteState, Save, Restore, Call, BranchOnCondition, JumpAndLink, ReturnFromTrap, TrapOnCondition, Nothing, Illegal, FloatingPoint, Coprocessor}
+use Rattle.v8_meaning.specs.declared.operation.Operation.TheVariants.{Compute, Divide, TaggedTrap, SetHigh, ReadY, WriteY, ReadState, WriteState, Save, Restore}
+use Rattle.v8_meaning.specs.declared.operation.Operation.TheVariants.{Call, BranchOnCondition, JumpAndLink, ReturnFromTrap, TrapOnCondition, Nothing, Illegal}
+use Rattle.v8_meaning.specs.declared.operation.Operation.TheVariants.{FloatingPoint, Coprocessor}
 use Rattle.v8_meaning.specs.declared.operation.Operation.TheVariants as operation
 use Rattle.v8_meaning.specs.declared.operation.Transfer.{Transfer}
 use Rattle.v8_meaning.specs.declared.operation.Transfer.TheVariants as transfers
 use Rattle.v8_word.specs.declared.Size.TheVariants as sizes
 use Rattle.sbx_image.specs.Parts.{Parts}
 use Rattle.sbx_image.specs.Services.{Services}
-use Rattle.sbx_flat.specs.Effects.{address_in, declares, does, found, gets, high_word, is_base, is_stack_pointer, leaves_in_data, leaves_in_slot, operand_value, restores, served, serves, service_of, slot_of, takes, transfers_data, transfers_in, with_regs, writes, writes_some}
+use Rattle.sbx_flat.specs.Effects.{address_in, declares, does, found, gets, high_word, is_base, is_stack_pointer, leaves_in_data, leaves_in_slot, operand_value}
+use Rattle.sbx_flat.specs.Effects.{restores, served, serves, service_of, slot_of, takes, transfers_data, transfers_in, with_regs, writes, writes_some}
 use Rattle.sbx_flat.specs.Memory.{with_number}
 use Rattle.sbx_flat.specs.Registers.{Fresh, Registers, popped, pushed, with_slot}
 use Rattle.sbx_flat.specs.Runs.{Place, Run, place_of, reached_at, reached_by}
@@ -65,14 +68,18 @@ module _ (z : List ℕ) where
   data_left : (t : Transfer) (a n : ℕ) (s : State) → leaves_in_data t a n (with_input z s) ≡ with_input z (leaves_in_data t a n s)
   data_left t a n s = by_test (writes_memory t)
     where
-      by_test : (b : Bool) → (if b then record (with_input z s) { memory = with_number s.memory a (bytes_in (size_of t)) n } else with_input z s) ≡ with_input z (if b then record s { memory = with_number s.memory a (bytes_in (size_of t)) n } else s)
+      by_test : (b : Bool) →
+          (if b then record (with_input z s) { memory = with_number s.memory a (bytes_in (size_of t)) n } else with_input z s) ≡
+          with_input z (if b then record s { memory = with_number s.memory a (bytes_in (size_of t)) n } else s)
       by_test true = refl
       by_test false = refl
 
   slot_left : (t : Transfer) (a n : ℕ) (s : State) → leaves_in_slot t a n (with_input z s) ≡ with_input z (leaves_in_slot t a n s)
   slot_left t a n s = by_test (writes_memory t)
     where
-      by_test : (b : Bool) → (if b then record (with_input z s) { registers = with_slot a n s.registers } else with_input z s) ≡ with_input z (if b then record s { registers = with_slot a n s.registers } else s)
+      by_test : (b : Bool) →
+          (if b then record (with_input z s) { registers = with_slot a n s.registers } else with_input z s) ≡
+          with_input z (if b then record s { registers = with_slot a n s.registers } else s)
       by_test true = refl
       by_test false = refl
 
@@ -139,9 +146,13 @@ module _ (z : List ℕ) where
 
   blind_word : (parts : Parts) (fresh : Fresh) (o : Option ℕ) (s : State) → asks_of_word o ≡ 0 → Blind (fetches parts fresh o (with_input z s)) (fetches parts fresh o s)
   blind_word parts fresh None s none = refl
-  blind_word parts fresh (Some word) s none = either (is_admitted (asked word)) (does parts fresh (asked word) (with_input z s)) (Fails NotAdmitted) (does parts fresh (asked word) s) (Fails NotAdmitted) (blind parts fresh (asked word) s none) refl
+  blind_word parts fresh (Some word) s none =
+      either (is_admitted (asked word)) (does parts fresh (asked word) (with_input z s)) (Fails NotAdmitted) (does parts fresh (asked word) s)
+      (Fails NotAdmitted) (blind parts fresh (asked word) s none) refl
 
-  blind_on : (parts : Parts) (fresh : Fresh) (s : State) (exit : Option ℕ) (annulled : Bool) → (if annulled then 0 else asks_of_word (word_at parts.words s.pc)) ≡ 0 → Blind (goes_on parts fresh (with_input z s) exit annulled) (goes_on parts fresh s exit annulled)
+  blind_on : (parts : Parts) (fresh : Fresh) (s : State) (exit : Option ℕ) (annulled : Bool) →
+      (if annulled then 0 else asks_of_word (word_at parts.words s.pc)) ≡ 0 →
+      Blind (goes_on parts fresh (with_input z s) exit annulled) (goes_on parts fresh s exit annulled)
   blind_on parts fresh s (Some status) annulled none = refl
   blind_on parts fresh s None true none = refl
   blind_on parts fresh s None false none = blind_word parts fresh (word_at parts.words s.pc) s none
@@ -178,7 +189,8 @@ step_unasked parts s u front rest other is step none =
     }
 
 -- a get takes the first byte of the front
-got : (services : Services) (byte : ℕ) (z : List ℕ) (s : State) → s.input ≡ byte ∷ z → serves services (Some 1) s ≡ (if declares services 1 then Goes (advanced (with_reg 8 byte (with_input z s))) else Fails NoService)
+got : (services : Services) (byte : ℕ) (z : List ℕ) (s : State) → s.input ≡ byte ∷ z →
+    serves services (Some 1) s ≡ (if declares services 1 then Goes (advanced (with_reg 8 byte (with_input z s))) else Fails NoService)
 got services byte z s e = ap (λ (l : List ℕ). if declares services 1 then Goes (advanced (gets l s)) else Fails NoService) e
 
 goes_through : (b : Bool) (a u : State) → (if b then Goes a else Fails NoService) ≡ Goes u → (b ≡ true) × (a ≡ u)
@@ -204,13 +216,15 @@ record IsGet (parts : Parts) (fresh : Fresh) (s : State) : Type 0 where
   straight : s.annulled ≡ false
   served_by : (other : State) → other.exit ≡ s.exit → other.annulled ≡ s.annulled → other.pc ≡ s.pc → turn parts fresh other ≡ serves parts.services (Some 1) other
 
-get_word : (parts : Parts) (fresh : Fresh) (s u : State) (o : Option ℕ) → asks_of_word o ≡ 1 → fetches parts fresh o s ≡ Goes u → (other : State) → fetches parts fresh o other ≡ serves parts.services (Some 1) other
+get_word : (parts : Parts) (fresh : Fresh) (s u : State) (o : Option ℕ) → asks_of_word o ≡ 1 → fetches parts fresh o s ≡ Goes u → (other : State) →
+    fetches parts fresh o other ≡ serves parts.services (Some 1) other
 get_word parts fresh s u None e goes other = absurd (omega arith)
 get_word parts fresh s u (Some word) e goes other =
     let can = admits (is_admitted (asked word)) (does parts fresh (asked word) s) u goes in
     ap (λ (b : Bool). if b then does parts fresh (asked word) other else Fails NotAdmitted) can.0 ∙ service_asked parts fresh (asked word) e other
 
-is_get_by : (parts : Parts) (fresh : Fresh) (s u : State) (exit : Option ℕ) (annulled : Bool) → s.exit ≡ exit → s.annulled ≡ annulled → (if annulled then 0 else asks_of_word (word_at parts.words s.pc)) ≡ 1 → goes_on parts fresh s exit annulled ≡ Goes u → IsGet parts fresh s
+is_get_by : (parts : Parts) (fresh : Fresh) (s u : State) (exit : Option ℕ) (annulled : Bool) → s.exit ≡ exit → s.annulled ≡ annulled →
+    (if annulled then 0 else asks_of_word (word_at parts.words s.pc)) ≡ 1 → goes_on parts fresh s exit annulled ≡ Goes u → IsGet parts fresh s
 unfolding turn
 is_get_by parts fresh s u (Some status) annulled p q e goes = absurd (cc)
 is_get_by parts fresh s u None true p q e goes = absurd (omega arith)
@@ -228,7 +242,8 @@ is_get : (parts : Parts) (fresh : Fresh) (s u : State) → asks_at parts (place_
 unfolding turn asks_at place_of
 is_get parts fresh s u e goes = is_get_by parts fresh s u s.exit s.annulled refl refl e goes
 
-step_asked : (parts : Parts) (s u : State) (front rest other : List ℕ) → s.input ≡ front ++ rest → Step parts s u → asks_at parts (place_of parts s) ≡ 1 → 1 ≤ length front → Unmoved parts s u front rest other
+step_asked : (parts : Parts) (s u : State) (front rest other : List ℕ) → s.input ≡ front ++ rest → Step parts s u → asks_at parts (place_of parts s) ≡ 1 →
+    1 ≤ length front → Unmoved parts s u front rest other
 step_asked parts s u [] rest other is step one some = absurd (omega arith)
 step_asked parts s u (byte ∷ front) rest other is step one some =
     let g = is_get parts step.0 s u one step.2 in
@@ -291,7 +306,8 @@ same_place z parts s = ap (λ (x : Option ℕ). record { pc = s.pc; annulled = s
 dropped : (xs : List ℕ) (a b : ℕ) → drop b (drop a xs) ≡ drop (a + b) xs
 dropped xs a b = drop-drop b a xs
 
-pub unread : (parts : Parts) (path : List Place) (s t : State) (front rest other : List ℕ) → s.input ≡ front ++ rest → Run parts s path t → asks parts path ≤ length front → Unread parts s t path front rest other
+pub unread : (parts : Parts) (path : List Place) (s t : State) (front rest other : List ℕ) → s.input ≡ front ++ rest → Run parts s path t →
+    asks parts path ≤ length front → Unread parts s t path front rest other
 unread parts [] s t front rest other is run within = record { input = ap (λ (x : State). x.input) (sym run) ∙ is; run = ap (with_input (front ++ other)) run }
 unread parts (p ∷ path) s t front rest other is run within =
     let same : asks_at parts p ≡ asks_at parts (place_of parts s) = ap (asks_at parts) run.1 in

@@ -38,7 +38,8 @@ based base s = record s { registers = record s.registers { newest = record s.reg
 
 -- with these slots in the newest frame
 abbrev pub with_slots : (ℕ → Option ℕ) → State → State
-with_slots slots s = record s { registers = record s.registers { newest = record s.registers.newest { slots = slots } } }
+with_slots slots s =
+    record s { registers = record s.registers { newest = record s.registers.newest { slots = slots } } }
 
 -- with the frame of a caller behind the newest
 abbrev pub called_by : Frame → List Frame → State → State
@@ -46,7 +47,12 @@ called_by caller older s = record s { registers = record s.registers { older = c
 
 -- with memory whose every byte is its address's low one, and %l0 at the start of the data
 abbrev pub with_addresses : State → State
-with_addresses s = record s { memory = λ a. Some (a % 2 ^ 8); registers = record s.registers { newest = record s.registers.newest { locals = λ _. DATA_START } } }
+with_addresses s =
+    record s {
+      memory = λ a. Some (a % 2 ^ 8);
+      registers =
+          record s.registers { newest = record s.registers.newest { locals = λ _. DATA_START } };
+    }
 
 -- so many bytes
 abbrev pub zeros : Bool → ℕ → Region

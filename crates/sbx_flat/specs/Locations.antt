@@ -7,7 +7,8 @@ use Rattle.sbx_flat.specs.States.{State}
 abbrev pub frame_word : ℕ → Frame → ℕ → Option ℕ
 frame_word base f k = f.slots (base + 64 + 4 * k)
 
--- what a location holds, where the newest frame's base is known by itself: a frame word's address is then the same after every write
+-- what a location holds, where the newest frame's base is known by itself: a frame word's address is then the same
+-- after every write
 abbrev pub location_in : ℕ → Registers → ℕ → Option ℕ
 location_in base file l = if nat_lt l 32 then Some (word_in file l) else frame_word base file.newest (l - 32)
 

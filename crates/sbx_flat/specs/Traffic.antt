@@ -1,5 +1,7 @@
--- Which calls of a path a machine with n windows has no window for, and what its turns come to; and the pages that an image calls its own.
-use Rattle.std.specs.Prelude.{ℕ, ◌+◌, ◌*◌, ◌-◌, ◌/◌, Bool, false, not, ◌==◌, ◌&&◌, ◌||◌, nat_lt, nat_le, if◌then◌else◌, List, [], ◌∷◌, length, Option, Some, None, slice_get}
+-- Which calls of a path a machine with n windows has no window for, and what its turns come to; and the pages that an
+-- image calls its own.
+use Rattle.std.specs.Prelude.{ℕ, ◌+◌, ◌*◌, ◌-◌, ◌/◌, Bool, false, not, ◌==◌, ◌&&◌, ◌||◌, nat_lt, nat_le, if◌then◌else◌}
+use Rattle.std.specs.Prelude.{List, [], ◌∷◌, length, Option, Some, None, slice_get}
 use Rattle.v8_meaning.specs.declared.operation.Operation.{Operation}
 use Rattle.v8_meaning.specs.declared.operation.Operation.TheVariants.{Save, Restore}
 use Rattle.v8_map.specs.declared.TheConstants.{PAGE, CODE_START, DATA_START, STACK_END}
@@ -34,7 +36,8 @@ after_word n None t = record t { turns = t.turns + 1 }
 after_word n (Some word) t = after_operation n (asked word) t
 
 unfoldable pub after_place : Parts → ℕ → Place → Traffic → Traffic
-after_place parts n place t = if place.annulled then record t { turns = t.turns + 1 } else after_word n (word_at parts.words place.pc) t
+after_place parts n place t =
+    if place.annulled then record t { turns = t.turns + 1 } else after_word n (word_at parts.words place.pc) t
 
 abbrev pub traffic_from : Parts → ℕ → List Place → Traffic → Traffic
 traffic_from parts n [] t = t
@@ -48,7 +51,8 @@ traffic parts n path = traffic_from parts n path no_traffic
 
 -- the code pages that hold a code word
 abbrev pub is_own_code_page : Parts → ℕ → Bool
-is_own_code_page parts page = nat_le (CODE_START / PAGE) page && nat_lt (PAGE * (page - CODE_START / PAGE)) (4 * length parts.words)
+is_own_code_page parts page =
+    nat_le (CODE_START / PAGE) page && nat_lt (PAGE * (page - CODE_START / PAGE)) (4 * length parts.words)
 
 -- whether a page of data may be loaded from, or stored to
 abbrev pub may_reach : Bool → Option Bool → Bool

@@ -29,7 +29,9 @@ abbrev pub asks : Parts → List Place → ℕ
 asks parts [] = 0
 asks parts (place ∷ path) = asks_at parts place + asks parts path
 
--- A run from s, whose input is a front and the rest, goes the same way with other bytes after the front; and it leaves those.
+-- A run from s, whose input is a front and the rest, goes the same way with other bytes after the front; and it leaves
+-- those.
 pub record Unread (parts : Parts) (s t : State) (path : List Place) (front rest other : List ℕ) : Type 0 where
   pub input : t.input ≡ drop (asks parts path) front ++ rest
-  pub run : Run parts (record s { input = front ++ other }) path (record t { input = drop (asks parts path) front ++ other })
+  pub run : Run parts (record s { input = front ++ other }) path
+      (record t { input = drop (asks parts path) front ++ other })

@@ -1,4 +1,5 @@
--- What every state that a run reaches keeps: words are words, bytes are bytes, and the open calls stand one below the other on the stack.
+-- What every state that a run reaches keeps: words are words, bytes are bytes, and the open calls stand one below the
+-- other on the stack.
 use Rattle.std.specs.Prelude.{ℕ, ◌≡◌, ◌+◌, ◌*◌, ◌%◌, ◌^◌, ◌<◌, ◌≤◌, Some, IfSome}
 use Rattle.std.specs.List.{AllByRecursion}
 use Rattle.v8_map.specs.declared.TheConstants.{PAGE, STACK_END}

@@ -5,8 +5,8 @@ ghost use Rattle.sbx_flat.specs.States.{State};
 
 use std::marker::Brand;
 
-/// A relation of a weight so far and two states, for each image. A law about `I: Relation` holds of every relation, and a proof may pick
-/// the one that it means at `Brand`.
+/// A relation of a weight so far and two states, for each image. A law about `I: Relation` holds of every relation, and
+/// a proof may pick the one that it means at `Brand`.
 pub trait Relation {
     ghost related: { Parts → ℕ → State → State → Type 0 };
 }

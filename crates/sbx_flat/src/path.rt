@@ -27,7 +27,8 @@ pub enum Wrong {
     NotAdmitted,
     /// A target or an access is not a multiple of its size.
     Misaligned,
-    /// An access isn't wholly in one region of the data, one that may be written if it writes, and is not to a slot of the newest frame.
+    /// An access isn't wholly in one region of the data, one that may be written if it writes, and is not to a slot of
+    /// the newest frame.
     OutsideData,
     ZeroDivisor,
     TagOverflow,

@@ -29,11 +29,13 @@ begun parts n course reader writer goes = ([], false, [], (goes, refl), no_bytes
 
 -- the course alone went on
 pub advanced : (met : Bool) (old new : Course) (reader writer : Option (List ℕ)) → StillGoes old new → StreamsOn met old reader writer met new reader writer
-advanced met old new reader writer goes parts n first written_first (read, told, written, (under, same), bytes, got, end, put) = (read, told, written, (goes parts n read written told under, same), bytes, got, end, put)
+advanced met old new reader writer goes parts n first written_first (read, told, written, (under, same), bytes, got, end, put) =
+    (read, told, written, (goes parts n read written told under, same), bytes, got, end, put)
 
 module _ (parts : Parts) (n : ℕ) (first written_first : Option (List ℕ)) (old new : Course) where
   -- a byte was read
-  pub byte_read : (reader reader_now out : Option (List ℕ)) (byte : ℕ) → byte < 2 ^ 8 → Consumes reader reader_now (byte ∷ []) → ((read written : List ℕ) → IsUnderWay parts n read written false old → IsUnderWay parts n (read ++ byte ∷ []) written false new)
+  pub byte_read : (reader reader_now out : Option (List ℕ)) (byte : ℕ) → byte < 2 ^ 8 → Consumes reader reader_now (byte ∷ []) →
+      ((read written : List ℕ) → IsUnderWay parts n read written false old → IsUnderWay parts n (read ++ byte ∷ []) written false new)
       → Streamed first reader written_first out (Flows parts n false old) → Streamed first reader_now written_first out (Flows parts n false new)
   byte_read reader reader_now out byte small got goes (read, told, written, (under, same), bytes, so_far, end, put) = (
     read ++ byte ∷ [],
@@ -52,7 +54,8 @@ module _ (parts : Parts) (n : ℕ) (first written_first : Option (List ℕ)) (ol
   all_read (Some xs) (Some ys) read got end = got ∙ ap (λ (l : List ℕ). read ++ l) end ∙ append-nil read
 
   -- its end was met
-  pub end_read : (reader reader_now out : Option (List ℕ)) → Consumes reader reader_now [] → IsAtEnd reader_now → ((read written : List ℕ) → IsUnderWay parts n read written true old → IsUnderWay parts n read written true new)
+  pub end_read : (reader reader_now out : Option (List ℕ)) → Consumes reader reader_now [] → IsAtEnd reader_now →
+      ((read written : List ℕ) → IsUnderWay parts n read written true old → IsUnderWay parts n read written true new)
       → Streamed first reader written_first out (Flows parts n false old) → Streamed first reader_now written_first out (Flows parts n true new)
   end_read reader reader_now out got end goes (read, told, written, (under, same), bytes, so_far, was, put) =
       let all : Consumes first reader_now read = subst (λ (r : List ℕ). Consumes first reader_now r) (append-nil read) (Consumes-trans first reader reader_now read [] so_far got) in (
@@ -69,11 +72,24 @@ module _ (parts : Parts) (n : ℕ) (first written_first : Option (List ℕ)) (ol
   -- it was known before
   pub end_again : (reader out : Option (List ℕ)) → ((read written : List ℕ) → IsUnderWay parts n read written true old → IsUnderWay parts n read written true new)
       → Streamed first reader written_first out (Flows parts n true old) → Streamed first reader written_first out (Flows parts n true new)
-  end_again reader out goes (read, told, written, (under, same), bytes, got, end, put) =
-      (read, told, written, (subst (λ (m : Bool). IsUnderWay parts n read written m new) (sym same) (goes read written (subst (λ (m : Bool). IsUnderWay parts n read written m old) same under)), same), bytes, got, end, put)
+  end_again reader out goes (read, told, written, (under, same), bytes, got, end, put) = (
+    read,
+    told,
+    written,
+    (
+      subst (λ (m : Bool). IsUnderWay parts n read written m new) (sym same)
+          (goes read written (subst (λ (m : Bool). IsUnderWay parts n read written m old) same under)),
+      same,
+    ),
+    bytes,
+    got,
+    end,
+    put,
+  )
 
   -- a byte was written
-  pub byte_put : (met : Bool) (input writer writer_now : Option (List ℕ)) (byte : ℕ) → Appends writer writer_now (byte ∷ []) → ((read written : List ℕ) (m : Bool) → IsUnderWay parts n read written m old → IsUnderWay parts n read (written ++ byte ∷ []) m new)
+  pub byte_put : (met : Bool) (input writer writer_now : Option (List ℕ)) (byte : ℕ) → Appends writer writer_now (byte ∷ []) →
+      ((read written : List ℕ) (m : Bool) → IsUnderWay parts n read written m old → IsUnderWay parts n read (written ++ byte ∷ []) m new)
       → Streamed first input written_first writer (Flows parts n met old) → Streamed first input written_first writer_now (Flows parts n met new)
   byte_put met input writer writer_now byte put goes (read, told, written, (under, same), bytes, got, end, so_far) = (
     read,
@@ -89,7 +105,8 @@ module _ (parts : Parts) (n : ℕ) (first written_first : Option (List ℕ)) (ol
 -- ---- where it stops
 
 -- a reader failed
-pub reader_failed : (parts : Parts) (n : ℕ) (first written_first reader reader_now out : Option (List ℕ)) (old : Course) → Consumes reader reader_now [] → Streamed first reader written_first out (Flows parts n false old) → Streamed first reader_now written_first out (IsCutOff parts Reader)
+pub reader_failed : (parts : Parts) (n : ℕ) (first written_first reader reader_now out : Option (List ℕ)) (old : Course) → Consumes reader reader_now [] →
+    Streamed first reader written_first out (Flows parts n false old) → Streamed first reader_now written_first out (IsCutOff parts Reader)
 reader_failed parts n first written_first reader reader_now out old got (read, told, written, (under, same), bytes, so_far, end, put) = (
   read,
   told,
@@ -104,7 +121,8 @@ reader_failed parts n first written_first reader reader_now out old got (read, t
 )
 
 -- memory was refused
-pub memory_failed : (parts : Parts) (n : ℕ) (want : Want) (met : Bool) (first written_first reader out : Option (List ℕ)) (old : Course) → Streamed first reader written_first out (Flows parts n met old) → Streamed first reader written_first out (IsCutOff parts (Memory want))
+pub memory_failed : (parts : Parts) (n : ℕ) (want : Want) (met : Bool) (first written_first reader out : Option (List ℕ)) (old : Course) →
+    Streamed first reader written_first out (Flows parts n met old) → Streamed first reader written_first out (IsCutOff parts (Memory want))
 memory_failed parts n want met first written_first reader out old (read, told, written, (under, same), bytes, got, end, put) = (
   read,
   told,
@@ -122,7 +140,9 @@ not_empty : (byte : ℕ) (rest : List ℕ) → (byte ∷ rest) ≢ []
 not_empty byte rest is = absurd (cc)
 
 -- a writer failed, whose byte the run has put out
-pub writer_failed : (parts : Parts) (n : ℕ) (met : Bool) (first written_first input writer writer_now : Option (List ℕ)) (old new : Course) (byte : ℕ) → Appends writer writer_now [] → ((read written : List ℕ) (m : Bool) → IsUnderWay parts n read written m old → IsUnderWay parts n read (written ++ byte ∷ []) m new)
+pub writer_failed : (parts : Parts) (n : ℕ) (met : Bool) (first written_first input writer writer_now : Option (List ℕ)) (old new : Course) (byte : ℕ) →
+    Appends writer writer_now [] →
+    ((read written : List ℕ) (m : Bool) → IsUnderWay parts n read written m old → IsUnderWay parts n read (written ++ byte ∷ []) m new)
     → Streamed first input written_first writer (Flows parts n met old) → Streamed first input written_first writer_now (IsCutOff parts Writer)
 writer_failed parts n met first written_first input writer writer_now old new byte put goes (read, told, written, (under, same), bytes, got, end, so_far) = (
   read,
@@ -143,7 +163,8 @@ writer_failed parts n met first written_first input writer writer_now old new by
 )
 
 -- the run has ended
-pub flowed_so : (parts : Parts) (n : ℕ) (met : Bool) (first written_first reader writer : Option (List ℕ)) (now : Course) (flowed : Flowed) → now.engine.exit ≡ Some flowed.status → flowed.counts ≡ now.tally.traffic
+pub flowed_so : (parts : Parts) (n : ℕ) (met : Bool) (first written_first reader writer : Option (List ℕ)) (now : Course) (flowed : Flowed) →
+    now.engine.exit ≡ Some flowed.status → flowed.counts ≡ now.tally.traffic
     → Streamed first reader written_first writer (Flows parts n met now) → Streamed first reader written_first writer (IsFlowed parts n flowed)
 flowed_so parts n met first written_first reader writer now flowed ended counts (read, told, written, (under, same), bytes, got, end, put) =
     let turns = within parts n read written told now under in (
@@ -162,7 +183,8 @@ flowed_so parts n met first written_first reader writer now flowed ended counts 
 
 -- ---- the same, as the calls tell it
 
-pub on_end_again : (met : Bool) (old new : Course) (reader : Option (List ℕ)) → met ≡ true → ((parts : Parts) (n : ℕ) (read written : List ℕ) → IsUnderWay parts n read written true old → IsUnderWay parts n read written true new)
+pub on_end_again : (met : Bool) (old new : Course) (reader : Option (List ℕ)) → met ≡ true →
+    ((parts : Parts) (n : ℕ) (read written : List ℕ) → IsUnderWay parts n read written true old → IsUnderWay parts n read written true new)
     → (out : Option (List ℕ)) → StreamsOn met old reader out true new reader out
 on_end_again met old new reader is goes out parts n first written_first so =
     end_again parts n first written_first old new reader out (goes parts n) (subst (λ (m : Bool). Streamed first reader written_first out (Flows parts n m old)) is so)
@@ -185,7 +207,8 @@ pub on_put : (old new : Course) (writer writer_now : Option (List ℕ)) (byte : 
 on_put old new writer writer_now byte put goes met input parts n first written_first so = byte_put parts n first written_first old new met input writer writer_now byte put (goes parts n) so
 
 -- a reader's fault, or a writer's
-pub off_reader : (fault : RunFault) (met : Bool) (old new : Course) (reader reader_now : Option (List ℕ)) → fault ≡ Reader → met ≡ false → Consumes reader reader_now [] → (out : Option (List ℕ)) → StopsSo (Fault fault) met old reader out new reader_now out
+pub off_reader : (fault : RunFault) (met : Bool) (old new : Course) (reader reader_now : Option (List ℕ)) → fault ≡ Reader → met ≡ false →
+    Consumes reader reader_now [] → (out : Option (List ℕ)) → StopsSo (Fault fault) met old reader out new reader_now out
 off_reader fault met old new reader reader_now is not_met got out parts n first written_first so =
     subst (λ (f : RunFault). Streamed first reader_now written_first out (IsCutOff parts f)) (sym is)
     (reader_failed parts n first written_first reader reader_now out old got (subst (λ (m : Bool). Streamed first reader written_first out (Flows parts n m old)) not_met so))

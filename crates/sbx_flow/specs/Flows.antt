@@ -15,10 +15,12 @@ use Rattle.sbx_flow.specs.declared.flow.Stop.TheVariants.{Ended, Fault}
 
 -- ---- what is promised
 
--- On every input that begins with the bytes read, or on these alone where their end was met, what was written is all of the image's
--- output, this is the exit word, and the counts are those of its path on n windows. The turns are within the budget.
+-- On every input that begins with the bytes read, or on these alone where their end was met, what was written is all of
+-- the image's output, this is the exit word, and the counts are those of its path on n windows. The turns are within
+-- the budget.
 abbrev pub IsFlowed : Parts → ℕ → Flowed → List ℕ → Bool → List ℕ → Type 0
-IsFlowed parts n flowed read met written = IsAllOf parts n read met written flowed.status flowed.counts × (flowed.counts.turns ≤ budget parts)
+IsFlowed parts n flowed read met written = IsAllOf parts n read met written flowed.status flowed.counts
+    × (flowed.counts.turns ≤ budget parts)
 
 -- what a fault says: a reader's, that the input's end wasn't met; a writer's, that there is more to be written
 abbrev pub Says : RunFault → Bool → List ℕ → Type 0
@@ -30,7 +32,8 @@ Says Writer met rest = rest ≢ []
 abbrev pub IsCutOff : Parts → RunFault → List ℕ → Bool → List ℕ → Type 0
 IsCutOff parts fault read met written =
     (j : List ℕ) → AreBytes (beyond met j) →
-    (rest : List ℕ) × (status : ℕ) × (path : List Place) × Behaves parts (read ++ beyond met j) (written ++ rest) status path × Says fault met rest
+    (rest : List ℕ) × (status : ℕ) × (path : List Place)
+    × Behaves parts (read ++ beyond met j) (written ++ rest) status path × Says fault met rest
 
 -- ---- on the way
 
@@ -44,13 +47,20 @@ abbrev pub Flows : Parts → ℕ → Bool → Course → List ℕ → Bool → L
 Flows parts n met course read told written = IsUnderWay parts n read written told course × (told ≡ met)
 
 -- whatever was read and written before, the streams stand so now
-abbrev pub StreamsOn : Bool → Course → Option (List ℕ) → Option (List ℕ) → Bool → Course → Option (List ℕ) → Option (List ℕ) → Type 0
+abbrev pub StreamsOn : Bool → Course → Option (List ℕ) → Option (List ℕ) → Bool → Course → Option (List ℕ) →
+    Option (List ℕ) → Type 0
 StreamsOn met old reader writer now_met new reader_now writer_now =
-    (parts : Parts) (n : ℕ) (first written_first : Option (List ℕ)) → Streamed first reader written_first writer (Flows parts n met old) → Streamed first reader_now written_first writer_now (Flows parts n now_met new)
+    (parts : Parts) (n : ℕ) (first written_first : Option (List ℕ)) →
+    Streamed first reader written_first writer (Flows parts n met old) →
+    Streamed first reader_now written_first writer_now (Flows parts n now_met new)
 
--- or they stop: at an exit word all is as it was; where a fault ended the run what was written are the first bytes of its output
-abbrev pub StopsSo : Stop → Bool → Course → Option (List ℕ) → Option (List ℕ) → Course → Option (List ℕ) → Option (List ℕ) → Type 0
+-- or they stop: at an exit word all is as it was; where a fault ended the run what was written are the first bytes of
+-- its output
+abbrev pub StopsSo : Stop → Bool → Course → Option (List ℕ) → Option (List ℕ) → Course → Option (List ℕ) →
+    Option (List ℕ) → Type 0
 StopsSo (Ended word) met old reader writer new reader_now writer_now =
     (new.engine.exit ≡ Some word) × StreamsOn met old reader writer met new reader_now writer_now
 StopsSo (Fault fault) met old reader writer new reader_now writer_now =
-    (parts : Parts) (n : ℕ) (first written_first : Option (List ℕ)) → Streamed first reader written_first writer (Flows parts n met old) → Streamed first reader_now written_first writer_now (IsCutOff parts fault)
+    (parts : Parts) (n : ℕ) (first written_first : Option (List ℕ)) →
+    Streamed first reader written_first writer (Flows parts n met old) →
+    Streamed first reader_now written_first writer_now (IsCutOff parts fault)

@@ -45,13 +45,18 @@ fn tells_byte(byte: u8)
     ensures { byte < 2 ^ 8 }
 {}
 
-/// Makes the step of a get with the next byte of a reader, and tells whether the end is known then. An input that has ended isn't asked
-/// again.
+/// Makes the step of a get with the next byte of a reader, and tells whether the end is known then. An input that has
+/// ended isn't asked again.
 fn get<R: Read>(course: &mut Course, after: Tally, met: bool, reader: &mut R) -> Result<bool, Stop>
     requires { AsksWithin Byte (2 ^ 62) course.old after }
-    ensures goes { (out : Option (List ℕ)) → IfOk result (λ now_met. StreamsOn met course.old (R.remaining reader.old) out now_met course.new (R.remaining reader.new) out) }
-    ensures more { OnOk result ((course.old.tally.traffic.turns < course.new.tally.traffic.turns) × (course.new.tally.traffic.turns ≤ 2 ^ 62)) }
-    ensures stops { (out : Option (List ℕ)) → IfErr result (λ stop. StopsSo stop met course.old (R.remaining reader.old) out course.new (R.remaining reader.new) out) }
+    ensures goes { (out : Option (List ℕ)) →
+        IfOk result (λ now_met. StreamsOn met course.old (R.remaining reader.old) out now_met course.new
+        (R.remaining reader.new) out) }
+    ensures more { OnOk result ((course.old.tally.traffic.turns < course.new.tally.traffic.turns)
+        × (course.new.tally.traffic.turns ≤ 2 ^ 62)) }
+    ensures stops { (out : Option (List ℕ)) →
+        IfErr result (λ stop. StopsSo stop met course.old (R.remaining reader.old) out course.new
+        (R.remaining reader.new) out) }
 {
     if met {
         course.take_end(after);
@@ -74,9 +79,14 @@ fn get<R: Read>(course: &mut Course, after: Tally, met: bool, reader: &mut R) ->
 /// Makes the step of a put, whose byte goes to a writer. Of the input's end is known what was.
 fn put<W: Write>(course: &mut Course, after: Tally, met: bool, writer: &mut W) -> Result<bool, Stop>
     requires { AsksWithin Room (2 ^ 62) course.old after }
-    ensures goes { (input : Option (List ℕ)) → IfOk result (λ now_met. StreamsOn met course.old input (W.contents writer.old) now_met course.new input (W.contents writer.new)) }
-    ensures more { OnOk result ((course.old.tally.traffic.turns < course.new.tally.traffic.turns) × (course.new.tally.traffic.turns ≤ 2 ^ 62)) }
-    ensures stops { (input : Option (List ℕ)) → IfErr result (λ stop. StopsSo stop met course.old input (W.contents writer.old) course.new input (W.contents writer.new)) }
+    ensures goes { (input : Option (List ℕ)) →
+        IfOk result (λ now_met. StreamsOn met course.old input (W.contents writer.old) now_met course.new input
+        (W.contents writer.new)) }
+    ensures more { OnOk result ((course.old.tally.traffic.turns < course.new.tally.traffic.turns)
+        × (course.new.tally.traffic.turns ≤ 2 ^ 62)) }
+    ensures stops { (input : Option (List ℕ)) →
+        IfErr result (λ stop. StopsSo stop met course.old input (W.contents writer.old) course.new input
+        (W.contents writer.new)) }
 {
     let byte = course.give_byte(after);
     match write_byte(writer, byte) {
@@ -97,9 +107,14 @@ fn exchange<R: Read, W: Write>(
     requires halts { HaltsSo (2 ^ 62) course.old halt }
     requires few { course.old.tally.traffic.turns < 2 ^ 40 }
     requires found { halt ≢ Halt.Lost }
-    ensures goes { IfOk result (λ now_met. StreamsOn met course.old (R.remaining reader.old) (W.contents writer.old) now_met course.new (R.remaining reader.new) (W.contents writer.new)) }
-    ensures more { OnOk result ((course.old.tally.traffic.turns < course.new.tally.traffic.turns) × (course.new.tally.traffic.turns ≤ 2 ^ 62)) }
-    ensures stops { IfErr result (λ stop. StopsSo stop met course.old (R.remaining reader.old) (W.contents writer.old) course.new (R.remaining reader.new) (W.contents writer.new)) }
+    ensures goes { IfOk result
+        (λ now_met. StreamsOn met course.old (R.remaining reader.old) (W.contents writer.old) now_met course.new
+        (R.remaining reader.new) (W.contents writer.new)) }
+    ensures more { OnOk result ((course.old.tally.traffic.turns < course.new.tally.traffic.turns)
+        × (course.new.tally.traffic.turns ≤ 2 ^ 62)) }
+    ensures stops { IfErr result
+        (λ stop. StopsSo stop met course.old (R.remaining reader.old) (W.contents writer.old) course.new
+        (R.remaining reader.new) (W.contents writer.new)) }
 {
     match halt {
         Halt::Byte(after) => get(course, after, met, reader),
@@ -111,14 +126,15 @@ fn exchange<R: Read, W: Write>(
     }
 }
 
-/// Runs an accepted image to its end on the fast flat machine, over a reader and a writer, and counts on so many windows, 2 or more.
-/// Where the program asks for a byte, one byte is read, and a byte that it puts out is written at once. An input that has ended isn't
-/// asked again; a read that fails, whatever its error, is `Reader`, and a write that fails or takes no byte is `Writer`: neither is
-/// tried again. Nothing is flushed, and no memory grows with the input or the output.
+/// Runs an accepted image to its end on the fast flat machine, over a reader and a writer, and counts on so many
+/// windows, 2 or more. Where the program asks for a byte, one byte is read, and a byte that it puts out is written at
+/// once. An input that has ended isn't asked again; a read that fails, whatever its error, is `Reader`, and a write
+/// that fails or takes no byte is `Writer`: neither is tried again. Nothing is flushed, and no memory grows with the
+/// input or the output.
 ///
-/// On Ok what was written is all of the image's output, and status and counts are its own, on every input that begins with the bytes
-/// read, or on these alone where their end was met. On a fault what was written are the first bytes of that output. `Reader` comes
-/// where the input's end wasn't met, and `Writer` where the output goes on.
+/// On Ok what was written is all of the image's output, and status and counts are its own, on every input that begins
+/// with the bytes read, or on these alone where their end was met. On a fault what was written are the first bytes of
+/// that output. `Reader` comes where the input's end wasn't met, and `Writer` where the output goes on.
 pub fn run_over<R: Read, W: Write>(
     alloc: Global,
     accepted: &Accepted,
@@ -127,9 +143,13 @@ pub fn run_over<R: Read, W: Write>(
     writer: &mut W,
 ) -> Result<Flowed, RunFault>
     requires { 2 ≤ windows }
-    ensures whole { IfOk result (λ flowed. Streamed (R.remaining reader.old) (R.remaining reader.new) (W.contents writer.old) (W.contents writer.new)
+    ensures whole { IfOk result
+        (λ flowed. Streamed (R.remaining reader.old) (R.remaining reader.new) (W.contents writer.old)
+        (W.contents writer.new)
         (IsFlowed accepted.now windows flowed)) }
-    ensures part { IfErr result (λ fault. Streamed (R.remaining reader.old) (R.remaining reader.new) (W.contents writer.old) (W.contents writer.new)
+    ensures part { IfErr result
+        (λ fault. Streamed (R.remaining reader.old) (R.remaining reader.new) (W.contents writer.old)
+        (W.contents writer.new)
         (IsCutOff accepted.now fault)) }
 {
     tells_safe(accepted);

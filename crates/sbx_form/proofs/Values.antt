@@ -94,8 +94,12 @@ worst-within ends [] some = record { low = λ l. le_z_refl (ends.lo l); high = s
 worst-within ends (t ∷ ts) some =
     let i = worst-within ends ts some in
     record {
-      low = λ l. by_case (l == t.location) (λ z. ends.lo l ≤ℤ z) _ _ (λ _. by_case (int_lt (ends.hi l *ℤ t.coefficient) (ends.lo l *ℤ t.coefficient)) (λ z. ends.lo l ≤ℤ z) _ _ (λ _. some l) (λ _. le_z_refl (ends.lo l))) (λ _. i.low l);
-      high = λ l. by_case (l == t.location) (λ z. z ≤ℤ ends.hi l) _ _ (λ _. by_case (int_lt (ends.hi l *ℤ t.coefficient) (ends.lo l *ℤ t.coefficient)) (λ z. z ≤ℤ ends.hi l) _ _ (λ _. le_z_refl (ends.hi l)) (λ _. some l)) (λ _. i.high l);
+      low = λ l. by_case (l == t.location) (λ z. ends.lo l ≤ℤ z) _ _
+          (λ _. by_case (int_lt (ends.hi l *ℤ t.coefficient) (ends.lo l *ℤ t.coefficient)) (λ z. ends.lo l ≤ℤ z) _ _ (λ _. some l) (λ _. le_z_refl (ends.lo l)))
+          (λ _. i.low l);
+      high = λ l. by_case (l == t.location) (λ z. z ≤ℤ ends.hi l) _ _
+          (λ _. by_case (int_lt (ends.hi l *ℤ t.coefficient) (ends.lo l *ℤ t.coefficient)) (λ z. z ≤ℤ ends.hi l) _ _ (λ _. le_z_refl (ends.hi l)) (λ _. some l))
+          (λ _. i.high l);
     }
 
 -- a term before all of these leaves their value
@@ -107,7 +111,9 @@ worst-later ends t us (u ∷ ts) n a b =
     let i = worst-later ends t us ts (suc u.location) a.1 (omega arith) in
     let e : (u.location == t.location) ≡ false = grind (arith, nat_tests) in
     let same : worst ends (t ∷ us) u.location ≡ worst ends us u.location =
-    ap (λ (x : Bool). if x then (if int_lt (ends.hi u.location *ℤ t.coefficient) (ends.lo u.location *ℤ t.coefficient) then ends.hi u.location else ends.lo u.location) else worst ends us u.location) e in
+    ap (λ (x : Bool). if x
+    then (if int_lt (ends.hi u.location *ℤ t.coefficient) (ends.lo u.location *ℤ t.coefficient) then ends.hi u.location else ends.lo u.location)
+    else worst ends us u.location) e in
     let m : worst ends (t ∷ us) u.location *ℤ u.coefficient ≡ worst ends us u.location *ℤ u.coefficient = ap (λ z. z *ℤ u.coefficient) same in
     omega (arith, ints)
 
@@ -130,5 +136,6 @@ worst-value ends n (t ∷ ts) a =
     let i = worst-value ends (suc t.location) ts a.1 in
     omega (arith, ints)
 
-pub least-reached : (ends : Ends) (n : ℕ) (ts : List FormTerm) → ((l : ℕ) → ends.lo l ≤ℤ ends.hi l) → AscendFrom n ts → (cells : Cells) × Within ends cells × (terms_value cells ts ≡ least_terms ends ts)
+pub least-reached : (ends : Ends) (n : ℕ) (ts : List FormTerm) → ((l : ℕ) → ends.lo l ≤ℤ ends.hi l) → AscendFrom n ts →
+    (cells : Cells) × Within ends cells × (terms_value cells ts ≡ least_terms ends ts)
 least-reached ends n ts some a = (worst ends ts, worst-within ends ts some, worst-value ends n ts a)

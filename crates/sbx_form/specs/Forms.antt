@@ -1,5 +1,6 @@
 -- Linear forms over the numbers that a block starts with.
-use Rattle.std.specs.Prelude.{ℕ, suc, ◌≤◌, ◌==◌, ℤ, pos, ◌+ℤ◌, ◌*ℤ◌, ◌≤ℤ◌, unsigned_abs, nat_lt, List, [], ◌∷◌, slice_index_or, if◌then◌else◌}
+use Rattle.std.specs.Prelude.{ℕ, suc, ◌≤◌, ◌==◌, ℤ, pos, ◌+ℤ◌, ◌*ℤ◌, ◌≤ℤ◌, unsigned_abs, nat_lt, List, [], ◌∷◌}
+use Rattle.std.specs.Prelude.{slice_index_or, if◌then◌else◌}
 use Rattle.std.specs.Int.{int_min}
 use Rattle.std.specs.Ordering.{int_eq}
 use Rattle.sbx_form.specs.declared.terms.FormTerm.{FormTerm}
@@ -55,7 +56,8 @@ no_range = record { lo = pos 0; hi = pos 0; alignment = 0 }
 
 -- the ends of ranges that stand by location
 abbrev pub ends_of : List Range → Ends
-ends_of ranges = record { lo = λ l. (slice_index_or ranges l no_range).lo; hi = λ l. (slice_index_or ranges l no_range).hi }
+ends_of ranges =
+    record { lo = λ l. (slice_index_or ranges l no_range).lo; hi = λ l. (slice_index_or ranges l no_range).hi }
 
 abbrev pub least_term : Ends → FormTerm → ℤ
 least_term ends t = int_min (ends.lo t.location *ℤ t.coefficient) (ends.hi t.location *ℤ t.coefficient)

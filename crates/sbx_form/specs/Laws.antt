@@ -5,8 +5,10 @@ use Rattle.sbx_form.specs.Forms.{AscendFrom, Cells, Ends, Within, add_term, add_
 
 -- The value of a sum of terms is the sum of their values.
 pub record SumsHaveTheSum : Type 0 where
-  pub one : (cells : Cells) (l : ℕ) (c : ℤ) (ts : List FormTerm) → terms_value cells (add_term l c ts) ≡ (cells l *ℤ c) +ℤ terms_value cells ts
-  pub several : (cells : Cells) (k : ℤ) (us ts : List FormTerm) → terms_value cells (add_terms k us ts) ≡ (k *ℤ terms_value cells us) +ℤ terms_value cells ts
+  pub one : (cells : Cells) (l : ℕ) (c : ℤ) (ts : List FormTerm) →
+      terms_value cells (add_term l c ts) ≡ (cells l *ℤ c) +ℤ terms_value cells ts
+  pub several : (cells : Cells) (k : ℤ) (us ts : List FormTerm) →
+      terms_value cells (add_terms k us ts) ≡ (k *ℤ terms_value cells us) +ℤ terms_value cells ts
 
 -- A sum of terms in ascending order is in ascending order, and has at most one term more.
 pub record SumsStayInOrder : Type 0 where
@@ -15,6 +17,7 @@ pub record SumsStayInOrder : Type 0 where
 
 -- The least value of a form is below each of its values, and is one of them.
 pub record LeastIsLeast : Type 0 where
-  pub below : (ends : Ends) (cells : Cells) (ts : List FormTerm) → Within ends cells → least_terms ends ts ≤ℤ terms_value cells ts
+  pub below : (ends : Ends) (cells : Cells) (ts : List FormTerm) → Within ends cells →
+      least_terms ends ts ≤ℤ terms_value cells ts
   pub reached : (ends : Ends) (n : ℕ) (ts : List FormTerm) → ((l : ℕ) → ends.lo l ≤ℤ ends.hi l) → AscendFrom n ts
       → (cells : Cells) × Within ends cells × (terms_value cells ts ≡ least_terms ends ts)

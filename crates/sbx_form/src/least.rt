@@ -37,8 +37,10 @@ pub fn plus(a: i128, b: i128) -> i128
 /// The least value of these terms over all numbers of the ranges, which stand by location.
 pub fn least_terms(terms: &[FormTerm], ranges: &[Range]) -> i128
     requires few { length terms.now ≤ 1000 }
-    requires small { (k : ℕ) → (t : FormTerm) → k < length terms.now → unsigned_abs (slice_index_or terms.now k t).coefficient ≤ 2 ^ 70 }
-    requires there { (k : ℕ) → (t : FormTerm) → k < length terms.now → (slice_index_or terms.now k t).location < length ranges.now }
+    requires small { (k : ℕ) → (t : FormTerm) → k < length terms.now →
+        unsigned_abs (slice_index_or terms.now k t).coefficient ≤ 2 ^ 70 }
+    requires there { (k : ℕ) → (t : FormTerm) → k < length terms.now →
+        (slice_index_or terms.now k t).location < length ranges.now }
     ensures { result ≡ least_terms (ends_of ranges.now) terms.now }
 {
     let mut least = 0;

@@ -1,5 +1,6 @@
 //! Terms in ascending order of their locations.
-ghost use Rattle.std.specs.Prelude.{◌≡◌, ℕ, ℤ, ◌^◌, ◌<◌, ◌≤◌, ◌++◌, ◌+◌, ◌+ℤ◌, ◌*ℤ◌, length, take, drop, slice_index_or, unsigned_abs};
+ghost use Rattle.std.specs.Prelude.{◌≡◌, ℕ, ℤ, ◌^◌, ◌<◌, ◌≤◌, ◌++◌, ◌+◌, ◌+ℤ◌, ◌*ℤ◌, length, take, drop};
+ghost use Rattle.std.specs.Prelude.{slice_index_or, unsigned_abs};
 ghost use Rattle.arrayvec.specs.ArrayVec.{array_vec_len};
 ghost use Rattle.sbx_form.specs.declared.terms.FormTerm.{FormTerm};
 ghost use Rattle.sbx_form.specs.Forms.{AreWithin, add_term, add_terms, keep};
@@ -18,8 +19,10 @@ pub struct FormTerm {
 /// The first place whose location is not below this one.
 fn place_of(terms: &[FormTerm], location: u16) -> usize
     ensures within { result ≤ length terms.now }
-    ensures splits { (c : ℤ) → add_term location c terms.now ≡ take result terms.now ++ add_term location c (drop result terms.now) }
-    ensures stops { (t : FormTerm) → result < length terms.now → location ≤ (slice_index_or terms.now result t).location }
+    ensures splits { (c : ℤ) →
+        add_term location c terms.now ≡ take result terms.now ++ add_term location c (drop result terms.now) }
+    ensures stops { (t : FormTerm) → result < length terms.now →
+        location ≤ (slice_index_or terms.now result t).location }
 {
     for (i, term) in terms.iter().enumerate() {
         if term.location >= location {
@@ -32,10 +35,16 @@ fn place_of(terms: &[FormTerm], location: u16) -> usize
 /// Takes out the term at a place, where its location is this one, and gives its coefficient; else 0.
 fn take_at<const N: usize>(terms: &mut ArrayVec<FormTerm, N>, place: usize, location: u16) -> i128
     requires within { place ≤ array_vec_len terms.old }
-    requires splits { (c : ℤ) → add_term location c terms.old.items ≡ take place terms.old.items ++ add_term location c (drop place terms.old.items) }
-    requires small { (k : ℕ) → (t : FormTerm) → k < array_vec_len terms.old → unsigned_abs (slice_index_or terms.old.items k t).coefficient ≤ 2 ^ 100 }
-    requires stops { (t : FormTerm) → place < array_vec_len terms.old → location ≤ (slice_index_or terms.old.items place t).location }
-    ensures splits { (c : ℤ) → add_term location c terms.old.items ≡ take place terms.new.items ++ keep location (c +ℤ result) (drop place terms.new.items) }
+    requires splits { (c : ℤ) →
+        add_term location c terms.old.items ≡
+        take place terms.old.items ++ add_term location c (drop place terms.old.items) }
+    requires small { (k : ℕ) → (t : FormTerm) → k < array_vec_len terms.old →
+        unsigned_abs (slice_index_or terms.old.items k t).coefficient ≤ 2 ^ 100 }
+    requires stops { (t : FormTerm) → place < array_vec_len terms.old →
+        location ≤ (slice_index_or terms.old.items place t).location }
+    ensures splits { (c : ℤ) →
+        add_term location c terms.old.items ≡
+        take place terms.new.items ++ keep location (c +ℤ result) (drop place terms.new.items) }
     ensures len { array_vec_len terms.new ≤ array_vec_len terms.old }
     ensures within { place ≤ array_vec_len terms.new }
     ensures small { unsigned_abs result ≤ 2 ^ 100 }
@@ -72,7 +81,8 @@ fn keep_at<const N: usize>(
 /// Adds a term to terms in ascending order: to the one of its location where there is one, and terms that cancel go.
 pub fn add_term<const N: usize>(terms: &mut ArrayVec<FormTerm, N>, location: u16, coefficient: i128)
     requires room { array_vec_len terms.old < N }
-    requires small { (k : ℕ) → (t : FormTerm) → k < array_vec_len terms.old → unsigned_abs (slice_index_or terms.old.items k t).coefficient ≤ 2 ^ 100 }
+    requires small { (k : ℕ) → (t : FormTerm) → k < array_vec_len terms.old →
+        unsigned_abs (slice_index_or terms.old.items k t).coefficient ≤ 2 ^ 100 }
     requires small_term { unsigned_abs coefficient ≤ 2 ^ 100 }
     ensures { terms.new.items ≡ add_term location coefficient terms.old.items }
 {

@@ -123,14 +123,22 @@ all_at P (x ∷ xs) zero d h within = h.0
 all_at P (x ∷ xs) (suc i) d h within = all_at P xs i d h.1 (omega arith)
 
 is_kept : (f : Function) (b : ℕ) (block : Block) → KeptPromises f → KeptAnnotations block → IsKeptBlock f b block
-is_kept f zero block h k = record { few = k.few; ascend = (k.terms (out_cells 8 f.params)).0; nonzero = (k.terms (out_cells 8 f.params)).1; ranges = started_some (out_cells 8 f.params) (params_some 8 f.params h.params) }
+is_kept f zero block h k =
+    record {
+      few = k.few;
+      ascend = (k.terms (out_cells 8 f.params)).0;
+      nonzero = (k.terms (out_cells 8 f.params)).1;
+      ranges =
+          started_some (out_cells 8 f.params) (params_some 8 f.params h.params);
+    }
 is_kept f (suc b) block h k = record { few = k.few; ascend = (k.terms block.cells).0; nonzero = (k.terms block.cells).1; ranges = started_some block.cells k.cells }
 
 pub block_is_kept : (parts : Parts) → parts_keep parts ≡ Ok tt → (f b : ℕ) (df : Function) (db : Block) → f < length parts.functions
     → b < length (get_or parts.functions f df).blocks → IsKeptBlock (get_or parts.functions f df) b (get_or (get_or parts.functions f df).blocks b db)
 block_is_kept parts e f b df db in_functions in_blocks =
     let k = parts_kept parts e in
-    let all = each_all (function_keeps parts.version (code_start + 4 * length parts.words)) KeptPromises (promises parts.version (code_start + 4 * length parts.words)) parts.functions (Exactly code_start, 0) k.last k.functions in
+    let all = each_all (function_keeps parts.version (code_start + 4 * length parts.words)) KeptPromises
+    (promises parts.version (code_start + 4 * length parts.words)) parts.functions (Exactly code_start, 0) k.last k.functions in
     let one = all_at KeptPromises parts.functions f df all in_functions in
     is_kept (get_or parts.functions f df) b (get_or (get_or parts.functions f df).blocks b db) one (all_at KeptAnnotations (get_or parts.functions f df).blocks b db one.blocks in_blocks)
 

@@ -14,7 +14,8 @@ use Rattle.v8_meaning.specs.Transfers.{odd_of}
 use Rattle.v8_meaning.specs.declared.operation.Loading.{Loading}
 use Rattle.v8_meaning.specs.declared.operation.Loading.TheVariants as loadings
 use Rattle.v8_meaning.specs.declared.operation.Operation.{Operation}
-use Rattle.v8_meaning.specs.declared.operation.Operation.TheVariants.{Compute, Divide, TaggedTrap, SetHigh, ReadY, WriteY, Transfer, Save, Restore, Call, BranchOnCondition, JumpAndLink, TrapOnCondition}
+use Rattle.v8_meaning.specs.declared.operation.Operation.TheVariants.{Compute, Divide, TaggedTrap, SetHigh, ReadY, WriteY, Transfer, Save, Restore, Call}
+use Rattle.v8_meaning.specs.declared.operation.Operation.TheVariants.{BranchOnCondition, JumpAndLink, TrapOnCondition}
 use Rattle.v8_meaning.specs.declared.operation.Transfer.{Transfer as Moving}
 use Rattle.v8_meaning.specs.declared.operation.Transfer.TheVariants.{Load, Store, Exchange}
 use Rattle.sbx_image.specs.Cell.{Cell}
@@ -34,7 +35,9 @@ use Rattle.sbx_rules.specs.Relation.TheVariants.{Compared, Signs}
 use Rattle.sbx_rules.specs.Known.{Known, cell_entry, is_location, plain_entry, plain_entry_of, range_at, started, with_entry}
 use Rattle.sbx_rules.specs.Refining.{in_both, is_same, narrowed_at, narrowed_related, range_of_related, refined, refined_by, refined_pair, refined_signs, with_narrowed, with_pair, with_range_of}
 use Rattle.sbx_rules.specs.Results.{constant_entry, entry_of_y, operand_entry, quotient_of, register_entry, result_of, tagged_of}
-use Rattle.sbx_rules.specs.Transfer.{called, division_sets_codes, exchanged_range, frame_word_of, is_global, is_in, is_kept_by_calls, is_out, loaded_entry, relation_of, restored, result_entry, saved, served, sets_codes, transferred, with_codes, with_loaded, with_moved, with_product_y, with_stored}
+use Rattle.sbx_rules.specs.Transfer.{called, division_sets_codes, exchanged_range, frame_word_of, is_global, is_in, is_kept_by_calls, is_out, loaded_entry}
+use Rattle.sbx_rules.specs.Transfer.{relation_of, restored, result_entry, saved, served, sets_codes, transferred, with_codes, with_loaded, with_moved}
+use Rattle.sbx_rules.specs.Transfer.{with_product_y, with_stored}
 use Rattle.sbx_image.specs.Order.{function_at}
 use Rattle.sbx_rules.specs.Places.{callee_before, op_at}
 use Rattle.sbx_rules.specs.Ways.{Visit, Way, after_call, after_visit, after_word, branch_way, cells_at, falls, state_at, taken_visit, untaken_visit, visit_if, visits_after, visits_at}
@@ -228,7 +231,9 @@ visits_on parts f b i _ here there h k = (k, tt)
 all_visits : (parts : Parts) (f b i : ℕ) → AreOnly (visits_at parts f b i)
 unfolding visits_at
 all_visits parts f b zero = (states_have_locations parts f b 0, tt)
-all_visits parts f b (suc i) = visits_on parts f b i (op_at parts f b i) (state_at parts f b i) (state_at parts f b (suc i)) (states_have_locations parts f b i) (states_have_locations parts f b (suc i))
+all_visits parts f b (suc i) =
+    visits_on parts f b i (op_at parts f b i) (state_at parts f b i) (state_at parts f b (suc i)) (states_have_locations parts f b i)
+    (states_have_locations parts f b (suc i))
 
 one_of : (visits : List Visit) (k : ℕ) (v : Visit) → AreOnly visits → slice_get visits k ≡ Some v → HasOnlyLocations v.known
 one_of [] k v h e = absurd cc

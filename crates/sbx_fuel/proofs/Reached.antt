@@ -127,7 +127,8 @@ capped d (t ∷ ts) = let rest = capped d ts in by_range (range_at d t.location)
     )
     by_range (Some r) e k cap = (
       unsigned_abs (int_min (r.lo *ℤ t.coefficient) (r.hi *ℤ t.coefficient)) + k,
-      λ n. (let i = terms_are n d t ts in let a = ap (λ o. at_most n o t.coefficient) e in let b = at_range n r t.coefficient in let c = cap n in let s = abs_above (int_min (r.lo *ℤ t.coefficient) (r.hi *ℤ t.coefficient)) in omega (arith, ints)),
+      λ n. (let i = terms_are n d t ts in let a = ap (λ o. at_most n o t.coefficient) e in let b = at_range n r t.coefficient in let c = cap n in
+          let s = abs_above (int_min (r.lo *ℤ t.coefficient) (r.hi *ℤ t.coefficient)) in omega (arith, ints)),
     )
 
 -- the same less how far out they lie
@@ -147,11 +148,13 @@ drops d (t ∷ ts) some e = by_range (range_at d t.location) refl (drops d ts so
         → both (least_in o t.coefficient) (least_over (range_at d) ts) ≡ None → (j : ℕ) × Drops j d (t ∷ ts)
     by_range None s after none = let rest = capped d ts in (
       rest.0,
-      λ n. (let i = terms_are n d t ts in let a = ap (λ o. at_most n o t.coefficient) s in let b = at_none n t.coefficient in let m = falls n t.coefficient some.0 in let c = rest.1 n in omega (arith, ints)),
+      λ n. (let i = terms_are n d t ts in let a = ap (λ o. at_most n o t.coefficient) s in let b = at_none n t.coefficient in
+          let m = falls n t.coefficient some.0 in let c = rest.1 n in omega (arith, ints)),
     )
     by_range (Some r) s after none = let rest = after (both_none r t.coefficient (least_over (range_at d) ts) none) in (
       unsigned_abs (int_min (r.lo *ℤ t.coefficient) (r.hi *ℤ t.coefficient)) + rest.0,
-      λ n. (let i = terms_are n d t ts in let a = ap (λ o. at_most n o t.coefficient) s in let b = at_range n r t.coefficient in let c = rest.1 n in let z = abs_above (int_min (r.lo *ℤ t.coefficient) (r.hi *ℤ t.coefficient)) in omega (arith, ints)),
+      λ n. (let i = terms_are n d t ts in let a = ap (λ o. at_most n o t.coefficient) s in let b = at_range n r t.coefficient in let c = rest.1 n in
+          let z = abs_above (int_min (r.lo *ℤ t.coefficient) (r.hi *ℤ t.coefficient)) in omega (arith, ints)),
     )
 
 -- where each location has a range, nothing lies out

@@ -32,7 +32,8 @@ left_is start others now (t ∷ ts) terms z = by_form (form_at now t.location) (
 
     by_form : (g : Option Form)
         → ((more : List FormTerm) (y : ℤ) → left_value start others now ts more y ≡ y +ℤ (terms_value start more -ℤ terms_value numbers ts))
-        → constant_left now ts (less_constant t.coefficient g z) +ℤ (terms_value start (start_terms now ts (less_terms t.coefficient g terms)) +ℤ terms_value others (with_open t g (open_terms now ts)))
+        → constant_left now ts (less_constant t.coefficient g z) +ℤ
+        (terms_value start (start_terms now ts (less_terms t.coefficient g terms)) +ℤ terms_value others (with_open t g (open_terms now ts)))
         ≡ z +ℤ (terms_value start terms -ℤ ((number_now start g (others t.location) *ℤ t.coefficient) +ℤ terms_value numbers ts))
     by_form None after =
         let i = after terms z in

@@ -16,7 +16,8 @@ first_of function b block = started (cells_of function b block)
 abbrev pub fuel_of : Function → ℕ → Block → Form
 fuel_of function b block = record { constant = block.fuel; terms = counted (cells_of function b block) block.terms }
 
--- What a block of an image has that keeps the format's limits: few terms, in ascending order, none of them 0, over cells with ranges.
+-- What a block of an image has that keeps the format's limits: few terms, in ascending order, none of them 0, over
+-- cells with ranges.
 pub record IsKeptBlock (function : Function) (b : ℕ) (block : Block) : Type 0 where
   pub few : length block.terms ≤ 8
   pub ascend : AscendFrom 0 (fuel_of function b block).terms

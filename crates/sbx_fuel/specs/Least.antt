@@ -1,5 +1,6 @@
 -- The least of terms where they may name a location without a range: it may hold any number, and nothing is least then.
-use Rattle.std.specs.Prelude.{◌≡◌, ℕ, Bool, false, not, int_lt, ◌*ℤ◌, ◌+ℤ◌, ℤ, pos, neg_ℤ, List, [], ◌∷◌, Option, Some, None}
+use Rattle.std.specs.Prelude.{◌≡◌, ℕ, Bool, false, not, int_lt, ◌*ℤ◌, ◌+ℤ◌, ℤ, pos, neg_ℤ, List, [], ◌∷◌, Option, Some}
+use Rattle.std.specs.Prelude.{None}
 use Rattle.std.specs.Int.{int_min}
 use Rattle.sbx_image.specs.Range.{Range}
 use Rattle.sbx_form.specs.declared.terms.FormTerm.{FormTerm}

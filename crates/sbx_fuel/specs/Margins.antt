@@ -1,7 +1,7 @@
--- What is left of a block's fuel where control leaves it for another block.
--- A term of the other block's fuel whose location has a form is replaced by it, and so becomes terms over the numbers that this
--- block starts with; one without a form speaks of any number of its range. The two kinds are never mixed: a location's number
--- now and the number that it started with are two numbers.
+-- What is left of a block's fuel where control leaves it for another block. A term of the other block's fuel whose
+-- location has a form is replaced by it, and so becomes terms over the numbers that this block starts with; one without
+-- a form speaks of any number of its range. The two kinds are never mixed: a location's number now and the number that
+-- it started with are two numbers.
 use Rattle.std.specs.Prelude.{◌≡◌, ℕ, ◌+ℤ◌, ◌*ℤ◌, ◌≤ℤ◌, ℤ, neg_ℤ, List, [], ◌∷◌, Option, Some, None}
 use Rattle.sbx_image.specs.Range.{Range}
 use Rattle.sbx_form.specs.declared.terms.FormTerm.{FormTerm}

@@ -1,5 +1,6 @@
 //! Whether a block's fuel lasts.
-ghost use Rattle.std.specs.Prelude.{◌≡◌, ◌<◌, ◌≤◌, ◌^◌, ◌+ℤ◌, ◌-ℤ◌, pos, true, false, length, unsigned_abs, IfSome, Ok, Some, map, not};
+ghost use Rattle.std.specs.Prelude.{◌≡◌, ◌<◌, ◌≤◌, ◌^◌, ◌+ℤ◌, ◌-ℤ◌, pos, true, false, length, unsigned_abs, IfSome, Ok};
+ghost use Rattle.std.specs.Prelude.{Some, map, not};
 ghost use Rattle.sbx_rules.specs.Known.{known};
 ghost use Rattle.sbx_image.specs.Rules.{parts_keep};
 ghost use Rattle.sbx_rules.specs.Fuel.{IsEnough, IsPaid, IsWithinBudget};
@@ -69,8 +70,12 @@ fn lasts_for(
     requires kept { IsKeptBlock function.now number block.now }
     requires next_kept { IsKeptBlock function.now target next.now }
     requires some { AreSome (known now.now) }
-    ensures paid { result ≡ true → IsPaid (first_of function.now number block.now) (fuel_of function.now number block.now) weight (known now.now) (fuel_of function.now target next.now) }
-    ensures unpaid { result ≡ false → IsPaid (first_of function.now number block.now) (fuel_of function.now number block.now) weight (known now.now) (fuel_of function.now target next.now) → ⊥ }
+    ensures paid { result ≡ true →
+        IsPaid (first_of function.now number block.now) (fuel_of function.now number block.now) weight (known now.now)
+        (fuel_of function.now target next.now) }
+    ensures unpaid { result ≡ false →
+        IsPaid (first_of function.now number block.now) (fuel_of function.now number block.now) weight (known now.now)
+        (fuel_of function.now target next.now) → ⊥ }
 {
     let mut terms: ArrayVec<FormTerm, 72> = fuel_terms(function, number, block);
     let other: ArrayVec<FormTerm, 8> = fuel_terms(function, target, next);
@@ -85,8 +90,10 @@ fn lasts_for(
 /// Whether a block's fuel is at least the weight.
 fn is_enough_for(function: &Function, number: usize, block: &Block, weight: u64) -> bool
     requires kept { IsKeptBlock function.now number block.now }
-    ensures enough { result ≡ true → IsEnough (first_of function.now number block.now) (fuel_of function.now number block.now) weight }
-    ensures short { result ≡ false → IsEnough (first_of function.now number block.now) (fuel_of function.now number block.now) weight → ⊥ }
+    ensures enough { result ≡ true →
+        IsEnough (first_of function.now number block.now) (fuel_of function.now number block.now) weight }
+    ensures short { result ≡ false →
+        IsEnough (first_of function.now number block.now) (fuel_of function.now number block.now) weight → ⊥ }
 {
     let terms: ArrayVec<FormTerm, 8> = fuel_terms(function, number, block);
     is_natural_sum(
@@ -99,8 +106,10 @@ fn is_enough_for(function: &Function, number: usize, block: &Block, weight: u64)
 /// Whether a block's fuel is at most the budget.
 fn is_within(function: &Function, number: usize, block: &Block, budget: u64) -> bool
     requires kept { IsKeptBlock function.now number block.now }
-    ensures within { result ≡ true → IsWithinBudget (first_of function.now number block.now) (fuel_of function.now number block.now) budget }
-    ensures above { result ≡ false → IsWithinBudget (first_of function.now number block.now) (fuel_of function.now number block.now) budget → ⊥ }
+    ensures within { result ≡ true →
+        IsWithinBudget (first_of function.now number block.now) (fuel_of function.now number block.now) budget }
+    ensures above { result ≡ false →
+        IsWithinBudget (first_of function.now number block.now) (fuel_of function.now number block.now) budget → ⊥ }
 {
     let terms: ArrayVec<FormTerm, 8> = fuel_terms(function, number, block);
     let opposites = all_negated(terms.as_slice());
@@ -119,16 +128,19 @@ fn budget_left(budget: u64, fuel: i64) -> i128
     i128::from(budget) - i128::from(fuel)
 }
 
-/// Whether the fuel of block `b` of function `f`, where so much weight is used, lasts for the fuel of block `target`: for all
-/// numbers that the cells of `b` can start with, and all that locations without a form can hold now.
+/// Whether the fuel of block `b` of function `f`, where so much weight is used, lasts for the fuel of block `target`:
+/// for all numbers that the cells of `b` can start with, and all that locations without a form can hold now.
 pub fn lasts(image: &Image, f: usize, b: usize, target: usize, weight: u64, now: &State) -> bool
     requires kept { parts_keep image.now ≡ Ok tt }
     requires function { f < length image.now.functions }
     requires block { b < length (function_at image.now f).blocks }
     requires target { target < length (function_at image.now f).blocks }
     requires locations { HasOnlyLocations (known now.now) }
-    ensures paid { result ≡ true → IsPaid (state_at image.now f b 0) (fuel_at image.now f b) weight (known now.now) (fuel_at image.now f target) }
-    ensures unpaid { result ≡ false → IsPaid (state_at image.now f b 0) (fuel_at image.now f b) weight (known now.now) (fuel_at image.now f target) → ⊥ }
+    ensures paid { result ≡ true →
+        IsPaid (state_at image.now f b 0) (fuel_at image.now f b) weight (known now.now) (fuel_at image.now f target) }
+    ensures unpaid { result ≡ false →
+        IsPaid (state_at image.now f b 0) (fuel_at image.now f b) weight (known now.now) (fuel_at image.now f target) →
+        ⊥ }
 {
     let function = &image.functions()[f];
     let block = &function.blocks.as_slice()[b];
@@ -148,13 +160,16 @@ pub fn is_enough(image: &Image, f: usize, b: usize, weight: u64) -> bool
     is_enough_for(function, b, &function.blocks.as_slice()[b], weight)
 }
 
-/// Whether the budget of function `f` is at least the fuel of its block `b`, for all numbers that the block's cells can start with.
+/// Whether the budget of function `f` is at least the fuel of its block `b`, for all numbers that the block's cells can
+/// start with.
 pub fn is_within_budget(image: &Image, f: usize, b: usize) -> bool
     requires kept { parts_keep image.now ≡ Ok tt }
     requires function { f < length image.now.functions }
     requires block { b < length (function_at image.now f).blocks }
-    ensures within { result ≡ true → IsWithinBudget (state_at image.now f b 0) (fuel_at image.now f b) (function_at image.now f).budget }
-    ensures above { result ≡ false → IsWithinBudget (state_at image.now f b 0) (fuel_at image.now f b) (function_at image.now f).budget → ⊥ }
+    ensures within { result ≡ true →
+        IsWithinBudget (state_at image.now f b 0) (fuel_at image.now f b) (function_at image.now f).budget }
+    ensures above { result ≡ false →
+        IsWithinBudget (state_at image.now f b 0) (fuel_at image.now f b) (function_at image.now f).budget → ⊥ }
 {
     let function = &image.functions()[f];
     is_within(function, b, &function.blocks.as_slice()[b], function.budget)

@@ -75,7 +75,8 @@ fn names(function: &Function, number: usize, block: &Block, location: u16) -> bo
 
 /// Whether a term names no cell.
 pub(crate) fn names_none(function: &Function, number: usize, block: &Block) -> bool
-    ensures { result ≡ list_any (λ t. not (names_cell (cells_of function.now number block.now) t.location)) block.now.terms }
+    ensures { result ≡
+        list_any (λ t. not (names_cell (cells_of function.now number block.now) t.location)) block.now.terms }
 {
     block
         .terms
@@ -84,8 +85,8 @@ pub(crate) fn names_none(function: &Function, number: usize, block: &Block) -> b
         .any(|term| !names(function, number, block, term.location))
 }
 
-/// The terms of the fuel of a function's block of that number, as the rules count them: one that names no cell counts 0. A
-/// coefficient is in turns for each 1 of its location's number.
+/// The terms of the fuel of a function's block of that number, as the rules count them: one that names no cell counts
+/// 0. A coefficient is in turns for each 1 of its location's number.
 pub fn fuel_terms<const N: usize>(
     function: &Function,
     number: usize,

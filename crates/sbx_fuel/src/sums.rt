@@ -1,8 +1,8 @@
 //! Sums of terms along an edge, and the least that they can be.
 //!
-//! Numbers are `i128`: a coefficient of fuel is below 2^32 in magnitude, one of a form is at most 2^32 and its constant at most
-//! 2^40. At most 64 products of two such coefficients come to one, so it stays below 2^70; times a word that is 2^102, and at
-//! most 72 of these are added up.
+//! Numbers are `i128`: a coefficient of fuel is below 2^32 in magnitude, one of a form is at most 2^32 and its constant
+//! at most 2^40. At most 64 products of two such coefficients come to one, so it stays below 2^70; times a word that is
+//! 2^102, and at most 72 of these are added up.
 ghost use Rattle.std.specs.Prelude.{◌≡◌, ℕ, ◌+◌, ◌*◌, ◌^◌, ◌<◌, ◌≤◌, ◌*ℤ◌, length, unsigned_abs, IfSome};
 ghost use Rattle.arrayvec.specs.ArrayVec.{array_vec_len};
 ghost use Rattle.sbx_form.specs.Forms.{AreWithin, add_term, add_terms};
@@ -56,7 +56,8 @@ fn less_form(terms: &mut ArrayVec<FormTerm, 72>, now: &State, term: FormTerm)
     requires room { array_vec_len terms.old + 8 ≤ 72 }
     requires small { AreWithin (2 ^ 80) terms.old.items }
     requires small_term { unsigned_abs term.coefficient ≤ 2 ^ 31 }
-    ensures value { terms.new.items ≡ less_terms term.coefficient (form_at (known now.now) term.location) terms.old.items }
+    ensures value { terms.new.items ≡
+        less_terms term.coefficient (form_at (known now.now) term.location) terms.old.items }
     ensures few { array_vec_len terms.new ≤ array_vec_len terms.old + 8 }
     ensures within { (m : ℕ) → AreWithin m terms.old.items → AreWithin (m + 2 ^ 66) terms.new.items }
 {
@@ -106,7 +107,8 @@ fn both(more: Option<i128>, sum: Option<i128>, count: usize) -> Option<i128>
     }
 }
 
-/// The least value of terms over the numbers that a block starts with; none where a term's location may hold any number.
+/// The least value of terms over the numbers that a block starts with; none where a term's location may hold any
+/// number.
 #[tactic(auto, unfolding(crate::specs::Least::least_over))]
 pub(crate) fn least_at_start(
     function: &Function,
@@ -129,11 +131,12 @@ pub(crate) fn least_at_start(
     }
 }
 
-/// What a term of another block's fuel adds where it is taken away: so many times its form's constant, whose terms are taken
-/// away by `less_forms`, or the least over its range.
+/// What a term of another block's fuel adds where it is taken away: so many times its form's constant, whose terms are
+/// taken away by `less_forms`, or the least over its range.
 fn taken(now: &State, term: FormTerm) -> Option<i128>
     requires { unsigned_abs term.coefficient ≤ 2 ^ 31 }
-    ensures value { result ≡ taken term.coefficient (form_at (known now.now) term.location) (range_at (known now.now) term.location) }
+    ensures value { result ≡
+        taken term.coefficient (form_at (known now.now) term.location) (range_at (known now.now) term.location) }
     ensures bound { IfSome result (λ m. unsigned_abs m ≤ 2 ^ 102) }
 {
     let opposite = negated(term);

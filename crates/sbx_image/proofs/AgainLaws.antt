@@ -24,9 +24,14 @@ use Rattle.sbx_parts.specs.declared.parts.Block.{Block}
 use Rattle.sbx_parts.specs.declared.parts.Function.{Function}
 use Rattle.sbx_parts.specs.declared.parts.Parts.{Parts}
 use Rattle.sbx_parts.specs.declared.services.Services.{Services}
-use Rattle.sbx_parts.specs.Rules.{◌>>=◌, between, is_known, is_version, is_data_length, is_length_behind, is_one_region, region_keeps, each, Place, code_start, range_keeps, location_keeps, cell_keeps, term_keeps, block_keeps, function_keeps, parts_keep}
-use Rattle.sbx_image.specs.Reading.{number_at, number_in, items_at, range_at, location_at, cell_at, term_at, block_head_at, block_at, kind_at, counts_at, bounds_at, function_head_at, function_at, services_at, data_length_at, data_count_at, header_at, shape_at, shapes_at, regions_at, parts_at, reading}
-use Rattle.sbx_image.specs.Spelling.{IsTyped, IsTypedRange, IsTypedCell, IsTypedTerm, IsTypedBlock, IsTypedFunction, signed, kind_code, range_text, region_text, right_code, shape_text, cell_text, term_text, block_text, function_head_text, function_text, data_count_text, shapes_text, header_text, spelling}
+use Rattle.sbx_parts.specs.Rules.{◌>>=◌, between, is_known, is_version, is_data_length, is_length_behind, is_one_region, region_keeps, each, Place, code_start}
+use Rattle.sbx_parts.specs.Rules.{range_keeps, location_keeps, cell_keeps, term_keeps, block_keeps, function_keeps, parts_keep}
+use Rattle.sbx_image.specs.Reading.{number_at, number_in, items_at, range_at, location_at, cell_at, term_at, block_head_at, block_at, kind_at, counts_at}
+use Rattle.sbx_image.specs.Reading.{bounds_at, function_head_at, function_at, services_at, data_length_at, data_count_at, header_at, shape_at, shapes_at}
+use Rattle.sbx_image.specs.Reading.{regions_at, parts_at, reading}
+use Rattle.sbx_image.specs.Spelling.{IsTyped, IsTypedRange, IsTypedCell, IsTypedTerm, IsTypedBlock, IsTypedFunction, signed, kind_code, range_text, region_text}
+use Rattle.sbx_image.specs.Spelling.{right_code, shape_text, cell_text, term_text, block_text, function_head_text, function_text, data_count_text, shapes_text}
+use Rattle.sbx_image.specs.Spelling.{header_text, spelling}
 use Rattle.sbx_parts.specs.declared.parts.Region.{Region}
 use Rattle.sbx_parts.specs.Regions.{byte_count, pages_for}
 use Rattle.sbx_image.proofs.DataLaws.{both_are, count_keeps, one_again}
@@ -85,18 +90,21 @@ module _ {A C S : Type 0} (item : C → Result (A × C) ImageFault) (at : S → 
   abbrev pub ReadsOne : Type 0
   ReadsOne = (s : S) (a : A) (t : S) (rest : List ℕ) → Typed a → keeps s a ≡ Ok t → item (at s (text a ++ rest)) ≡ Ok (a, at t rest)
 
-  pub items_read : ReadsOne → (xs : List A) (s t : S) (rest : List ℕ) → AllByRecursion Typed xs → each keeps s xs ≡ Ok t → items_at item (length xs) (at s (flat_map text xs ++ rest)) ≡ Ok (xs, at t rest)
+  pub items_read : ReadsOne → (xs : List A) (s t : S) (rest : List ℕ) → AllByRecursion Typed xs → each keeps s xs ≡ Ok t →
+      items_at item (length xs) (at s (flat_map text xs ++ rest)) ≡ Ok (xs, at t rest)
   unfolding items_at each
   items_read one [] s t rest typed e = ap (λ (z : S). Ok ([], at z rest)) (ok_is s t e)
   items_read one (x ∷ xs) s t rest typed e =
       let first = bind_ok (keeps s x) (λ next. each keeps next xs) t e in
-      let regrouped : flat_map text (x ∷ xs) ++ rest ≡ text x ++ (flat_map text xs ++ rest) = ap (λ (y : List ℕ). y ++ rest) (flat_map-cons text x xs) ∙ append_assoc (text x) (flat_map text xs) rest in
+      let regrouped : flat_map text (x ∷ xs) ++ rest ≡ text x ++ (flat_map text xs ++ rest) =
+      ap (λ (y : List ℕ). y ++ rest) (flat_map-cons text x xs) ∙ append_assoc (text x) (flat_map text xs) rest in
       ap (λ (b : List ℕ). items_at item (suc (length xs)) (at s b)) regrouped
       ∙ then_is _ _ _ _ (one s x first.0 (flat_map text xs ++ rest) typed.0 first.1) (then_is _ _ _ _ (items_read one xs first.0 t rest typed.1 first.2) refl)
 
 -- ---- blocks
 
-block_reads : (end : ℕ) (next : Next) (b : Block) (state : Next) (rest : List ℕ) → IsTypedBlock b → block_keeps end next b ≡ Ok state → block_at end (next, block_text b ++ rest) ≡ Ok (b, (state, rest))
+block_reads : (end : ℕ) (next : Next) (b : Block) (state : Next) (rest : List ℕ) → IsTypedBlock b → block_keeps end next b ≡ Ok state →
+    block_at end (next, block_text b ++ rest) ≡ Ok (b, (state, rest))
 unfolding block_at block_head_at block_text
 block_reads end next b state rest typed e =
     let k = block_kept end next b state e in
@@ -151,11 +159,15 @@ bounds_read h rest frame stack_room budget =
 zero_again : (n : ℕ) → (n == 0) ≡ true → 0 ≡ n
 zero_again n e = sym (eqb-true n 0 e)
 
-depth_reads : (told : Bool) (n : ℕ) (rest : List ℕ) → depth_keeps told n ≡ true → (if told then number_in w16 0 256 fault.Limit (depth_code told n ++ rest) else Ok (0, depth_code told n ++ rest)) ≡ Ok (n, rest)
-depth_reads true n rest keeps = number_in_reads w16 (2 ^ 16) wide16 0 256 fault.Limit n (to_be_bytes w16 n ++ rest) rest refl (lit< tt) (both_are (leb 0 n) (leb n 256) (le-leb 0 n (omega arith)) keeps)
+depth_reads : (told : Bool) (n : ℕ) (rest : List ℕ) → depth_keeps told n ≡ true →
+    (if told then number_in w16 0 256 fault.Limit (depth_code told n ++ rest) else Ok (0, depth_code told n ++ rest)) ≡ Ok (n, rest)
+depth_reads true n rest keeps =
+    number_in_reads w16 (2 ^ 16) wide16 0 256 fault.Limit n (to_be_bytes w16 n ++ rest) rest refl (lit< tt)
+    (both_are (leb 0 n) (leb n 256) (le-leb 0 n (omega arith)) keeps)
 depth_reads false n rest keeps = ap (λ (m : ℕ). Ok (m, rest)) (zero_again n keeps)
 
-function_head_reads : (version end : ℕ) (place : Place) (h : FunctionHead) (bytes rest : List ℕ) → bytes ≡ head_text version h ++ rest → h.entry < 2 ^ 32 → HeadKeeps version end place h → function_head_at version end place bytes ≡ Ok (h, rest)
+function_head_reads : (version end : ℕ) (place : Place) (h : FunctionHead) (bytes rest : List ℕ) → bytes ≡ head_text version h ++ rest → h.entry < 2 ^ 32 →
+    HeadKeeps version end place h → function_head_at version end place bytes ≡ Ok (h, rest)
 unfolding function_head_at
 function_head_reads version end place h bytes rest b entry k =
     let counts : Counts = record { kind = h.kind; params = h.params; results = h.results } in
@@ -165,7 +177,11 @@ function_head_reads version end place h bytes rest b entry k =
     let r2 = to_be_bytes w32 h.frame ++ (to_be_bytes w32 h.stack_room ++ (to_be_bytes w64 h.budget ++ r3)) in
     let r1 = to_be_bytes w32 h.entry ++ r2 in
     let in_turn : bytes ≡ to_be_bytes w8 (kind_code h.kind) ++ (to_be_bytes w8 h.params ++ (to_be_bytes w8 h.results ++ (to_be_bytes w8 0 ++ r1)))
-    = b ∙ ap (λ (t : List ℕ). to_be_bytes w8 (kind_code h.kind) ++ (to_be_bytes w8 h.params ++ (to_be_bytes w8 h.results ++ (to_be_bytes w8 0 ++ (to_be_bytes w32 h.entry ++ (to_be_bytes w32 h.frame ++ (to_be_bytes w32 h.stack_room ++ (to_be_bytes w64 h.budget ++ t)))))))) (append_assoc (depth_code (version == 3) h.depth) (to_be_bytes w16 h.blocks) rest) in
+    = b ∙ ap (λ (t : List ℕ). to_be_bytes w8 (kind_code h.kind)
+    ++ (to_be_bytes w8 h.params
+    ++ (to_be_bytes w8 h.results
+    ++ (to_be_bytes w8 0 ++ (to_be_bytes w32 h.entry ++ (to_be_bytes w32 h.frame ++ (to_be_bytes w32 h.stack_room ++ (to_be_bytes w64 h.budget ++ t))))))))
+    (append_assoc (depth_code (version == 3) h.depth) (to_be_bytes w16 h.blocks) rest) in
     then_is _ _ _ _ (counts_read counts bytes r1 in_turn k.params k.results)
     (then_is _ _ _ _ (number_reads w32 (2 ^ 32) wide32 h.entry r1 r2 refl entry)
     (then_is _ _ _ _ (wants_true _ fault.Order k.entry)
@@ -173,19 +189,45 @@ function_head_reads version end place h bytes rest b entry k =
     (then_is _ _ _ _ (depth_reads (version == 3) h.depth r4 k.depth)
     (then_is _ _ _ _ (number_in_reads w16 (2 ^ 16) wide16 1 (4096 - place.1) fault.Limit h.blocks r4 rest refl (omega arith) k.blocks) refl)))))
 
-function_reads : (version end : ℕ) (place : Place) (f : Function) (state : Place) (rest : List ℕ) → IsTypedFunction f → function_keeps version end place f ≡ Ok state → function_at version end (place, function_text version f ++ rest) ≡ Ok (f, (state, rest))
+function_reads : (version end : ℕ) (place : Place) (f : Function) (state : Place) (rest : List ℕ) → IsTypedFunction f →
+    function_keeps version end place f ≡ Ok state → function_at version end (place, function_text version f ++ rest) ≡ Ok (f, (state, rest))
 unfolding function_at function_head_text function_text
 function_reads version end place f state rest typed e =
     let k = function_kept version end place f state e in
-    let head : FunctionHead = record { kind = f.kind; params = length f.params; results = length f.results; entry = f.entry; frame = f.frame; stack_room = f.stack_room; budget = f.budget; depth = f.depth; blocks = length f.blocks } in
+    let head : FunctionHead =
+    record {
+      kind = f.kind;
+      params = length f.params;
+      results = length f.results;
+      entry = f.entry;
+      frame = f.frame;
+      stack_room = f.stack_room;
+      budget =
+          f.budget;
+      depth = f.depth;
+      blocks = length f.blocks;
+    } in
     let params = flat_map range_text f.params in
     let results = flat_map range_text f.results in
     let blocks = flat_map block_text f.blocks in
     let grouped : function_text version f ++ rest ≡ head_text version head ++ (params ++ (results ++ (blocks ++ rest))) = unnest4 (head_text version head) params results blocks rest in
-    let keeps : HeadKeeps version end place head = record { params = k.param_count; results = k.result_count; entry = k.entry; frame = k.frame; stack_room = k.stack_room; budget = k.budget; depth = k.depth; blocks = k.block_count } in
+    let keeps : HeadKeeps version end place head =
+    record {
+      params = k.param_count;
+      results = k.result_count;
+      entry = k.entry;
+      frame = k.frame;
+      stack_room = k.stack_room;
+      budget = k.budget;
+      depth =
+          k.depth;
+      blocks = k.block_count;
+    } in
     let same : (k.next, place.1 + length f.blocks) ≡ state = ap (λ (n : Next). (n, place.1 + length f.blocks)) k.next_is ∙ ap (λ (m : ℕ). (state.0, m)) k.blocks_is in
     then_is _ _ _ _ (function_head_reads version end place head (function_text version f ++ rest) (params ++ (results ++ (blocks ++ rest))) grouped typed.entry keeps)
-    (then_is _ _ _ _ (items_read range_at (λ _ y. y) (λ _ r. range_keeps r) range_text IsTypedRange (λ _ r _ y t g. range_reads r y t g) f.params tt tt (results ++ (blocks ++ rest)) typed.params k.params)
+    (then_is _ _ _ _
+    (items_read range_at (λ _ y. y) (λ _ r. range_keeps r) range_text IsTypedRange (λ _ r _ y t g. range_reads r y t g) f.params tt tt
+    (results ++ (blocks ++ rest)) typed.params k.params)
     (then_is _ _ _ _ (items_read range_at (λ _ y. y) (λ _ r. range_keeps r) range_text IsTypedRange (λ _ r _ y t g. range_reads r y t g) f.results tt tt (blocks ++ rest) typed.results k.results)
     (then_is _ _ _ _ (items_read (block_at end) (λ s y. (s, y)) (block_keeps end) block_text IsTypedBlock (block_reads end) f.blocks (Exactly f.entry) k.next rest typed.blocks k.blocks)
     (ap (λ (s : Place). Ok (f, (s, rest))) same))))
@@ -211,7 +253,8 @@ data_length_reads n rest whole =
     then_is _ _ _ _ (number_reads w32 (2 ^ 32) wide32 n (to_be_bytes w32 n ++ rest) rest refl few)
     (then_is _ _ _ _ (wants_true _ fault.Limit whole) refl)
 
-data_count_reads : (one : Bool) (n : ℕ) (rest : List ℕ) → data_keeps one n ≡ true → (if one then data_length_at (data_text one n ++ rest) else number_in w16 0 8 fault.Limit (data_text one n ++ rest)) ≡ Ok (n, rest)
+data_count_reads : (one : Bool) (n : ℕ) (rest : List ℕ) → data_keeps one n ≡ true →
+    (if one then data_length_at (data_text one n ++ rest) else number_in w16 0 8 fault.Limit (data_text one n ++ rest)) ≡ Ok (n, rest)
 data_count_reads true n rest keeps = data_length_reads n rest keeps
 data_count_reads false n rest keeps = number_in_reads w16 (2 ^ 16) wide16 0 8 fault.Limit n (to_be_bytes w16 n ++ rest) rest refl (lit< tt) keeps
 
@@ -223,7 +266,8 @@ header_reads h bytes rest b k version services =
     let r2 = data_text (h.version == 1) h.data_count ++ r3 in
     let r1 = to_be_bytes w32 h.words ++ r2 in
     let in_turn : bytes ≡ to_be_bytes w32 0x53425838 ++ (to_be_bytes w16 h.version ++ (to_be_bytes w16 h.services.0 ++ r1))
-    = b ∙ ap (λ (t : List ℕ). to_be_bytes w32 0x53425838 ++ (to_be_bytes w16 h.version ++ (to_be_bytes w16 h.services.0 ++ (to_be_bytes w32 h.words ++ t)))) (unnest3 (data_text (h.version == 1) h.data_count) (to_be_bytes w16 h.stack_pages) (to_be_bytes w16 h.functions) rest) in
+    = b ∙ ap (λ (t : List ℕ). to_be_bytes w32 0x53425838 ++ (to_be_bytes w16 h.version ++ (to_be_bytes w16 h.services.0 ++ (to_be_bytes w32 h.words ++ t))))
+    (unnest3 (data_text (h.version == 1) h.data_count) (to_be_bytes w16 h.stack_pages) (to_be_bytes w16 h.functions) rest) in
     then_is _ _ _ _ (services_read h.version h.services bytes r1 in_turn version services k.version k.services)
     (then_is _ _ _ _ (number_in_reads w32 (2 ^ 32) wide32 1 65536 fault.Limit h.words r1 r2 refl (lit< tt) k.words)
     (then_is _ _ _ _ (data_count_reads (h.version == 1) h.data_count r3 k.data_count)
@@ -271,13 +315,16 @@ shapes_read : (one : Bool) (rs : List Region) (pages : ℕ) (rest : List ℕ) �
 shapes_read true rs pages rest kept lengths = ap (λ (shapes : List Shape). Ok (shapes, rest)) (one_again rs kept)
 shapes_read false rs pages rest kept lengths =
     rw (← shapes_spelled rs, ← shape_count rs)
-    (then_is _ _ _ _ (items_read shape_at (λ s y. (s, y)) shape_keeps shape_code (λ _. Unit {0}) shape_reads (shapes_of rs) 0 pages rest (no_types (shapes_of rs)) (lengths_keep rs 0 pages lengths)) refl)
+    (then_is _ _ _ _
+    (items_read shape_at (λ s y. (s, y)) shape_keeps shape_code (λ _. Unit {0}) shape_reads (shapes_of rs) 0 pages rest (no_types (shapes_of rs))
+    (lengths_keep rs 0 pages lengths)) refl)
 
 regions_again : (rs : List Region) (rest : List ℕ) → regions_at (shapes_of rs) (flat_map region_text rs ++ rest) ≡ Ok (rs, rest)
 unfolding regions_at
 regions_again [] rest = refl
 regions_again (r ∷ rs) rest =
-    let regrouped : flat_map region_text (r ∷ rs) ++ rest ≡ r.bytes ++ (flat_map region_text rs ++ rest) = ap (λ (y : List ℕ). y ++ rest) (flat_map-cons region_text r rs) ∙ append_assoc r.bytes (flat_map region_text rs) rest in
+    let regrouped : flat_map region_text (r ∷ rs) ++ rest ≡ r.bytes ++ (flat_map region_text rs ++ rest) =
+    ap (λ (y : List ℕ). y ++ rest) (flat_map-cons region_text r rs) ∙ append_assoc r.bytes (flat_map region_text rs) rest in
     ap (regions_at (shapes_of (r ∷ rs))) regrouped
     ∙ then_is _ _ _ _ (bytes_again r.bytes (flat_map region_text rs ++ rest)) (then_is _ _ _ _ (regions_again rs rest) refl)
 
@@ -302,21 +349,47 @@ unfolding parts_at shapes_at data_count_text shapes_text header_text spelling
 parts_read p rest typed e =
     let k = parts_kept p e in
     let one = p.version == 1 in
-    let header : Header = record { version = p.version; services = p.services; words = length p.words; data_count = if one then byte_count p.regions else length p.regions; stack_pages = p.stack_pages; functions = length p.functions } in
+    let header : Header =
+    record {
+      version = p.version;
+      services = p.services;
+      words = length p.words;
+      data_count =
+          if one then byte_count p.regions else length p.regions;
+      stack_pages = p.stack_pages;
+      functions = length p.functions;
+    } in
     let shapes = if one then [] else flat_map shape_text p.regions in
     let words = flat_map (to_be_bytes w32) p.words in
     let functions = flat_map (function_text p.version) p.functions in
     let bytes = flat_map region_text p.regions in
     let end = code_start + 4 * length p.words in
     let behind = words ++ (bytes ++ (functions ++ rest)) in
-    let counted : header_text p ≡ counts_text header = ap (λ (t : List ℕ). to_be_bytes w32 0x53425838 ++ to_be_bytes w16 p.version ++ to_be_bytes w16 p.services.0 ++ to_be_bytes w32 (length p.words) ++ t ++ to_be_bytes w16 p.stack_pages ++ to_be_bytes w16 (length p.functions)) (sym (data_of one p.regions)) in
-    let grouped : spelling p ++ rest ≡ counts_text header ++ (shapes ++ behind) = ap (λ (t : List ℕ). (t ++ shapes ++ words ++ bytes ++ functions) ++ rest) counted ∙ append_assoc (counts_text header ++ shapes ++ words ++ bytes) functions rest ∙ unnest4 (counts_text header) shapes words bytes (functions ++ rest) in
-    let keeps : HeaderKeeps header = record { version = k.version; services = k.services; words = k.word_count; data_count = count_kept one p.regions k.regions; stack_pages = k.stack_pages; functions = k.function_count } in
+    let counted : header_text p ≡ counts_text header =
+    ap (λ (t : List ℕ). to_be_bytes w32 0x53425838 ++ to_be_bytes w16 p.version ++ to_be_bytes w16 p.services.0 ++ to_be_bytes w32 (length p.words) ++ t
+    ++ to_be_bytes w16 p.stack_pages ++ to_be_bytes w16 (length p.functions)) (sym (data_of one p.regions)) in
+    let grouped : spelling p ++ rest ≡ counts_text header ++ (shapes ++ behind) =
+    ap (λ (t : List ℕ). (t ++ shapes ++ words ++ bytes ++ functions) ++ rest) counted
+    ∙ append_assoc (counts_text header ++ shapes ++ words ++ bytes) functions rest ∙ unnest4 (counts_text header) shapes words bytes (functions ++ rest) in
+    let keeps : HeaderKeeps header =
+    record {
+      version = k.version;
+      services = k.services;
+      words = k.word_count;
+      data_count = count_kept one p.regions k.regions;
+      stack_pages =
+          k.stack_pages;
+      functions = k.function_count;
+    } in
     then_is _ _ _ _ (header_reads header (spelling p ++ rest) (shapes ++ behind) grouped keeps typed.version typed.services)
     (then_is _ _ _ _ (shapes_read one p.regions k.last_pages behind k.regions k.lengths)
-    (then_is _ _ _ _ (items_read (number_at w32) (λ _ y. y) any_word (to_be_bytes w32) (λ w. w < 2 ^ 32) (λ _ w _ y t _. word_reads w y t) p.words tt tt (bytes ++ (functions ++ rest)) typed.words (all_words p.words))
+    (then_is _ _ _ _
+    (items_read (number_at w32) (λ _ y. y) any_word (to_be_bytes w32) (λ w. w < 2 ^ 32) (λ _ w _ y t _. word_reads w y t) p.words tt tt
+    (bytes ++ (functions ++ rest)) typed.words (all_words p.words))
     (then_is _ _ _ _ (regions_again p.regions (functions ++ rest))
-    (then_is _ _ _ _ (items_read (function_at p.version end) (λ s y. (s, y)) (function_keeps p.version end) (function_text p.version) IsTypedFunction (function_reads p.version end) p.functions (Exactly code_start, 0) k.last rest typed.functions k.functions) refl))))
+    (then_is _ _ _ _
+    (items_read (function_at p.version end) (λ s y. (s, y)) (function_keeps p.version end) (function_text p.version) IsTypedFunction
+    (function_reads p.version end) p.functions (Exactly code_start, 0) k.last rest typed.functions k.functions) refl))))
 
 pub reading_again : (p : Parts) → IsTyped p → parts_keep p ≡ Ok tt → reading (spelling p) ≡ Ok p
 unfolding reading

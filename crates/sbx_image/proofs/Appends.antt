@@ -13,7 +13,9 @@ on_ok (Ok x) P Q p f = f p
 on_ok (Err e) P Q p f = tt
 
 -- a header, of numbers that are those of its parts
-pub header_is : (p : Parts) (version services words pages functions : ℕ) → version ≡ p.version → services ≡ p.services.0 → words ≡ length p.words → pages ≡ p.stack_pages → functions ≡ length p.functions
-    → to_be_bytes w32 0x53425838 ++ to_be_bytes w16 version ++ to_be_bytes w16 services ++ to_be_bytes w32 words ++ data_count_text p ++ to_be_bytes w16 pages ++ to_be_bytes w16 functions ≡ header_text p
+pub header_is : (p : Parts) (version services words pages functions : ℕ) → version ≡ p.version → services ≡ p.services.0 → words ≡ length p.words →
+    pages ≡ p.stack_pages → functions ≡ length p.functions
+    → to_be_bytes w32 0x53425838 ++ to_be_bytes w16 version ++ to_be_bytes w16 services ++ to_be_bytes w32 words ++ data_count_text p ++ to_be_bytes w16 pages
+    ++ to_be_bytes w16 functions ≡ header_text p
 unfolding header_text
 header_is p version services words pages functions v s w k f = rw (v, s, w, k, f) refl

@@ -91,8 +91,11 @@ number_takes w limit wide bytes (n, rest) fits e =
     let long : byte_len w ≤ length bytes = ltb-false _ _ g.0 in
     let n-is : from_be_bytes w (take (byte_len w) bytes) ≡ n = ap (λ (p : ℕ × List ℕ). p.0) g.1 in
     let rest-is : drop (byte_len w) bytes ≡ rest = ap (λ (p : ℕ × List ℕ). p.1) g.1 in
-    let front : to_be_bytes w n ≡ take (byte_len w) bytes = rw (← n-is) (wide.back (take (byte_len w) bytes) (omega (arith, length-take (byte_len w) bytes)) (IsBytes-take (byte_len w) bytes fits)) in
-    (record { parts = rw (front, ← rest-is) (sym (take-append-drop (byte_len w) bytes)); rest_fits = rw (← rest-is) (IsBytes-drop (byte_len w) bytes fits) }, rw (← n-is) (wide.below (take (byte_len w) bytes) (IsBytes-take (byte_len w) bytes fits)))
+    let front : to_be_bytes w n ≡ take (byte_len w) bytes =
+    rw (← n-is) (wide.back (take (byte_len w) bytes) (omega (arith, length-take (byte_len w) bytes)) (IsBytes-take (byte_len w) bytes fits)) in (
+      record { parts = rw (front, ← rest-is) (sym (take-append-drop (byte_len w) bytes)); rest_fits = rw (← rest-is) (IsBytes-drop (byte_len w) bytes fits) },
+      rw (← n-is) (wide.below (take (byte_len w) bytes) (IsBytes-take (byte_len w) bytes fits)),
+    )
 
 pub number_again : (w : Width) (limit : ℕ) (wide : IsWide w limit) (n : ℕ) (rest : List ℕ) → n < limit → number_at w (to_be_bytes w n ++ rest) ≡ Ok (n, rest)
 number_again w limit wide n rest lt =
@@ -100,7 +103,8 @@ number_again w limit wide n rest lt =
     let long : ltb (length (to_be_bytes w n ++ rest)) (byte_len w) ≡ false = le-ltb _ _ (omega (arith, length-append (to_be_bytes w n) rest)) in
     rw (long, take_at (to_be_bytes w n) rest (byte_len w) len, drop_at (to_be_bytes w n) rest (byte_len w) len, wide.again n lt) refl
 
-pub number_in_takes : (w : Width) (limit : ℕ) (wide : IsWide w limit) (low high : ℕ) (bad : ImageFault) (bytes : List ℕ) (x : ℕ × List ℕ) → IsBytes bytes → number_in w low high bad bytes ≡ Ok x → Takes bytes (to_be_bytes w x.0) x.1 × (between low high x.0 ≡ true)
+pub number_in_takes : (w : Width) (limit : ℕ) (wide : IsWide w limit) (low high : ℕ) (bad : ImageFault) (bytes : List ℕ) (x : ℕ × List ℕ) → IsBytes bytes →
+    number_in w low high bad bytes ≡ Ok x → Takes bytes (to_be_bytes w x.0) x.1 × (between low high x.0 ≡ true)
 number_in_takes w limit wide low high bad bytes x fits e =
     let a = bind_ok _ _ _ e in
     let b = wanted _ _ _ _ a.2 in
@@ -120,7 +124,8 @@ signed32 = record { back = λ n lt. of_z-to_z w32 n lt; again = λ z fits. to_z-
 pub signed64 : IsSigned w64 (2 ^ 64)
 signed64 = record { back = λ n lt. of_z-to_z w64 n lt; again = λ z fits. to_z-of_z w64 z fits; below = λ z fits. Fits-lt-pow (Fits-of_z fits) }
 
-pub signed_takes : (w : Width) (limit : ℕ) (wide : IsWide w limit) (sign : IsSigned w limit) (bytes : List ℕ) (x : ℤ × List ℕ) → IsBytes bytes → signed_at w bytes ≡ Ok x → Takes bytes (signed w x.0) x.1
+pub signed_takes : (w : Width) (limit : ℕ) (wide : IsWide w limit) (sign : IsSigned w limit) (bytes : List ℕ) (x : ℤ × List ℕ) → IsBytes bytes →
+    signed_at w bytes ≡ Ok x → Takes bytes (signed w x.0) x.1
 signed_takes w limit wide sign bytes x fits e =
     let a = bind_ok _ _ _ e in
     let t = number_takes w limit wide bytes a.0 fits a.1 in
@@ -136,7 +141,8 @@ pub bytes_take : (count : ℕ) (bytes : List ℕ) (x : List ℕ × List ℕ) →
 bytes_take count bytes x fits e =
     let g = guard_ok (ltb (length bytes) count) fault.Short (take count bytes, drop count bytes) x e in
     let long : count ≤ length bytes = ltb-false _ _ g.0 in
-    subst (λ (y : List ℕ × List ℕ). Takes bytes y.0 y.1 × (length y.0 ≡ count)) g.1 (record { parts = sym (take-append-drop count bytes); rest_fits = IsBytes-drop count bytes fits }, omega (arith, length-take count bytes))
+    subst (λ (y : List ℕ × List ℕ). Takes bytes y.0 y.1 × (length y.0 ≡ count)) g.1
+    (record { parts = sym (take-append-drop count bytes); rest_fits = IsBytes-drop count bytes fits }, omega (arith, length-take count bytes))
 
 pub bytes_again : (bytes rest : List ℕ) → bytes_at (length bytes) (bytes ++ rest) ≡ Ok (bytes, rest)
 bytes_again bytes rest =
@@ -148,10 +154,12 @@ bytes_again bytes rest =
 pub number_reads : (w : Width) (limit : ℕ) (wide : IsWide w limit) (n : ℕ) (bytes rest : List ℕ) → bytes ≡ to_be_bytes w n ++ rest → n < limit → number_at w bytes ≡ Ok (n, rest)
 number_reads w limit wide n bytes rest e lt = ap (number_at w) e ∙ number_again w limit wide n rest lt
 
-pub signed_reads : (w : Width) (limit : ℕ) (wide : IsWide w limit) (sign : IsSigned w limit) (z : ℤ) (bytes rest : List ℕ) → bytes ≡ signed w z ++ rest → FitsSigned w z → signed_at w bytes ≡ Ok (z, rest)
+pub signed_reads : (w : Width) (limit : ℕ) (wide : IsWide w limit) (sign : IsSigned w limit) (z : ℤ) (bytes rest : List ℕ) → bytes ≡ signed w z ++ rest →
+    FitsSigned w z → signed_at w bytes ≡ Ok (z, rest)
 signed_reads w limit wide sign z bytes rest e fits = ap (signed_at w) e ∙ signed_again w limit wide sign z rest fits
 
-pub number_in_reads : (w : Width) (limit : ℕ) (wide : IsWide w limit) (low high : ℕ) (bad : ImageFault) (n : ℕ) (bytes rest : List ℕ) → bytes ≡ to_be_bytes w n ++ rest → high < limit → between low high n ≡ true → number_in w low high bad bytes ≡ Ok (n, rest)
+pub number_in_reads : (w : Width) (limit : ℕ) (wide : IsWide w limit) (low high : ℕ) (bad : ImageFault) (n : ℕ) (bytes rest : List ℕ) →
+    bytes ≡ to_be_bytes w n ++ rest → high < limit → between low high n ≡ true → number_in w low high bad bytes ≡ Ok (n, rest)
 number_in_reads w limit wide low high bad n bytes rest e room h =
     let lt : n < limit = omega (arith, (is_between low high n h).1, room) in
     rw (number_reads w limit wide n bytes rest e lt, h) refl

@@ -35,7 +35,8 @@ regroup : (front : List Region) (r : Region) (read : Result (List Region × List
 regroup front r (Ok x) = ap (λ (rs : List Region). Ok (rs, x.1)) (simp append_assoc)
 regroup front r (Err e) = refl
 
-next_is : (front : List Region) (shapes : List Shape) (i : ℕ) (rest : List ℕ) → i < length shapes → behind_front front (regions_at (drop i shapes) rest) ≡ behind_front front (regions_at (get_or shapes i no_shape ∷ drop (i + 1) shapes) rest)
+next_is : (front : List Region) (shapes : List Shape) (i : ℕ) (rest : List ℕ) → i < length shapes →
+    behind_front front (regions_at (drop i shapes) rest) ≡ behind_front front (regions_at (get_or shapes i no_shape ∷ drop (i + 1) shapes) rest)
 next_is front shapes i rest lt = ap (λ (ss : List Shape). behind_front front (regions_at ss rest)) (drop_more shapes i no_shape lt)
 
 own_read : (front : List Region) (s : Shape) (shapes : List Shape) (rest own after : List ℕ) → bytes_at s.bytes rest ≡ Ok (own, after)
@@ -47,17 +48,21 @@ own_fails : (e : ImageFault) (front : List Region) (s : Shape) (shapes : List Sh
 unfolding regions_at
 own_fails e front s shapes rest h = rw h refl
 
-pub goes_on : (front : List Region) (shapes : List Shape) (i : ℕ) (rest own after : List ℕ) (total : Result (List Region × List ℕ) ImageFault) → i < length shapes → bytes_at (get_or shapes i no_shape).bytes rest ≡ Ok (own, after)
-    → behind_front front (regions_at (drop i shapes) rest) ≡ total → behind_front (front ++ record { bytes = own; writable = (get_or shapes i no_shape).writable } ∷ []) (regions_at (drop (i + 1) shapes) after) ≡ total
+pub goes_on : (front : List Region) (shapes : List Shape) (i : ℕ) (rest own after : List ℕ) (total : Result (List Region × List ℕ) ImageFault) →
+    i < length shapes → bytes_at (get_or shapes i no_shape).bytes rest ≡ Ok (own, after)
+    → behind_front front (regions_at (drop i shapes) rest) ≡ total →
+    behind_front (front ++ record { bytes = own; writable = (get_or shapes i no_shape).writable } ∷ []) (regions_at (drop (i + 1) shapes) after) ≡ total
 goes_on front shapes i rest own after total lt h so_far =
     sym (own_read front (get_or shapes i no_shape) (drop (i + 1) shapes) rest own after h) ∙ sym (next_is front shapes i rest lt) ∙ so_far
 
-pub ends : (e : ImageFault) (front : List Region) (shapes : List Shape) (i : ℕ) (rest : List ℕ) (total : Result (List Region × List ℕ) ImageFault) → i < length shapes → bytes_at (get_or shapes i no_shape).bytes rest ≡ Err e
+pub ends : (e : ImageFault) (front : List Region) (shapes : List Shape) (i : ℕ) (rest : List ℕ) (total : Result (List Region × List ℕ) ImageFault) →
+    i < length shapes → bytes_at (get_or shapes i no_shape).bytes rest ≡ Err e
     → behind_front front (regions_at (drop i shapes) rest) ≡ total → total ≡ Err e
 ends e front shapes i rest total lt h so_far =
     sym so_far ∙ next_is front shapes i rest lt ∙ own_fails e front (get_or shapes i no_shape) (drop (i + 1) shapes) rest h
 
-pub is_done : (front : List Region) (shapes : List Shape) (i : ℕ) (rest : List ℕ) (total : Result (List Region × List ℕ) ImageFault) → length shapes ≤ i → behind_front front (regions_at (drop i shapes) rest) ≡ total → total ≡ Ok (front, rest)
+pub is_done : (front : List Region) (shapes : List Shape) (i : ℕ) (rest : List ℕ) (total : Result (List Region × List ℕ) ImageFault) → length shapes ≤ i →
+    behind_front front (regions_at (drop i shapes) rest) ≡ total → total ≡ Ok (front, rest)
 unfolding regions_at
 is_done front shapes i rest total le so_far =
     let none : regions_at (drop i shapes) rest ≡ Ok ([], rest) = ap (λ (ss : List Shape). regions_at ss rest) (drop_all i shapes le) in
@@ -78,7 +83,8 @@ length_within pages bytes x e =
     let made : Shape × (ℕ × List ℕ) = (record { bytes = size.0.0; writable = kind.0.0 == 1 }, (pages + pages_for size.0.0, kind.0.1)) in
     subst (λ (y : Shape × (ℕ × List ℕ)). (y.1.0 ≤ 64) × (4096 * pages + y.0.bytes ≤ 4096 * y.1.0)) (ok_is made x kind.2) (few, omega arith)
 
-lengths_within : (n pages : ℕ) (bytes : List ℕ) (x : List Shape × (ℕ × List ℕ)) → pages ≤ 64 → items_at shape_at n (pages, bytes) ≡ Ok x → (x.1.0 ≤ 64) × (4096 * pages + shape_bytes x.0 ≤ 4096 * x.1.0)
+lengths_within : (n pages : ℕ) (bytes : List ℕ) (x : List Shape × (ℕ × List ℕ)) → pages ≤ 64 → items_at shape_at n (pages, bytes) ≡ Ok x →
+    (x.1.0 ≤ 64) × (4096 * pages + shape_bytes x.0 ≤ 4096 * x.1.0)
 unfolding items_at
 lengths_within zero pages bytes x le e =
     subst (λ (y : List Shape × (ℕ × List ℕ)). (y.1.0 ≤ 64) × (4096 * pages + shape_bytes y.0 ≤ 4096 * y.1.0)) (ok_is ([], (pages, bytes)) x e) (le, omega arith)

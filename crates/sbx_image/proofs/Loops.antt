@@ -19,7 +19,8 @@ module _ {A C : Type 0} (item : C → Result (A × C) ImageFault) where
   unfolding items_at
   goes_on front count i rest a after total lt h so_far =
       let k : count - i ≡ suc (count - (i + 1)) = omega arith in
-      let one : with_front front (items_at item (count - i) rest) ≡ with_front (front ++ a ∷ []) (items_at item (count - (i + 1)) after) = rw (k, h) (regroup front a (items_at item (count - (i + 1)) after)) in
+      let one : with_front front (items_at item (count - i) rest) ≡ with_front (front ++ a ∷ []) (items_at item (count - (i + 1)) after) =
+      rw (k, h) (regroup front a (items_at item (count - (i + 1)) after)) in
       sym one ∙ so_far
 
   pub ends : (e : ImageFault) (front : List A) (count i : ℕ) (rest : C) (total : Result (List A × C) ImageFault) → i < count → item rest ≡ Err e

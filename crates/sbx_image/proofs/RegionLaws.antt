@@ -51,7 +51,8 @@ shape_takes pages bytes x fits e =
     (Takes-then _ _ _ _ _ t0.0 spelled, rw within.0 refl)
 
 -- the regions' bytes, each as long as its length
-pub regions_take : (shapes : List Shape) (bytes : List ℕ) (x : List Region × List ℕ) → IsBytes bytes → regions_at shapes bytes ≡ Ok x → Takes bytes (flat_map region_text x.0) x.1 × (shapes_of x.0 ≡ shapes)
+pub regions_take : (shapes : List Shape) (bytes : List ℕ) (x : List Region × List ℕ) → IsBytes bytes → regions_at shapes bytes ≡ Ok x →
+    Takes bytes (flat_map region_text x.0) x.1 × (shapes_of x.0 ≡ shapes)
 unfolding regions_at
 regions_take [] bytes x fits e =
     subst (λ (y : List Region × List ℕ). Takes bytes (flat_map region_text y.0) y.1 × (shapes_of y.0 ≡ [])) (ok_is ([], bytes) x e) (record { parts = refl; rest_fits = fits }, refl)
@@ -78,4 +79,6 @@ regions_keep (r ∷ rs) pages state e =
 pub shapes_spelled : (rs : List Region) → flat_map shape_code (shapes_of rs) ≡ flat_map shape_text rs
 unfolding shape_text
 shapes_spelled [] = refl
-shapes_spelled (r ∷ rs) = flat_map-cons shape_code (shape_of_region r) (shapes_of rs) ∙ ap (λ (t : List ℕ). shape_code (shape_of_region r) ++ t) (shapes_spelled rs) ∙ sym (flat_map-cons shape_text r rs)
+shapes_spelled (r ∷ rs) =
+    flat_map-cons shape_code (shape_of_region r) (shapes_of rs) ∙ ap (λ (t : List ℕ). shape_code (shape_of_region r) ++ t) (shapes_spelled rs)
+    ∙ sym (flat_map-cons shape_text r rs)

@@ -25,9 +25,14 @@ use Rattle.sbx_parts.specs.declared.parts.Block.{Block}
 use Rattle.sbx_parts.specs.declared.parts.Function.{Function}
 use Rattle.sbx_parts.specs.declared.parts.Parts.{Parts}
 use Rattle.sbx_parts.specs.declared.services.Services.{Services}
-use Rattle.sbx_parts.specs.Rules.{◌>>=◌, between, each, Place, code_start, admits, is_fuel, is_coefficient, is_known, is_version, is_depth, is_data, is_data_length, in_order, region_keeps, range_keeps, location_keeps, cell_keeps, term_keeps, block_keeps, function_keeps, parts_keep}
-use Rattle.sbx_image.specs.Reading.{number_at, number_in, items_at, range_at, location_at, cell_at, term_at, block_head_at, block_at, kind_at, counts_at, bounds_at, function_head_at, function_at, services_at, data_length_at, data_count_at, header_at, shape_at, shapes_at, shape_of, parts_at, reading}
-use Rattle.sbx_image.specs.Spelling.{IsBytes, signed, kind_code, range_text, region_text, cell_text, term_text, block_text, function_head_text, function_text, shape_text, data_count_text, shapes_text, header_text, spelling}
+use Rattle.sbx_parts.specs.Rules.{◌>>=◌, between, each, Place, code_start, admits, is_fuel, is_coefficient, is_known, is_version, is_depth, is_data}
+use Rattle.sbx_parts.specs.Rules.{is_data_length, in_order, region_keeps, range_keeps, location_keeps, cell_keeps, term_keeps, block_keeps, function_keeps}
+use Rattle.sbx_parts.specs.Rules.{parts_keep}
+use Rattle.sbx_image.specs.Reading.{number_at, number_in, items_at, range_at, location_at, cell_at, term_at, block_head_at, block_at, kind_at, counts_at}
+use Rattle.sbx_image.specs.Reading.{bounds_at, function_head_at, function_at, services_at, data_length_at, data_count_at, header_at, shape_at, shapes_at}
+use Rattle.sbx_image.specs.Reading.{shape_of, parts_at, reading}
+use Rattle.sbx_image.specs.Spelling.{IsBytes, signed, kind_code, range_text, region_text, cell_text, term_text, block_text, function_head_text, function_text}
+use Rattle.sbx_image.specs.Spelling.{shape_text, data_count_text, shapes_text, header_text, spelling}
 use Rattle.sbx_parts.specs.declared.parts.Region.{Region}
 use Rattle.sbx_parts.specs.Regions.{byte_count}
 use Rattle.sbx_image.proofs.RegionLaws.{regions_take, shape_code, shape_keeps, shape_takes}
@@ -89,10 +94,12 @@ module _ {A C S : Type 0} (item : C → Result (A × C) ImageFault) (bytes_of : 
   abbrev pub TakesOne : Type 0
   TakesOne = (c : C) (x : A × C) → IsBytes (bytes_of c) → item c ≡ Ok x → Takes (bytes_of c) (text x.0) (bytes_of x.1) × (keeps (state_of c) x.0 ≡ Ok (state_of x.1))
 
-  pub items_take : TakesOne → (n : ℕ) (c : C) (x : List A × C) → IsBytes (bytes_of c) → items_at item n c ≡ Ok x → Takes (bytes_of c) (flat_map text x.0) (bytes_of x.1) × (length x.0 ≡ n) × (each keeps (state_of c) x.0 ≡ Ok (state_of x.1))
+  pub items_take : TakesOne → (n : ℕ) (c : C) (x : List A × C) → IsBytes (bytes_of c) → items_at item n c ≡ Ok x →
+      Takes (bytes_of c) (flat_map text x.0) (bytes_of x.1) × (length x.0 ≡ n) × (each keeps (state_of c) x.0 ≡ Ok (state_of x.1))
   unfolding items_at each
   items_take one zero c x fits e =
-      subst (λ (y : List A × C). Takes (bytes_of c) (flat_map text y.0) (bytes_of y.1) × (length y.0 ≡ 0) × (each keeps (state_of c) y.0 ≡ Ok (state_of y.1))) (ok_is ([], c) x e) (record { parts = refl; rest_fits = fits }, refl, refl)
+      subst (λ (y : List A × C). Takes (bytes_of c) (flat_map text y.0) (bytes_of y.1) × (length y.0 ≡ 0) × (each keeps (state_of c) y.0 ≡ Ok (state_of y.1)))
+      (ok_is ([], c) x e) (record { parts = refl; rest_fits = fits }, refl, refl)
   items_take one (suc n) c x fits e =
       let a = bind_ok _ _ _ e in
       let b = bind_ok _ _ _ a.2 in
@@ -100,7 +107,8 @@ module _ {A C S : Type 0} (item : C → Result (A × C) ImageFault) (bytes_of : 
       let second = items_take one n a.0.1 b.0 first.0.rest_fits b.1 in
       let both = Takes-then _ _ _ _ _ first.0 second.0 in
       let made : List A × C = (a.0.0 ∷ b.0.0, b.0.1) in
-      subst (λ (y : List A × C). Takes (bytes_of c) (flat_map text y.0) (bytes_of y.1) × (length y.0 ≡ suc n) × (each keeps (state_of c) y.0 ≡ Ok (state_of y.1))) (ok_is made x b.2) (rw flat_map-cons both, ap suc second.1, rw first.1 second.2)
+      subst (λ (y : List A × C). Takes (bytes_of c) (flat_map text y.0) (bytes_of y.1) × (length y.0 ≡ suc n)
+      × (each keeps (state_of c) y.0 ≡ Ok (state_of y.1))) (ok_is made x b.2) (rw flat_map-cons both, ap suc second.1, rw first.1 second.2)
 
 -- ---- blocks
 
@@ -125,7 +133,8 @@ block_head_takes end next bytes x fits e =
     × (admits end next y.0.address ≡ true) × (between 0 64 y.0.cells ≡ true) × (between 0 8 y.0.terms ≡ true) × (is_fuel y.0.fuel ≡ true)) (ok_is made x small.1)
     (whole, admitted.0, t1.1, t2.1, small.0)
 
-pub block_takes : (end : ℕ) (next : Next) (bytes : List ℕ) (x : Block × (Next × List ℕ)) → IsBytes bytes → block_at end (next, bytes) ≡ Ok x → Takes bytes (block_text x.0) x.1.1 × (block_keeps end next x.0 ≡ Ok x.1.0)
+pub block_takes : (end : ℕ) (next : Next) (bytes : List ℕ) (x : Block × (Next × List ℕ)) → IsBytes bytes → block_at end (next, bytes) ≡ Ok x →
+    Takes bytes (block_text x.0) x.1.1 × (block_keeps end next x.0 ≡ Ok x.1.0)
 unfolding block_at block_text block_keeps
 block_takes end next bytes x fits e =
     let head = bind_ok _ _ _ e in
@@ -135,8 +144,14 @@ block_takes end next bytes x fits e =
     let c = items_take cell_at (λ y. y.1) (λ y. y.0) cell_keeps cell_text (λ y z f k. cell_takes y.0 y.1 z f k) head.0.0.cells (0, head.0.1) cells.0 h.0.rest_fits cells.1 in
     let t = items_take term_at (λ y. y.1) (λ y. y.0) term_keeps term_text (λ y z f k. term_takes y.0 y.1 z f k) head.0.0.terms (0, cells.0.1.1) terms.0 c.0.rest_fits terms.1 in
     let both = Takes-then _ _ _ _ _ (Takes-then _ _ _ _ _ h.0 c.0) t.0 in
-    let whole = subst (λ (n : ℕ). Takes bytes (to_be_bytes w32 head.0.0.address ++ to_be_bytes w16 n ++ to_be_bytes w16 head.0.0.terms ++ signed w64 head.0.0.fuel ++ flat_map cell_text cells.0.0 ++ flat_map term_text terms.0.0) terms.0.1.1) (sym c.1) both in
-    let named = subst (λ (n : ℕ). Takes bytes (to_be_bytes w32 head.0.0.address ++ to_be_bytes w16 (length cells.0.0) ++ to_be_bytes w16 n ++ signed w64 head.0.0.fuel ++ flat_map cell_text cells.0.0 ++ flat_map term_text terms.0.0) terms.0.1.1) (sym t.1) whole in
+    let whole = subst
+    (λ (n : ℕ). Takes bytes
+    (to_be_bytes w32 head.0.0.address ++ to_be_bytes w16 n ++ to_be_bytes w16 head.0.0.terms ++ signed w64 head.0.0.fuel ++ flat_map cell_text cells.0.0
+    ++ flat_map term_text terms.0.0) terms.0.1.1) (sym c.1) both in
+    let named = subst
+    (λ (n : ℕ). Takes bytes
+    (to_be_bytes w32 head.0.0.address ++ to_be_bytes w16 (length cells.0.0) ++ to_be_bytes w16 n ++ signed w64 head.0.0.fuel ++ flat_map cell_text cells.0.0
+    ++ flat_map term_text terms.0.0) terms.0.1.1) (sym t.1) whole in
     let made : Block × (Next × List ℕ) = (record { address = head.0.0.address; fuel = head.0.0.fuel; cells = cells.0.0; terms = terms.0.0 }, (Above head.0.0.address, terms.0.1.1)) in
     let few : between 0 64 (length cells.0.0) ≡ true = rw c.1 h.2 in
     let small : between 0 8 (length terms.0.0) ≡ true = rw t.1 h.3 in
@@ -154,7 +169,9 @@ depth_keeps told n = if told then leb n 256 else n == 0
 
 -- what a head spells, before the lists that it counts
 abbrev pub head_text : ℕ → FunctionHead → List ℕ
-head_text version h = to_be_bytes w8 (kind_code h.kind) ++ to_be_bytes w8 h.params ++ to_be_bytes w8 h.results ++ to_be_bytes w8 0 ++ to_be_bytes w32 h.entry ++ to_be_bytes w32 h.frame ++ to_be_bytes w32 h.stack_room ++ to_be_bytes w64 h.budget ++ depth_code (version == 3) h.depth ++ to_be_bytes w16 h.blocks
+head_text version h =
+    to_be_bytes w8 (kind_code h.kind) ++ to_be_bytes w8 h.params ++ to_be_bytes w8 h.results ++ to_be_bytes w8 0 ++ to_be_bytes w32 h.entry
+    ++ to_be_bytes w32 h.frame ++ to_be_bytes w32 h.stack_room ++ to_be_bytes w64 h.budget ++ depth_code (version == 3) h.depth ++ to_be_bytes w16 h.blocks
 
 pub record HeadKeeps (version end : ℕ) (place : Place) (h : FunctionHead) : Type 0 where
   pub params : between 0 6 h.params ≡ true
@@ -224,7 +241,8 @@ bounds_take bytes before left x t e =
     × (between 0 4096 y.0.frame ≡ true) × (between 0 65536 y.0.stack_room ≡ true) × (between 0 1099511627775 y.0.budget ≡ true)) (ok_is made x budget.2)
     (whole, t0.1, t1.1, t2.1)
 
-depth_takes : (told : Bool) (bytes : List ℕ) (x : ℕ × List ℕ) → IsBytes bytes → (if told then number_in w16 0 256 fault.Limit bytes else Ok (0, bytes)) ≡ Ok x → Takes bytes (depth_code told x.0) x.1 × (depth_keeps told x.0 ≡ true)
+depth_takes : (told : Bool) (bytes : List ℕ) (x : ℕ × List ℕ) → IsBytes bytes → (if told then number_in w16 0 256 fault.Limit bytes else Ok (0, bytes)) ≡ Ok x →
+    Takes bytes (depth_code told x.0) x.1 × (depth_keeps told x.0 ≡ true)
 depth_takes true bytes x fits e =
     let t = number_in_takes w16 (2 ^ 16) wide16 0 256 fault.Limit bytes x fits e in
     (t.0, le-leb _ _ (is_between 0 256 x.0 t.1).1)
@@ -247,13 +265,38 @@ function_head_takes version end place bytes x fits e =
     let t3 = depth_takes (version == 3) bounds.0.1 depth.0 t2.0.rest_fits depth.1 in
     let t4 = number_in_takes w16 (2 ^ 16) wide16 1 (4096 - place.1) fault.Limit depth.0.1 blocks.0 t3.0.rest_fits blocks.1 in
     let whole = Takes-then _ _ _ _ _ (Takes-then _ _ _ _ _ t2.0 t3.0) t4.0 in
-    let made : FunctionHead × List ℕ = (record { kind = counts.0.0.kind; params = counts.0.0.params; results = counts.0.0.results; entry = entry.0.0; frame = bounds.0.0.frame; stack_room = bounds.0.0.stack_room; budget = bounds.0.0.budget; depth = depth.0.0; blocks = blocks.0.0 }, blocks.0.1) in
+    let made : FunctionHead × List ℕ = (
+      record {
+        kind = counts.0.0.kind;
+        params = counts.0.0.params;
+        results = counts.0.0.results;
+        entry = entry.0.0;
+        frame = bounds.0.0.frame;
+        stack_room =
+            bounds.0.0.stack_room;
+        budget = bounds.0.0.budget;
+        depth = depth.0.0;
+        blocks = blocks.0.0;
+      },
+      blocks.0.1,
+    ) in
     subst (λ (y : FunctionHead × List ℕ). Takes bytes (head_text version y.0) y.1 × HeadKeeps version end place y.0) (ok_is made x blocks.2)
     (whole, record { params = t0.1; results = t0.2; entry = admitted.0; frame = t2.1; stack_room = t2.2; budget = t2.3; depth = t3.1; blocks = t4.1 })
 
 -- the head that a function's lists give
 abbrev head_of : Function → FunctionHead
-head_of f = record { kind = f.kind; params = length f.params; results = length f.results; entry = f.entry; frame = f.frame; stack_room = f.stack_room; budget = f.budget; depth = f.depth; blocks = length f.blocks }
+head_of f = record {
+  kind = f.kind;
+  params = length f.params;
+  results = length f.results;
+  entry = f.entry;
+  frame = f.frame;
+  stack_room = f.stack_room;
+  budget =
+      f.budget;
+  depth = f.depth;
+  blocks = length f.blocks;
+}
 
 head_counted : (h : FunctionHead) (params results blocks : ℕ) → params ≡ h.params → results ≡ h.results → blocks ≡ h.blocks
     → h ≡ record { kind = h.kind; params = params; results = results; entry = h.entry; frame = h.frame; stack_room = h.stack_room; budget = h.budget; depth = h.depth; blocks = blocks }
@@ -266,7 +309,8 @@ unfolding function_keeps
 function_keeps_by version end place f next k params results blocks =
     rw (k.params, k.results, k.entry, k.frame, k.stack_room, k.budget, k.depth, k.blocks, params, results, blocks) refl
 
-function_takes : (version end : ℕ) (place : Place) (bytes : List ℕ) (x : Function × (Place × List ℕ)) → IsBytes bytes → function_at version end (place, bytes) ≡ Ok x → Takes bytes (function_text version x.0) x.1.1 × (function_keeps version end place x.0 ≡ Ok x.1.0)
+function_takes : (version end : ℕ) (place : Place) (bytes : List ℕ) (x : Function × (Place × List ℕ)) → IsBytes bytes →
+    function_at version end (place, bytes) ≡ Ok x → Takes bytes (function_text version x.0) x.1.1 × (function_keeps version end place x.0 ≡ Ok x.1.0)
 unfolding function_at function_head_text function_text
 function_takes version end place bytes x fits e =
     let head = bind_ok _ _ _ e in
@@ -276,13 +320,42 @@ function_takes version end place bytes x fits e =
     let h = function_head_takes version end place bytes head.0 fits head.1 in
     let p = items_take range_at (λ y. y) (λ _. tt) (λ _ r. range_keeps r) range_text (λ y z f k. range_takes y z f k) head.0.0.params head.0.1 params.0 h.0.rest_fits params.1 in
     let r = items_take range_at (λ y. y) (λ _. tt) (λ _ r. range_keeps r) range_text (λ y z f k. range_takes y z f k) head.0.0.results params.0.1 results.0 p.0.rest_fits results.1 in
-    let b = items_take (block_at end) (λ y. y.1) (λ y. y.0) (block_keeps end) block_text (λ y z f k. block_takes end y.0 y.1 z f k) head.0.0.blocks (Exactly head.0.0.entry, results.0.1) blocks.0 r.0.rest_fits blocks.1 in
+    let b = items_take (block_at end) (λ y. y.1) (λ y. y.0) (block_keeps end) block_text (λ y z f k. block_takes end y.0 y.1 z f k) head.0.0.blocks
+    (Exactly head.0.0.entry, results.0.1) blocks.0 r.0.rest_fits blocks.1 in
     let lists = Takes-then _ _ _ _ _ (Takes-then _ _ _ _ _ (Takes-then _ _ _ _ _ h.0 p.0) r.0) b.0 in
-    let counted : FunctionHead = record { kind = head.0.0.kind; params = length params.0.0; results = length results.0.0; entry = head.0.0.entry; frame = head.0.0.frame; stack_room = head.0.0.stack_room; budget = head.0.0.budget; depth = head.0.0.depth; blocks = length blocks.0.0 } in
+    let counted : FunctionHead =
+    record {
+      kind = head.0.0.kind;
+      params = length params.0.0;
+      results = length results.0.0;
+      entry = head.0.0.entry;
+      frame = head.0.0.frame;
+      stack_room =
+          head.0.0.stack_room;
+      budget = head.0.0.budget;
+      depth = head.0.0.depth;
+      blocks = length blocks.0.0;
+    } in
     let same : head.0.0 ≡ counted = head_counted head.0.0 _ _ _ p.1 r.1 b.1 in
-    let whole = subst (λ (g : FunctionHead). Takes bytes (head_text version g ++ flat_map range_text params.0.0 ++ flat_map range_text results.0.0 ++ flat_map block_text blocks.0.0) blocks.0.1.1) same lists in
+    let whole = subst
+    (λ (g : FunctionHead). Takes bytes
+    (head_text version g ++ flat_map range_text params.0.0 ++ flat_map range_text results.0.0 ++ flat_map block_text blocks.0.0) blocks.0.1.1) same lists in
     let k : HeadKeeps version end place counted = subst (HeadKeeps version end place) same h.1 in
-    let made : Function × (Place × List ℕ) = (record { kind = head.0.0.kind; params = params.0.0; results = results.0.0; entry = head.0.0.entry; frame = head.0.0.frame; stack_room = head.0.0.stack_room; budget = head.0.0.budget; depth = head.0.0.depth; blocks = blocks.0.0 }, ((blocks.0.1.0, place.1 + head.0.0.blocks), blocks.0.1.1)) in
+    let made : Function × (Place × List ℕ) = (
+      record {
+        kind = head.0.0.kind;
+        params = params.0.0;
+        results = results.0.0;
+        entry = head.0.0.entry;
+        frame = head.0.0.frame;
+        stack_room =
+            head.0.0.stack_room;
+        budget = head.0.0.budget;
+        depth = head.0.0.depth;
+        blocks = blocks.0.0;
+      },
+      ((blocks.0.1.0, place.1 + head.0.0.blocks), blocks.0.1.1),
+    ) in
     subst (λ (y : Function × (Place × List ℕ)). Takes bytes (function_text version y.0) y.1.1 × (function_keeps version end place y.0 ≡ Ok y.1.0)) (ok_is made x blocks.2)
     (whole, function_keeps_by version end place made.0 blocks.0.1.0 k p.2 r.2 b.2 ∙ ap (λ (n : ℕ). Ok (blocks.0.1.0, place.1 + n)) b.1)
 
@@ -301,7 +374,9 @@ data_of true rs = refl
 data_of false rs = refl
 
 abbrev pub counts_text : Header → List ℕ
-counts_text h = to_be_bytes w32 0x53425838 ++ to_be_bytes w16 h.version ++ to_be_bytes w16 h.services.0 ++ to_be_bytes w32 h.words ++ data_text (h.version == 1) h.data_count ++ to_be_bytes w16 h.stack_pages ++ to_be_bytes w16 h.functions
+counts_text h =
+    to_be_bytes w32 0x53425838 ++ to_be_bytes w16 h.version ++ to_be_bytes w16 h.services.0 ++ to_be_bytes w32 h.words
+    ++ data_text (h.version == 1) h.data_count ++ to_be_bytes w16 h.stack_pages ++ to_be_bytes w16 h.functions
 
 pub record HeaderKeeps (h : Header) : Type 0 where
   pub version : is_version h.version ≡ true
@@ -329,7 +404,8 @@ services_take bytes x fits e =
     let m0 : Takes bytes (to_be_bytes w32 0x53425838) magic.0.1 = subst (λ (n : ℕ). Takes bytes (to_be_bytes w32 n) magic.0.1) (only 0x53425838 magic.0.0 t0.1) t0.0 in
     let whole = Takes-then _ _ _ _ _ (Takes-then _ _ _ _ _ m0 t1.0) t2.0 in
     let made : (ℕ × Services) × List ℕ = ((version.0.0, record { 0 = services.0.0 }), services.0.1) in
-    subst (λ (y : (ℕ × Services) × List ℕ). Takes bytes (to_be_bytes w32 0x53425838 ++ to_be_bytes w16 y.0.0 ++ to_be_bytes w16 y.0.1.0) y.1 × (is_version y.0.0 ≡ true) × (is_known y.0.1.0 ≡ true)) (ok_is made x known.1)
+    subst (λ (y : (ℕ × Services) × List ℕ). Takes bytes (to_be_bytes w32 0x53425838 ++ to_be_bytes w16 y.0.0 ++ to_be_bytes w16 y.0.1.0) y.1
+    × (is_version y.0.0 ≡ true) × (is_known y.0.1.0 ≡ true)) (ok_is made x known.1)
     (whole, first.0, known.0)
 
 data_length_takes : (bytes : List ℕ) (x : ℕ × List ℕ) → IsBytes bytes → data_length_at bytes ≡ Ok x → Takes bytes (to_be_bytes w32 x.0) x.1 × (is_data_length x.0 ≡ true)
@@ -340,7 +416,8 @@ data_length_takes bytes x fits e =
     let t = number_takes w32 (2 ^ 32) wide32 bytes data_bytes.0 fits data_bytes.1 in
     subst (λ (y : ℕ × List ℕ). Takes bytes (to_be_bytes w32 y.0) y.1 × (is_data_length y.0 ≡ true)) (ok_is data_bytes.0 x whole_slots.1) (t.0, whole_slots.0)
 
-data_count_takes : (one : Bool) (bytes : List ℕ) (x : ℕ × List ℕ) → IsBytes bytes → (if one then data_length_at bytes else number_in w16 0 8 fault.Limit bytes) ≡ Ok x → Takes bytes (data_text one x.0) x.1 × (data_keeps one x.0 ≡ true)
+data_count_takes : (one : Bool) (bytes : List ℕ) (x : ℕ × List ℕ) → IsBytes bytes →
+    (if one then data_length_at bytes else number_in w16 0 8 fault.Limit bytes) ≡ Ok x → Takes bytes (data_text one x.0) x.1 × (data_keeps one x.0 ≡ true)
 data_count_takes true bytes x fits e = data_length_takes bytes x fits e
 data_count_takes false bytes x fits e = number_in_takes w16 (2 ^ 16) wide16 0 8 fault.Limit bytes x fits e
 
@@ -358,7 +435,18 @@ header_takes bytes x fits e =
     let t3 = number_in_takes w16 (2 ^ 16) wide16 1 16 fault.Limit data_bytes.0.1 stack_pages.0 t2.0.rest_fits stack_pages.1 in
     let t4 = number_in_takes w16 (2 ^ 16) wide16 1 256 fault.Limit stack_pages.0.1 functions.0 t3.0.rest_fits functions.1 in
     let whole = Takes-then _ _ _ _ _ (Takes-then _ _ _ _ _ (Takes-then _ _ _ _ _ (Takes-then _ _ _ _ _ t0.0 t1.0) t2.0) t3.0) t4.0 in
-    let made : Header × List ℕ = (record { version = services.0.0.0; services = services.0.0.1; words = words.0.0; data_count = data_bytes.0.0; stack_pages = stack_pages.0.0; functions = functions.0.0 }, functions.0.1) in
+    let made : Header × List ℕ = (
+      record {
+        version = services.0.0.0;
+        services = services.0.0.1;
+        words = words.0.0;
+        data_count = data_bytes.0.0;
+        stack_pages =
+            stack_pages.0.0;
+        functions = functions.0.0;
+      },
+      functions.0.1,
+    ) in
     subst (λ (y : Header × List ℕ). Takes bytes (counts_text y.0) y.1 × HeaderKeeps y.0) (ok_is made x functions.2)
     (whole, record { version = t0.1; services = t0.2; words = t1.1; data_count = t2.1; stack_pages = t3.1; functions = t4.1 })
 
@@ -411,18 +499,51 @@ parts_take bytes x fits e =
     let s = shapes_take one header.0.0.data_count header.0.1 shapes.0 h.0.rest_fits shapes.1 in
     let w = items_take (number_at w32) (λ y. y) (λ _. tt) (λ _ _. Ok tt) (to_be_bytes w32) (λ y z f k. word_takes y z f k) header.0.0.words shapes.0.1 words.0 s.0.rest_fits words.1 in
     let d = regions_take shapes.0.0 words.0.1 regions.0 w.0.rest_fits regions.1 in
-    let f = items_take (function_at version end) (λ y. y.1) (λ y. y.0) (function_keeps version end) (function_text version) (λ y z g k. function_takes version end y.0 y.1 z g k) header.0.0.functions ((Exactly code_start, 0), regions.0.1) functions.0 d.0.rest_fits functions.1 in
+    let f = items_take (function_at version end) (λ y. y.1) (λ y. y.0) (function_keeps version end) (function_text version)
+    (λ y z g k. function_takes version end y.0 y.1 z g k) header.0.0.functions
+    ((Exactly code_start, 0), regions.0.1) functions.0 d.0.rest_fits functions.1 in
     let lists = Takes-then _ _ _ _ _ (Takes-then _ _ _ _ _ (Takes-then _ _ _ _ _ (Takes-then _ _ _ _ _ h.0 s.0) w.0) d.0) f.0 in
     let r = regions_read one header.0.0.data_count shapes.0.0 regions.0.0 s.1 d.1 h.1.data_count in
-    let counted : Header = record { version = header.0.0.version; services = header.0.0.services; words = length words.0.0; data_count = if one then byte_count regions.0.0 else length regions.0.0; stack_pages = header.0.0.stack_pages; functions = length functions.0.0 } in
+    let counted : Header =
+    record {
+      version = header.0.0.version;
+      services = header.0.0.services;
+      words = length words.0.0;
+      data_count =
+          if one then byte_count regions.0.0 else length regions.0.0;
+      stack_pages = header.0.0.stack_pages;
+      functions = length functions.0.0;
+    } in
     let same : header.0.0 ≡ counted = header_counted header.0.0 _ _ _ w.1 (sym r.count) f.1 in
-    let whole = subst (λ (g : Header). Takes bytes (counts_text g ++ shapes_code one shapes.0.0 ++ flat_map (to_be_bytes w32) words.0.0 ++ flat_map region_text regions.0.0 ++ flat_map (function_text version) functions.0.0) functions.0.1.1) same lists in
+    let whole = subst
+    (λ (g : Header). Takes bytes
+    (counts_text g ++ shapes_code one shapes.0.0 ++ flat_map (to_be_bytes w32) words.0.0 ++ flat_map region_text regions.0.0
+    ++ flat_map (function_text version) functions.0.0) functions.0.1.1) same lists in
     let k : HeaderKeeps counted = subst HeaderKeeps same h.1 in
-    let in_turn : each (function_keeps version (code_start + 4 * length words.0.0)) (Exactly code_start, 0) functions.0.0 ≡ Ok functions.0.1.0 = subst (λ (n : ℕ). each (function_keeps version (code_start + 4 * n)) (Exactly code_start, 0) functions.0.0 ≡ Ok functions.0.1.0) (sym w.1) f.2 in
-    let lengths = subst (λ (t : List ℕ). Takes bytes (counts_text counted ++ t ++ flat_map (to_be_bytes w32) words.0.0 ++ flat_map region_text regions.0.0 ++ flat_map (function_text version) functions.0.0) functions.0.1.1) r.spelled whole in
-    let named = subst (λ (t : List ℕ). Takes bytes (to_be_bytes w32 0x53425838 ++ to_be_bytes w16 header.0.0.version ++ to_be_bytes w16 header.0.0.services.0 ++ to_be_bytes w32 (length words.0.0) ++ t ++ to_be_bytes w16 header.0.0.stack_pages ++ to_be_bytes w16 (length functions.0.0)
-    ++ (if one then [] else flat_map shape_text regions.0.0) ++ flat_map (to_be_bytes w32) words.0.0 ++ flat_map region_text regions.0.0 ++ flat_map (function_text version) functions.0.0) functions.0.1.1) (data_of one regions.0.0) lengths in
-    let made : Parts × List ℕ = (record { version = header.0.0.version; services = header.0.0.services; words = words.0.0; regions = regions.0.0; stack_pages = header.0.0.stack_pages; functions = functions.0.0 }, functions.0.1.1) in
+    let in_turn : each (function_keeps version (code_start + 4 * length words.0.0)) (Exactly code_start, 0) functions.0.0 ≡ Ok functions.0.1.0 =
+    subst (λ (n : ℕ). each (function_keeps version (code_start + 4 * n)) (Exactly code_start, 0) functions.0.0 ≡ Ok functions.0.1.0) (sym w.1) f.2 in
+    let lengths =
+    subst (λ (t : List ℕ). Takes bytes
+    (counts_text counted ++ t ++ flat_map (to_be_bytes w32) words.0.0 ++ flat_map region_text regions.0.0
+    ++ flat_map (function_text version) functions.0.0) functions.0.1.1) r.spelled whole in
+    let named = subst
+    (λ (t : List ℕ). Takes bytes
+    (to_be_bytes w32 0x53425838 ++ to_be_bytes w16 header.0.0.version ++ to_be_bytes w16 header.0.0.services.0 ++ to_be_bytes w32 (length words.0.0) ++ t
+    ++ to_be_bytes w16 header.0.0.stack_pages ++ to_be_bytes w16 (length functions.0.0)
+    ++ (if one then [] else flat_map shape_text regions.0.0) ++ flat_map (to_be_bytes w32) words.0.0 ++ flat_map region_text regions.0.0
+    ++ flat_map (function_text version) functions.0.0) functions.0.1.1) (data_of one regions.0.0) lengths in
+    let made : Parts × List ℕ = (
+      record {
+        version = header.0.0.version;
+        services = header.0.0.services;
+        words = words.0.0;
+        regions = regions.0.0;
+        stack_pages =
+            header.0.0.stack_pages;
+        functions = functions.0.0;
+      },
+      functions.0.1.1,
+    ) in
     subst (λ (y : Parts × List ℕ). Takes bytes (spelling y.0) y.1 × (parts_keep y.0 ≡ Ok tt)) (ok_is made x functions.2)
     (named, parts_keep_by made.0 r.pages functions.0.1.0 k.version k.services k.words r.kept k.stack_pages k.functions r.lengths in_turn)
 

@@ -43,7 +43,8 @@ same_length : (rs : List Region) → length (shapes_of rs) ≡ length rs
 same_length [] = refl
 same_length (r ∷ rs) = ap suc (same_length rs)
 
-pub regions_read : (one : Bool) (n : ℕ) (shapes : List Shape) (rs : List Region) → LengthsRead one n shapes → shapes_of rs ≡ shapes → (if one then is_data_length n else between 0 8 n) ≡ true → RegionsRead one n shapes rs
+pub regions_read : (one : Bool) (n : ℕ) (shapes : List Shape) (rs : List Region) → LengthsRead one n shapes → shapes_of rs ≡ shapes →
+    (if one then is_data_length n else between 0 8 n) ≡ true → RegionsRead one n shapes rs
 regions_read true n shapes rs read same keeps =
     let one = one_is_read n rs (same ∙ read) keeps in
     let lengths = one_keeps rs one.0 in

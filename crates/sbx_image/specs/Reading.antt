@@ -1,5 +1,6 @@
 -- Reading from left to right: a field is a value and the bytes after it, or the first fault that is met.
-use Rattle.std.specs.Prelude.{◌≡◌, ◌≢◌, ℕ, zero, suc, ◌+◌, ◌-◌, ◌*◌, ℤ, true, List, [], ◌∷◌, length, take, drop, Result, Ok, Err, MatchResult, nat_lt, ◌==◌, if◌then◌else◌}
+use Rattle.std.specs.Prelude.{◌≡◌, ◌≢◌, ℕ, zero, suc, ◌+◌, ◌-◌, ◌*◌, ℤ, true, List, [], ◌∷◌, length, take, drop, Result}
+use Rattle.std.specs.Prelude.{Ok, Err, MatchResult, nat_lt, ◌==◌, if◌then◌else◌}
 use Rattle.std.specs.Int.{Width, w8, w16, w32, w64, byte_len, from_be_bytes, cast_signed}
 use Rattle.sbx_parts.specs.declared.fault.ImageFault.{ImageFault}
 use Rattle.sbx_parts.specs.declared.fault.ImageFault.TheVariants as fault
@@ -23,7 +24,8 @@ use Rattle.sbx_parts.specs.declared.parts.Parts.{Parts}
 use Rattle.sbx_parts.specs.declared.parts.Region.{Region}
 use Rattle.sbx_parts.specs.declared.services.Services.{Services}
 use Rattle.sbx_parts.specs.Regions.{pages_for}
-use Rattle.sbx_parts.specs.Rules.{◌>>=◌, wants, between, code_start, admits, is_fuel, is_coefficient, is_known, is_version, is_data_length, is_length_behind, in_order, Place}
+use Rattle.sbx_parts.specs.Rules.{◌>>=◌, wants, between, code_start, admits, is_fuel, is_coefficient, is_known}
+use Rattle.sbx_parts.specs.Rules.{is_version, is_data_length, is_length_behind, in_order, Place}
 
 -- What a function returned, seen by view, is what reading gives, unless memory ran out.
 abbrev pub Gives : {X Y : Type 0} → (X → Y) → Result X ImageFault → Result Y ImageFault → Type 0
@@ -31,7 +33,9 @@ Gives view result read = MatchResult result (λ x. read ≡ Ok (view x)) (λ e. 
 
 -- an unsigned number
 abbrev pub number_at : Width → List ℕ → Result (ℕ × List ℕ) ImageFault
-number_at w bytes = if nat_lt (length bytes) (byte_len w) then Err fault.Short else Ok (from_be_bytes w (take (byte_len w) bytes), drop (byte_len w) bytes)
+number_at w bytes =
+    if nat_lt (length bytes) (byte_len w) then Err fault.Short
+    else Ok (from_be_bytes w (take (byte_len w) bytes), drop (byte_len w) bytes)
 
 -- an unsigned number from low to high
 abbrev pub number_in : Width → ℕ → ℕ → ImageFault → List ℕ → Result (ℕ × List ℕ) ImageFault
@@ -103,7 +107,10 @@ block_at end cursor = do
   head ← block_head_at end cursor.0 cursor.1
   cells ← items_at cell_at head.0.cells (0, head.1)
   terms ← items_at term_at head.0.terms (0, cells.1.1)
-  Ok (record { address = head.0.address; fuel = head.0.fuel; cells = cells.0; terms = terms.0 }, (Above head.0.address, terms.1.1))
+  Ok (
+    record { address = head.0.address; fuel = head.0.fuel; cells = cells.0; terms = terms.0 },
+    (Above head.0.address, terms.1.1),
+  )
 
 unfoldable pub kind_at : List ℕ → Result (Kind × List ℕ) ImageFault
 kind_at bytes = do
@@ -138,7 +145,21 @@ function_head_at version end place bytes = do
   bounds ← bounds_at entry.1
   depth ← depth_at version bounds.1
   blocks ← number_in w16 1 (4096 - place.1) fault.Limit depth.1
-  Ok (record { kind = counts.0.kind; params = counts.0.params; results = counts.0.results; entry = entry.0; frame = bounds.0.frame; stack_room = bounds.0.stack_room; budget = bounds.0.budget; depth = depth.0; blocks = blocks.0 }, blocks.1)
+  Ok (
+    record {
+      kind = counts.0.kind;
+      params = counts.0.params;
+      results = counts.0.results;
+      entry = entry.0;
+      frame =
+          bounds.0.frame;
+      stack_room = bounds.0.stack_room;
+      budget = bounds.0.budget;
+      depth = depth.0;
+      blocks = blocks.0;
+    },
+    blocks.1,
+  )
 
 unfoldable pub function_at : ℕ → ℕ → Place × List ℕ → Result (Function × (Place × List ℕ)) ImageFault
 function_at version end cursor = do
@@ -146,7 +167,21 @@ function_at version end cursor = do
   params ← items_at range_at head.0.params head.1
   results ← items_at range_at head.0.results params.1
   blocks ← items_at (block_at end) head.0.blocks (Exactly head.0.entry, results.1)
-  Ok (record { kind = head.0.kind; params = params.0; results = results.0; entry = head.0.entry; frame = head.0.frame; stack_room = head.0.stack_room; budget = head.0.budget; depth = head.0.depth; blocks = blocks.0 }, ((blocks.1.0, cursor.0.1 + head.0.blocks), blocks.1.1))
+  Ok (
+    record {
+      kind = head.0.kind;
+      params = params.0;
+      results = results.0;
+      entry = head.0.entry;
+      frame =
+          head.0.frame;
+      stack_room = head.0.stack_room;
+      budget = head.0.budget;
+      depth = head.0.depth;
+      blocks = blocks.0;
+    },
+    ((blocks.1.0, cursor.0.1 + head.0.blocks), blocks.1.1),
+  )
 
 -- version and services, behind what tells an image
 unfoldable pub services_at : List ℕ → Result ((ℕ × Services) × List ℕ) ImageFault
@@ -175,7 +210,18 @@ header_at bytes = do
   data_count ← data_count_at services.0.0 words.1
   stack_pages ← number_in w16 1 16 fault.Limit data_count.1
   functions ← number_in w16 1 256 fault.Limit stack_pages.1
-  Ok (record { version = services.0.0; services = services.0.1; words = words.0; data_count = data_count.0; stack_pages = stack_pages.0; functions = functions.0 }, functions.1)
+  Ok (
+    record {
+      version = services.0.0;
+      services = services.0.1;
+      words = words.0;
+      data_count =
+          data_count.0;
+      stack_pages = stack_pages.0;
+      functions = functions.0;
+    },
+    functions.1,
+  )
 
 -- a region's length and kind; the pages of the regions before it go along with the bytes
 unfoldable pub shape_at : ℕ × List ℕ → Result (Shape × (ℕ × List ℕ)) ImageFault
@@ -215,8 +261,20 @@ parts_at bytes = do
   shapes ← shapes_at header.0 header.1
   words ← items_at (number_at w32) header.0.words shapes.1
   regions ← regions_at shapes.0 words.1
-  functions ← items_at (function_at header.0.version (code_start + 4 * header.0.words)) header.0.functions ((Exactly code_start, 0), regions.1)
-  Ok (record { version = header.0.version; services = header.0.services; words = words.0; regions = regions.0; stack_pages = header.0.stack_pages; functions = functions.0 }, functions.1.1)
+  functions ← items_at (function_at header.0.version (code_start + 4 * header.0.words)) header.0.functions
+      ((Exactly code_start, 0), regions.1)
+  Ok (
+    record {
+      version = header.0.version;
+      services = header.0.services;
+      words = words.0;
+      regions =
+          regions.0;
+      stack_pages = header.0.stack_pages;
+      functions = functions.0;
+    },
+    functions.1.1,
+  )
 
 -- The image that all of the bytes spell.
 unfoldable pub reading : List ℕ → Result Parts ImageFault

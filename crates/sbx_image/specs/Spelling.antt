@@ -12,7 +12,8 @@ use Rattle.sbx_parts.specs.declared.parts.Function.{Function}
 use Rattle.sbx_parts.specs.declared.parts.Parts.{Parts}
 use Rattle.sbx_parts.specs.declared.parts.Region.{Region}
 use Rattle.sbx_parts.specs.Regions.{byte_count}
-pub use Rattle.sbx_parts.specs.Widths.{IsTypedRange, IsTypedRegion, IsTypedCell, IsTypedTerm, IsTypedBlock, IsTypedFunction, IsTyped, IsCountedBlock, IsCountedFunction}
+pub use Rattle.sbx_parts.specs.Widths.{IsTypedRange, IsTypedRegion, IsTypedCell, IsTypedTerm, IsTypedBlock}
+pub use Rattle.sbx_parts.specs.Widths.{IsTypedFunction, IsTyped, IsCountedBlock, IsCountedFunction}
 
 -- a signed number as the unsigned one of the same bits
 abbrev pub signed : Width → ℤ → List ℕ
@@ -78,7 +79,8 @@ function_text version f =
 
 -- how many bytes of data version 1 has, or how many regions versions 2 and 3 have
 unfoldable pub data_count_text : Parts → List ℕ
-data_count_text p = if p.version == 1 then to_be_bytes w32 (byte_count p.regions) else to_be_bytes w16 (length p.regions)
+data_count_text p =
+    if p.version == 1 then to_be_bytes w32 (byte_count p.regions) else to_be_bytes w16 (length p.regions)
 
 -- version 1 tells no more of its region; versions 2 and 3 tell length and kind of each
 unfoldable pub shapes_text : Parts → List ℕ

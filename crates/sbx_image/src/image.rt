@@ -97,8 +97,8 @@ impl Image {
         self.parts.functions.len() as u16
     }
 
-    /// The regions of data: the first begins at the start of the data's addresses, each next one at the page behind the last page of
-    /// the one before. They take at most 64 pages.
+    /// The regions of data: the first begins at the start of the data's addresses, each next one at the page behind the
+    /// last page of the one before. They take at most 64 pages.
     pub fn regions(&self) -> &[Region]
         ensures value { result.now ≡ self.now.regions }
         ensures few { length self.now.regions ≤ 8 }
@@ -108,14 +108,16 @@ impl Image {
         self.parts.regions.as_slice()
     }
 
-    /// The address of the first byte of the region with a number, counted from 0; nothing where there are not so many regions.
+    /// The address of the first byte of the region with a number, counted from 0; nothing where there are not so many
+    /// regions.
     pub fn region_start(&self, index: usize) -> Option<u32>
         ensures { result ≡ start_of self.now.regions index }
     {
         start_of(self.parts.regions.as_slice(), index)
     }
 
-    /// Whether one region has all bytes from the address `low` up to but not at `high`, and may be written where `writes` is set.
+    /// Whether one region has all bytes from the address `low` up to but not at `high`, and may be written where
+    /// `writes` is set.
     pub fn holds(&self, low: i64, high: i64, writes: bool) -> bool
         ensures { result ≡ holds self.now.regions low high writes }
     {
@@ -141,8 +143,8 @@ impl Image {
         self.parts.functions.as_slice()
     }
 
-    /// Each limit and order of the format holds, and each number is one that its field can hold. It changes nothing, and takes
-    /// time in proportion to the image.
+    /// Each limit and order of the format holds, and each number is one that its field can hold. It changes nothing,
+    /// and takes time in proportion to the image.
     pub fn keeps_its_format(&self)
         ensures kept { parts_keep self.now ≡ Ok tt }
         ensures typed { IsTyped self.now }

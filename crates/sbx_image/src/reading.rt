@@ -3,7 +3,11 @@ ghost use Rattle.std.specs.Prelude.{◌≡◌, ℕ, ◌+◌, ◌≤◌, List, If
 ghost use Rattle.std.specs.Int.{w8, w16, w32, w64};
 ghost use Rattle.sbx_parts.specs.declared.order.Next.{Next};
 ghost use Rattle.sbx_parts.specs.Rules.{Place};
-ghost use Rattle.sbx_image.specs.Reading.{Gives, number_at, bytes_at, items_at, range_at, location_at, cell_at, term_at, block_head_at, block_at, kind_at, counts_at, bounds_at, depth_at, function_head_at, function_at, services_at, data_length_at, data_count_at, header_at, shape_at, shape_of, shapes_at, shape_bytes, regions_at, parts_at, reading};
+ghost use Rattle.sbx_image.specs.Reading.{Gives, number_at, bytes_at, items_at, range_at, location_at, cell_at};
+ghost use Rattle.sbx_image.specs.Reading.{term_at, block_head_at, block_at, kind_at, counts_at, bounds_at, depth_at};
+ghost use Rattle.sbx_image.specs.Reading.{function_head_at, function_at, services_at, data_length_at, data_count_at};
+ghost use Rattle.sbx_image.specs.Reading.{header_at, shape_at, shape_of, shapes_at, shape_bytes, regions_at, parts_at};
+ghost use Rattle.sbx_image.specs.Reading.{reading};
 ghost use Rattle.sbx_image.specs.Spelling.{spelling};
 
 use crate::heads::{BlockHead, Bounds, Counts, FunctionHead, Header, Shape};
@@ -55,7 +59,8 @@ fn items_of<T: Readable>(
     first: T::State,
     bytes: &[u8],
 ) -> Result<(Vec<T>, (T::State, &[u8])), ImageFault>
-    ensures { Gives (λ x. (x.0.items, T.at x.1.0 x.1.1.now)) result (items_at (T.item_at setting) count (T.at first bytes.now)) }
+    ensures { Gives (λ x. (x.0.items, T.at x.1.0 x.1.1.now)) result
+        (items_at (T.item_at setting) count (T.at first bytes.now)) }
 {
     let mut items = Vec::with_capacity(alloc, count as usize)?;
     let mut state = first;
@@ -351,7 +356,8 @@ fn depth_of(version: u16, bytes: &[u8]) -> Result<(u16, &[u8]), ImageFault>
     }
 }
 
-/// What stands before a function's ranges. `place` is where it may begin, and how many blocks the functions before it have.
+/// What stands before a function's ranges. `place` is where it may begin, and how many blocks the functions before it
+/// have.
 #[tactic(auto, unfolding(crate::specs::Reading::function_head_at))]
 pub fn function_head_of(
     version: u16,

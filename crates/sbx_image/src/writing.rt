@@ -2,7 +2,10 @@
 ghost use Rattle.std.specs.Prelude.{◌≡◌, ◌<◌, ◌≤◌, ◌^◌, ◌++◌, length, OnOk, IfOk, All};
 ghost use Rattle.std.specs.Int.{w8, w16, w32, w64, to_be_bytes};
 ghost use Rattle.std.specs.List.{flat_map};
-ghost use Rattle.sbx_image.specs.Spelling.{kind_code, depth_text, signed, IsCountedBlock, IsCountedFunction, block_text, cell_text, function_head_text, function_text, header_text, range_text, region_text, data_count_text, shape_text, shapes_text, spelling, term_text};
+ghost use Rattle.sbx_image.specs.Spelling.{kind_code, depth_text, signed, IsCountedBlock, IsCountedFunction};
+ghost use Rattle.sbx_image.specs.Spelling.{block_text, cell_text, function_head_text, function_text, header_text};
+ghost use Rattle.sbx_image.specs.Spelling.{range_text, region_text, data_count_text, shape_text, shapes_text, spelling};
+ghost use Rattle.sbx_image.specs.Spelling.{term_text};
 
 use crate::image::Image;
 use sbx_parts::{Block, Cell, Function, Kind, Range, Region, Term};
@@ -187,7 +190,8 @@ fn put_function(out: &mut Vec<u8>, version: u16, function: &Function) -> Result<
 
 /// Each function, as the image's version has it.
 fn put_functions(out: &mut Vec<u8>, image: &Image) -> Result<(), AllocError>
-    ensures { OnOk result (out.new.items ≡ out.old.items ++ flat_map (function_text image.now.version) image.now.functions) }
+    ensures { OnOk result
+        (out.new.items ≡ out.old.items ++ flat_map (function_text image.now.version) image.now.functions) }
 {
     for function in image.functions() {
         put_function(out, image.version(), function)?;

@@ -60,7 +60,8 @@ Leaves n p input limit runs.Reader bytes = ⊥
 Leaves n p input limit runs.Writer bytes = BeginsStated n p input limit bytes
 
 -- what was written of the states of an image's run: a text that tells them, or at a fault its first bytes
-abbrev pub Stated : (n : ℕ) → Parts → List ℕ → ℕ → Option (List ℕ) → Option (List ℕ) → Result (Unit {0}) RunFault → Type 0
+abbrev pub Stated : (n : ℕ) → Parts → List ℕ → ℕ → Option (List ℕ) → Option (List ℕ) → Result (Unit {0}) RunFault →
+    Type 0
 Stated n p input limit old new (Ok done) = Wrote old new (IsStated n p input limit)
 Stated n p input limit old new (Err fault) = Wrote old new (Leaves n p input limit fault)
 

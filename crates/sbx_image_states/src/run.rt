@@ -36,7 +36,8 @@ fn states_of<const N: usize, W: Write>(
 ) -> Result<(), RunFault>
     requires range { (4 ≤ N) × (N ≤ 32) }
     requires state { IsState N board.now.state.mmu board.now.state.world }
-    ensures { (parts : Parts) → IsBegun N parts input.now board.now.state → Stated N parts input.now limit (W.contents out.old) (W.contents out.new) result }
+    ensures { (parts : Parts) → IsBegun N parts input.now board.now.state →
+        Stated N parts input.now limit (W.contents out.old) (W.contents out.new) result }
 {
     let known = memory_of(alloc, board, input)?;
     let memory = memory_of(alloc, board, input)?;
@@ -68,10 +69,10 @@ fn states_on<const N: usize, W: Write>(
     states_of(alloc, &board, input, limit, out)
 }
 
-/// Runs an image on an input, on so many windows, 4 to 32, to an end, but at most so many turns, and writes a line of its states before
-/// the first turn, one for each, and one behind the last, as `sbx_states::tell_states` does. Where the writer fails, or memory is
-/// refused, it has the first bytes of such a text. What the program puts out is kept, so that memory grows by it. Each count is a
-/// machine of its own.
+/// Runs an image on an input, on so many windows, 4 to 32, to an end, but at most so many turns, and writes a line of
+/// its states before the first turn, one for each, and one behind the last, as `sbx_states::tell_states` does. Where
+/// the writer fails, or memory is refused, it has the first bytes of such a text. What the program puts out is kept, so
+/// that memory grows by it. Each count is a machine of its own.
 pub fn state_windows<W: Write>(
     alloc: Global,
     windows: u32,

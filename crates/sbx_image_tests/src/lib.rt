@@ -1,5 +1,6 @@
-//! The image format on its worked images, its bounds, and parts that break one rule; and images that come in pieces: each cut, each size
-//! of piece, and each fault at the byte where it is told. Tests whose expected values come from the format's tables.
+//! The image format on its worked images, its bounds, and parts that break one rule; and images that come in pieces:
+//! each cut, each size of piece, and each fault at the byte where it is told. Tests whose expected values come from the
+//! format's tables.
 #![tactic(auto)]
 
 pub mod examples;

@@ -70,7 +70,8 @@ fn broken(at: usize, byte: u8, fault: ImageFault, told: usize) -> Row {
     }
 }
 
-/// The byte at which a fault is told where bytes are fed one by one, one of them changed, and the fault, if the next piece gets it too.
+/// The byte at which a fault is told where bytes are fed one by one, one of them changed, and the fault, if the next
+/// piece gets it too.
 fn told_of(alloc: Global, bytes: &[u8], row: &Row) -> Option<(usize, ImageFault)> {
     let mut reader = ImageReader::new(alloc);
     for i in 0..bytes.len() {
@@ -255,7 +256,8 @@ fn greatest(alloc: Global, header: &[u8]) -> Result<Vec<u8>, AllocError> {
     Ok(bytes)
 }
 
-/// Whether a greatest front is read by pieces of a size, and spells its bytes again; where a growth was refused, the answer says so.
+/// Whether a greatest front is read by pieces of a size, and spells its bytes again; where a growth was refused, the
+/// answer says so.
 fn is_greatest_read(alloc: Global, header: &[u8], size: usize) -> bool {
     let Ok(bytes) = greatest(alloc, header) else {
         return true;

@@ -391,9 +391,10 @@ static SMALL: [Small; 17] = [
     (0, BAD, 0, 2, false, Some(ImageFault::Range)), // of the first cell, before the second's location
 ];
 
-/// Parts of one word and one function of one block: their version, services, the bytes of each region and whether it may be written, how
-/// many params of a range, the frame, how many cells of that range at the registers from 1 up, or down to 1, and the depth. Then what they
-/// get: where the regions begin, if that is told, and the fault; none where they are an image.
+/// Parts of one word and one function of one block: their version, services, the bytes of each region and whether it
+/// may be written, how many params of a range, the frame, how many cells of that range at the registers from 1 up, or
+/// down to 1, and the depth. Then what they get: where the regions begin, if that is told, and the fault; none where
+/// they are an image.
 #[derive(Clone, Copy)]
 struct Made {
     version: u16,
@@ -632,7 +633,8 @@ fn is_one_region(regions: &[Region], bytes: &[u8]) -> bool {
     }
 }
 
-/// From an address up to but not at another one, and whether the data of `CALLS` have all of it, as readers and as writers ask.
+/// From an address up to but not at another one, and whether the data of `CALLS` have all of it, as readers and as
+/// writers ask.
 const HELD: [(i64, i64, bool); 10] = [
     (0x80000, 0x80008, true),
     (0x80000, 0x80001, true),
@@ -762,7 +764,8 @@ fn parts_of_data(rt: HostRuntime) {
     }
 }
 
-/// Sizes of regions, and the addresses where they begin: the first with the data, each next one behind the last page before it.
+/// Sizes of regions, and the addresses where they begin: the first with the data, each next one behind the last page
+/// before it.
 type Start = (&'static [(usize, bool)], &'static [u32]);
 
 static STARTS: [Start; 5] = [

@@ -37,8 +37,8 @@ pub record IsAfter (parts : Parts) (s t : Sight) : Type 0 where
   pub courses : t.courses ≡ s.courses
   pub ways : ways_seen t ≡ arrivals_at parts s.spot.function s.spot.block s.spot.number
 
--- Why nothing is known: the image has no such function, or no word of it stands at the address, or there was no memory for what is
--- known at the word.
+-- Why nothing is known: the image has no such function, or no word of it stands at the address, or there was no memory
+-- for what is known at the word.
 abbrev pub IsReason : Parts → ℕ → ℕ → NotKnown → Type 0
 IsReason parts f address NoFunction = length parts.functions ≤ f
 IsReason parts f address NoWord = (f < length parts.functions) × HasNone parts f address

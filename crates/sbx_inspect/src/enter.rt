@@ -16,7 +16,8 @@ use v8_meaning::Operation;
 /// What is known goes on to after a word.
 fn pass(image: &Image, spot: &Spot, state: &mut State)
     requires { IsSpot image.now spot.now }
-    ensures { known state.new ≡ after_word image.now spot.now.function spot.now.block spot.now.number (known state.old) }
+    ensures { known state.new ≡
+        after_word image.now spot.now.function spot.now.block spot.now.number (known state.old) }
 {
     let frame = function_at(image, spot.function).frame;
     state.perform(frame, &spot.operation);
@@ -32,15 +33,17 @@ fn is_branch(operation: &Operation) -> bool
 /// What is known goes on to after a word, but not past a branch in whose slot it is to end.
 fn pass_to_slot(image: &Image, spot: &Spot, is_last: bool, state: &mut State)
     requires { IsSpot image.now spot.now }
-    ensures { known state.new ≡ (if is_last && is_branch spot.now.operation then known state.old else after_word image.now spot.now.function spot.now.block spot.now.number (known state.old)) }
+    ensures { known state.new ≡
+        (if is_last && is_branch spot.now.operation then known state.old
+        else after_word image.now spot.now.function spot.now.block spot.now.number (known state.old)) }
 {
     if !(is_last && is_branch(&spot.operation)) {
         pass(image, spot, state);
     }
 }
 
-/// A word of a block, by the numbers of function, block and word; the turns of its block's words up to its own end; and in the
-/// state what its ways begin with.
+/// A word of a block, by the numbers of function, block and word; the turns of its block's words up to its own end; and
+/// in the state what its ways begin with.
 pub fn enter(
     image: &Image,
     function: usize,

@@ -21,7 +21,8 @@ fn begun(blocks: &[Block], address: u32) -> usize
 pub fn find_word(image: &Image, function: usize, address: u32) -> Option<(usize, usize)>
     requires keeps { parts_keep image.now ≡ Ok tt }
     requires function { function < length image.now.functions }
-    ensures { MatchOption result (HasNone image.now function address) (λ place. IsAt image.now function address place.0 place.1) }
+    ensures { MatchOption result (HasNone image.now function address)
+        (λ place. IsAt image.now function address place.0 place.1) }
 {
     let count = begun(function_at(image, function).blocks.as_slice(), address);
     if count == 0 {

@@ -49,7 +49,8 @@ fn sight_of(
     requires keeps { parts_keep image.now ≡ Ok tt }
     requires place { IsPlace image.now function block number }
     ensures seen { IfOk result (λ sight. IsSeen image.now sight) }
-    ensures place { IfOk result (λ sight. (sight.spot.function ≡ function) × (sight.spot.block ≡ block) × (sight.spot.number ≡ number)) }
+    ensures place { IfOk result (λ sight. (sight.spot.function ≡ function) × (sight.spot.block ≡ block)
+        × (sight.spot.number ≡ number)) }
 {
     let mut first = State::new(alloc)?;
     let mut second = State::new(alloc)?;
@@ -64,8 +65,8 @@ fn sight_of(
     })
 }
 
-/// What the rules know at the word of a function, by its number, that stands at an address in bytes: the ways on which the
-/// word runs, with what is known before it on each. The rules that the image breaks elsewhere don't matter.
+/// What the rules know at the word of a function, by its number, that stands at an address in bytes: the ways on which
+/// the word runs, with what is known before it on each. The rules that the image breaks elsewhere don't matter.
 #[tactic(auto, using(crate::proofs::Seeing::is_known))]
 pub fn known_at(
     alloc: Global,
@@ -75,7 +76,8 @@ pub fn known_at(
 ) -> Result<Sight, NotKnown>
     ensures known { IfOk result (λ sight. KnownAt image.now function address (ways_seen sight)) }
     ensures seen { IfOk result (λ sight. IsSeen image.now sight) }
-    ensures place { IfOk result (λ sight. (sight.spot.function ≡ function) × (address ≡ address_of image.now function sight.spot.block sight.spot.number)) }
+    ensures place { IfOk result (λ sight. (sight.spot.function ≡ function)
+        × (address ≡ address_of image.now function sight.spot.block sight.spot.number)) }
     ensures not_known { IfErr result (λ reason. IsReason image.now function address reason) }
 {
     image.keeps_its_format();
@@ -92,8 +94,8 @@ pub fn known_at(
     }
 }
 
-/// The same word and ways, with what is known after the word on each, where control leaves it: a call that the word ends has
-/// had its effect.
+/// The same word and ways, with what is known after the word on each, where control leaves it: a call that the word
+/// ends has had its effect.
 pub fn after(image: &Image, sight: Sight) -> Sight
     requires { IsSeen image.now sight }
     ensures { IsAfter image.now sight result }

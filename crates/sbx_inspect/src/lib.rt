@@ -1,5 +1,5 @@
-//! What a program needs that explains a refusal: what the rules know at a word, and the two sides of what fuel, stack room and call depth are asked
-//! for.
+//! What a program needs that explains a refusal: what the rules know at a word, and the two sides of what fuel, stack
+//! room and call depth are asked for.
 #![tactic(auto)]
 
 mod enter;

@@ -24,8 +24,8 @@ pub struct Fuel {
     pub terms: ArrayVec<FormTerm, 8>,
 }
 
-/// What fuel is asked for at a word: the fuel of its block has to be at least the weight, and on a way that leads to a block the
-/// weight and that block's fuel.
+/// What fuel is asked for at a word: the fuel of its block has to be at least the weight, and on a way that leads to a
+/// block the weight and that block's fuel.
 #[derive(Drop)]
 pub struct FuelSides {
     /// Of the word's own block, over the numbers with which that begins.
@@ -94,7 +94,8 @@ fn next_fuel(image: &Image, function: usize, course: Option<Course>) -> Option<F
 pub fn fuel_sides(image: &Image, sight: &Sight) -> FuelSides
     requires { IsSeen image.now sight.now }
     ensures fuel { form_of result.fuel ≡ fuel_at image.now sight.now.spot.function sight.now.spot.block }
-    ensures weight { result.weight ≡ weight_to image.now sight.now.spot.function sight.now.spot.block (suc sight.now.spot.number) }
+    ensures weight { result.weight ≡
+        weight_to image.now sight.now.spot.function sight.now.spot.block (suc sight.now.spot.number) }
     ensures first { IsNextFuel image.now sight.now.spot.function sight.now.courses.first result.first }
     ensures second { IsNextFuel image.now sight.now.spot.function sight.now.courses.second result.second }
 {
@@ -133,8 +134,8 @@ pub fn entry_room(image: &Image, sight: &Sight) -> RoomSides
     }
 }
 
-/// The sides of the rule of stack room at the entry of function 0, where a word's function is that: the stack against the
-/// function's room and 64 bytes.
+/// The sides of the rule of stack room at the entry of function 0, where a word's function is that: the stack against
+/// the function's room and 64 bytes.
 pub fn stack_room(image: &Image, sight: &Sight) -> RoomSides
     requires { IsSeen image.now sight.now }
     ensures room { result.room ≡ 4096 * image.now.stack_pages }
@@ -163,7 +164,8 @@ fn room_of_callee(image: &Image, spot: &Spot) -> u32
     }
 }
 
-/// The sides of the rule of stack room at a word that calls: its function's room against the frame and the callee's room.
+/// The sides of the rule of stack room at a word that calls: its function's room against the frame and the callee's
+/// room.
 pub fn call_room(image: &Image, sight: &Sight) -> RoomSides
     requires { IsSeen image.now sight.now }
     ensures room { result.room ≡ (function_at image.now sight.now.spot.function).stack_room }
@@ -203,11 +205,13 @@ fn depth_for(image: &Image, spot: &Spot) -> u32
     }
 }
 
-/// The sides of the rule of call depth at a word that calls: what its function declares against 1 more than the callee does.
+/// The sides of the rule of call depth at a word that calls: what its function declares against 1 more than the callee
+/// does.
 pub fn call_depth(image: &Image, sight: &Sight) -> DepthSides
     requires { IsSeen image.now sight.now }
     ensures depth { result.depth ≡ (function_at image.now sight.now.spot.function).depth }
-    ensures needed { result.needed ≡ depth_for image.now (callee_at image.now sight.now.spot.function sight.now.spot.block sight.now.spot.number) }
+    ensures needed { result.needed ≡
+        depth_for image.now (callee_at image.now sight.now.spot.function sight.now.spot.block sight.now.spot.number) }
 {
     let function = function_at(image, sight.spot.function);
     DepthSides {

@@ -4,8 +4,8 @@ ghost use Rattle.std.specs.Option.{SomeIff};
 
 use std::marker::Model;
 
-/// A count of register windows that a board can have, 4 to 32 (The SPARC Architecture Manual Version 8, chapter 4, leaves it to
-/// the implementation). Contracts see the number.
+/// A count of register windows that a board can have, 4 to 32 (The SPARC Architecture Manual Version 8, chapter 4,
+/// leaves it to the implementation). Contracts see the number.
 #[derive(Clone, Copy, PartialEq, Eq)]
 pub struct Windows {
     count: u32,

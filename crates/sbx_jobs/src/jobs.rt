@@ -56,7 +56,8 @@ const TURNS: u64 = 100_000;
 
 /// The limit of turns that a text gives: decimal digits alone, up to the most. Without a text it is 100,000.
 pub fn turns(text: Option<&str>) -> Option<u64>
-    ensures given { IfSome text.entry (λ text. SomeIff result (IsNumeral 10 text.now × (digits_value 10 text.now ≤ 9999999999))
+    ensures given { IfSome text.entry
+        (λ text. SomeIff result (IsNumeral 10 text.now × (digits_value 10 text.now ≤ 9999999999))
         (digits_value 10 text.now)) }
     ensures left_out { text.entry ≡ None → result ≡ Some 100000 }
     ensures range { IfSome result (λ limit. limit ≤ 9999999999) }

@@ -52,8 +52,10 @@ module _ (parts : Parts) (f b i : ℕ) (well : has_bad_shape parts f b i ≡ fal
 
   slots : ((is_transfer before && (is_transfer op || is_trap op)) ≡ false) × ((is_transfer before && not (is_call before) && not (is_last parts f b i)) ≡ false)
   slots = denied
-      ((is_entry b i && not (enters_well function op)) || (is_save op && not (is_entry b i && is_framed function.kind)) || not (same_test (is_framed_return before) (is_restore op)) || not (suits function.kind op))
-      (is_transfer before && (is_transfer op || is_trap op)) (is_transfer op && is_last parts f b i) (is_transfer before && not (is_call before) && not (is_last parts f b i)) (ends_run op && not (is_last parts f b i)) well
+      ((is_entry b i && not (enters_well function op)) || (is_save op && not (is_entry b i && is_framed function.kind))
+      || not (same_test (is_framed_return before) (is_restore op)) || not (suits function.kind op))
+      (is_transfer before && (is_transfer op || is_trap op)) (is_transfer op && is_last parts f b i)
+      (is_transfer before && not (is_call before) && not (is_last parts f b i)) (ends_run op && not (is_last parts f b i)) well
 
   alone : (s t u : Bool) → (s && (t || u)) ≡ false → t ≡ true → s ≡ false
   alone false t u k e = refl
@@ -178,7 +180,8 @@ module _ (parts : Parts) (f b i : ℕ) where
         for_straight : is_branch (op_before parts f b i) ≡ false → arrivals_at parts f b i ≡ listed cs d2 e1
         for_straight is =
             let s = straight is in
-            subst (λ (c : Courses). visits_at parts f b i ≡ listed c d e → d1 ≡ (if runs c.first then done d else d) → arrivals_at parts f b i ≡ listed c d2 e1) (sym s.only) (for_one s.going) visits first
+            subst (λ (c : Courses). visits_at parts f b i ≡ listed c d e → d1 ≡ (if runs c.first then done d else d) →
+            arrivals_at parts f b i ≡ listed c d2 e1) (sym s.only) (for_one s.going) visits first
 
         by_test : (t : Bool) → is_branch (op_before parts f b i) ≡ t → arrivals_at parts f b i ≡ listed cs d2 e1
         by_test true is = for_slot is
@@ -205,7 +208,8 @@ module _ (parts : Parts) (f b i : ℕ) where
         last true = refl
         last false = refl
 
-        for_one : (going : Going) → visits_at parts f b i ≡ listed (one_way going) d e → d1 ≡ done d → list_any (misses_params parts f b i) (visits_at parts f b i) ≡ missing (callee_before parts f b i) d1
+        for_one : (going : Going) → visits_at parts f b i ≡ listed (one_way going) d e → d1 ≡ done d →
+            list_any (misses_params parts f b i) (visits_at parts f b i) ≡ missing (callee_before parts f b i) d1
         for_one going v k =
             ap (list_any (misses_params parts f b i)) v ∙ last (missing (callee_before parts f b i) (done d))
             ∙ ap (missing (callee_before parts f b i)) (sym k)
@@ -213,7 +217,9 @@ module _ (parts : Parts) (f b i : ℕ) where
         for_straight : is_branch (op_before parts f b i) ≡ false → list_any (misses_params parts f b i) (visits_at parts f b i) ≡ missing (callee_before parts f b i) d1
         for_straight is =
             let s = straight is in
-            subst (λ (c : Courses). visits_at parts f b i ≡ listed c d e → d1 ≡ (if runs c.first then done d else d) → list_any (misses_params parts f b i) (visits_at parts f b i) ≡ missing (callee_before parts f b i) d1) (sym s.only) (for_one s.going) visits first
+            subst (λ (c : Courses). visits_at parts f b i ≡ listed c d e → d1 ≡ (if runs c.first then done d else d) →
+            list_any (misses_params parts f b i) (visits_at parts f b i) ≡ missing (callee_before parts f b i) d1) (sym s.only)
+            (for_one s.going) visits first
 
         by_test : (t : Bool) → is_branch (op_before parts f b i) ≡ t → list_any (misses_params parts f b i) (visits_at parts f b i) ≡ missing (callee_before parts f b i) d1
         by_test true is = for_slot is

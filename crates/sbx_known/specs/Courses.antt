@@ -1,5 +1,7 @@
--- The ways on which a word runs, as the pass keeps them: two at most, what is known on each standing in a state of its own.
-use Rattle.std.specs.Prelude.{◌≡◌, ℕ, ◌<◌, Bool, true, false, not, List, [], ◌∷◌, ◌++◌, length, map, Option, Some, None, IfSome}
+-- The ways on which a word runs, as the pass keeps them: two at most, what is known on each standing in a state of its
+-- own.
+use Rattle.std.specs.Prelude.{◌≡◌, ℕ, ◌<◌, Bool, true, false, not, List, [], ◌∷◌, ◌++◌, length, map, Option, Some, None}
+use Rattle.std.specs.Prelude.{IfSome}
 use Rattle.v8_meaning.specs.declared.operation.Operation.{Operation}
 use Rattle.v8_meaning.specs.declared.operation.Operation.TheVariants.{BranchOnCondition}
 use Rattle.sbx_image.specs.Parts.{Parts}

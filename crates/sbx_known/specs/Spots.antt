@@ -27,8 +27,10 @@ pub record IsSpot (parts : Parts) (s : Spot) : Type 0 where
   pub callee_is : IfSome s.callee (λ g. g < length parts.functions)
   pub called_is : IfSome s.called (λ g. g < length parts.functions)
 
--- The ways of a word, by what stands before it, where d is known before the word: a branch's slot goes on where the branch does.
+-- The ways of a word, by what stands before it, where d is known before the word: a branch's slot goes on where the
+-- branch does.
 abbrev pub visits_from : Parts → ℕ → ℕ → ℕ → Operation → Known → List Visit
-visits_from parts f b i (BranchOnCondition c) d = taken_visit c (branch_way parts f b (i - 1) c.displacement) d ++ untaken_visit c (falls parts f b i) d
+visits_from parts f b i (BranchOnCondition c) d =
+    taken_visit c (branch_way parts f b (i - 1) c.displacement) d ++ untaken_visit c (falls parts f b i) d
 visits_from parts f b i (JumpAndLink j) d = plain_visit d Back
 visits_from parts f b i _ d = plain_visit d (falls parts f b i)

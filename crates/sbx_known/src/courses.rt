@@ -9,7 +9,8 @@ ghost use Rattle.sbx_image.specs.Order.{function_at};
 ghost use Rattle.sbx_rules.specs.Places.{IsPlace};
 ghost use Rattle.sbx_rules.specs.Rules.{is_back, is_inner_edge, is_past};
 ghost use Rattle.sbx_rules.specs.Ways.{Way, branch_way, falls, taken_visit, untaken_visit};
-ghost use Rattle.sbx_known.specs.Courses.{AreWell, IsStraight, IsWell, is_any, is_branch, listed, runs, visits_of, way_of};
+ghost use Rattle.sbx_known.specs.Courses.{AreWell, IsStraight, IsWell, is_any, is_branch, listed, runs, visits_of};
+ghost use Rattle.sbx_known.specs.Courses.{way_of};
 ghost use Rattle.sbx_known.specs.Spots.{IsSpot, visits_from};
 
 use crate::places::{address_of, find_block, function_at};
@@ -45,8 +46,8 @@ pub struct Course {
     pub annulled: bool,
 }
 
-/// The ways on which a word runs: one, or in a branch's slot those of its two edges that can be taken. What is known on the first
-/// stands in one state, what is known on the second in another.
+/// The ways on which a word runs: one, or in a branch's slot those of its two edges that can be taken. What is known on
+/// the first stands in one state, what is known on the second in another.
 #[derive(Clone, Copy)]
 pub struct Courses {
     pub first: Option<Course>,
@@ -176,7 +177,10 @@ pub fn branch_way(
 fn taken(image: &Image, spot: &Spot, branch: &Branch, state: &mut State) -> Option<Course>
     requires spot { IsSpot image.now spot.now }
     requires branch { spot.now.before ≡ BranchOnCondition branch.now }
-    ensures visits { visits_of result (known state.new) ≡ taken_visit branch.now (branch_way image.now spot.now.function spot.now.block (spot.now.number - 1) branch.now.displacement) (known state.old) }
+    ensures visits { visits_of result (known state.new) ≡
+        taken_visit branch.now
+        (branch_way image.now spot.now.function spot.now.block (spot.now.number - 1) branch.now.displacement)
+        (known state.old) }
     ensures well { IfSome result (λ c. IsWell image.now spot.now.function c.going) }
 {
     if state.refine(branch.cond) {
@@ -196,10 +200,12 @@ fn taken(image: &Image, spot: &Spot, branch: &Branch, state: &mut State) -> Opti
     }
 }
 
-/// The edge of a branch before a word where it isn't taken, if it is one that needn't be and what is known lets it not be.
+/// The edge of a branch before a word where it isn't taken, if it is one that needn't be and what is known lets it not
+/// be.
 fn untaken(image: &Image, spot: &Spot, branch: &Branch, state: &mut State) -> Option<Course>
     requires { IsSpot image.now spot.now }
-    ensures visits { visits_of result (known state.new) ≡ untaken_visit branch.now (falls image.now spot.now.function spot.now.block spot.now.number) (known state.old) }
+    ensures visits { visits_of result (known state.new) ≡
+        untaken_visit branch.now (falls image.now spot.now.function spot.now.block spot.now.number) (known state.old) }
     ensures well { IfSome result (λ c. IsWell image.now spot.now.function c.going) }
 {
     if !is_always(branch.cond) && state.refine(opposite(branch.cond)) {
@@ -214,7 +220,8 @@ fn untaken(image: &Image, spot: &Spot, branch: &Branch, state: &mut State) -> Op
 
 /// Copies what is known before a branch for its untaken edge, if it has one.
 fn copy_for(branch: &Branch, here: &State, other: &mut State)
-    ensures { (way : Way) → untaken_visit branch.now way (known other.new) ≡ untaken_visit branch.now way (known here.now) }
+    ensures { (way : Way) →
+        untaken_visit branch.now way (known other.new) ≡ untaken_visit branch.now way (known here.now) }
 {
     if !is_always(branch.cond) {
         here.copy_to(other);
@@ -235,11 +242,12 @@ fn only(going: Going) -> Courses
     }
 }
 
-/// The ways on which a word runs, where the one state is what is known before it. In a branch's slot it is refined for the taken
-/// edge, and the other state for the untaken one.
+/// The ways on which a word runs, where the one state is what is known before it. In a branch's slot it is refined for
+/// the taken edge, and the other state for the untaken one.
 pub fn courses_of(image: &Image, spot: &Spot, here: &mut State, other: &mut State) -> Courses
     requires { IsSpot image.now spot.now }
-    ensures visits { visits_from image.now spot.now.function spot.now.block spot.now.number spot.now.before (known here.old) ≡ listed result (known here.new) (known other.new) }
+    ensures visits { visits_from image.now spot.now.function spot.now.block spot.now.number spot.now.before
+        (known here.old) ≡ listed result (known here.new) (known other.new) }
     ensures well { AreWell image.now spot.now.function result }
     ensures straight { is_branch spot.now.before ≡ false → IsStraight result }
     ensures same { is_branch spot.now.before ≡ false → here.new ≡ here.old }

@@ -23,8 +23,8 @@ fn perform_if(runs: bool, frame: u32, operation: &Operation, state: &mut State)
     }
 }
 
-/// What a word does on its ways, where it isn't annulled: each state goes on to what is known then. A call that the word ends
-/// has no effect yet.
+/// What a word does on its ways, where it isn't annulled: each state goes on to what is known then. A call that the
+/// word ends has no effect yet.
 pub fn perform_on(
     image: &Image,
     spot: &Spot,
@@ -33,8 +33,12 @@ pub fn perform_on(
     other: &mut State,
 )
     requires { IsSpot image.now spot.now }
-    ensures first { known here.new ≡ (if runs courses.now.first then transferred (function_at image.now spot.now.function).frame spot.now.operation (known here.old) else known here.old) }
-    ensures second { known other.new ≡ (if runs courses.now.second then transferred (function_at image.now spot.now.function).frame spot.now.operation (known other.old) else known other.old) }
+    ensures first { known here.new ≡
+        (if runs courses.now.first then transferred (function_at image.now spot.now.function).frame spot.now.operation
+        (known here.old) else known here.old) }
+    ensures second { known other.new ≡
+        (if runs courses.now.second then transferred (function_at image.now spot.now.function).frame spot.now.operation
+        (known other.old) else known other.old) }
 {
     let frame = function_at(image, spot.function).frame;
     perform_if(runs(courses.first), frame, &spot.operation, here);

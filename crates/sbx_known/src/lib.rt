@@ -1,4 +1,5 @@
-//! What the rules know at a word: the places of the code, the ways on which each word runs, and what is known before and after it.
+//! What the rules know at a word: the places of the code, the ways on which each word runs, and what is known before
+//! and after it.
 #![tactic(auto)]
 
 mod courses;

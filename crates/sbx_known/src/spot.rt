@@ -30,7 +30,8 @@ pub struct Spot {
     pub called: Option<usize>,
 }
 
-/// A word of a block of so many words, where this is what the word before it asks for and which function that has called.
+/// A word of a block of so many words, where this is what the word before it asks for and which function that has
+/// called.
 #[tactic(auto, unfolding(sbx_rules::specs::Places::callee_at))]
 pub fn spot_at(
     image: &Image,

@@ -1,4 +1,5 @@
--- The fault status of the reference MMU (appendix H): the level in bits 9:8, the access type in 7:5, the fault type in 4:2.
+-- The fault status of the reference MMU (appendix H): the level in bits 9:8, the access type in 7:5, the fault type in
+-- 4:2.
 use Rattle.std.specs.Prelude.{ℕ, ◌==◌, if◌then◌else◌, List, ◌++◌, codes}
 use Rattle.std.specs.Fmt.{decimal}
 use Rattle.v8_word.specs.Word.{bits_of}
@@ -31,7 +32,10 @@ error_text f =
 -- a status that isn't 0: the fault, the level of the entry that ended the walk, and the access
 abbrev pub fault_text : ℕ → List ℕ
 fault_text s =
-    word_text s ++ (codes ": " ++ (error_text (bits_of s 2 3) ++ (codes " at level " ++ (decimal (bits_of s 8 2) ++ (codes ", " ++ access_text (bits_of s 5 3))))))
+    word_text s ++
+    (codes ": " ++
+    (error_text (bits_of s 2 3)
+    ++ (codes " at level " ++ (decimal (bits_of s 8 2) ++ (codes ", " ++ access_text (bits_of s 5 3))))))
 
 abbrev pub status_text : ℕ → List ℕ
 status_text s = if s == 0 then codes "none" else fault_text s

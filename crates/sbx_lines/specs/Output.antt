@@ -6,7 +6,8 @@ use Rattle.sbx_lines.specs.Words.{byte_text}
 abbrev pub line_end : List ℕ
 line_end = 10 ∷ []
 
--- a byte: a graphic character or a blank as it is, a backslash doubled, a line feed as \n, any other by two hexadecimal digits
+-- a byte: a graphic character or a blank as it is, a backslash doubled, a line feed as \n, any other by two hexadecimal
+-- digits
 abbrev pub glyph : ℕ → List ℕ
 glyph b =
     if b == 10 then codes "\\n"

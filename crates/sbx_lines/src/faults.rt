@@ -5,7 +5,8 @@ ghost use Rattle.sbx_lines.specs.Faults.{access_text, error_text, status_text};
 use std::fmt::{self, Display, Formatter, Write};
 use v8_word::bits_of;
 
-/// A fault status of the reference MMU in words (appendix H): `0000038A: protection at level 3, store to user data`, or `none`.
+/// A fault status of the reference MMU in words (appendix H): `0000038A: protection at level 3, store to user data`, or
+/// `none`.
 #[derive(Clone, Copy)]
 pub struct FaultStatus(pub u32);
 

@@ -18,7 +18,8 @@ fn mark(referenced: u64, modified: u64, page: u32) -> &'static str
     }
 }
 
-/// The marks of the 64 pages of a table: `M` of a page that was modified, `R` of one that was referenced alone, else a dot.
+/// The marks of the 64 pages of a table: `M` of a page that was modified, `R` of one that was referenced alone, else a
+/// dot.
 pub fn push_marks(out: &mut String, referenced: u64, modified: u64) -> Result<(), AllocError>
     ensures { OnOk result (string_bytes out.new ≡ string_bytes out.old ++ marks_text referenced modified 64) }
 {

@@ -58,8 +58,8 @@ fn push_lines(out: &mut String, bytes: &[u8]) -> Result<(), AllocError>
     out.push_str(if place == 0 { "" } else { "\n" })
 }
 
-/// How many bytes there are, and their lines: graphic characters and blanks as they are, a backslash doubled, a line feed as `\n`,
-/// any other byte as `\xHH`. A line ends behind a line feed, and behind 24 bytes.
+/// How many bytes there are, and their lines: graphic characters and blanks as they are, a backslash doubled, a line
+/// feed as `\n`, any other byte as `\xHH`. A line ends behind a line feed, and behind 24 bytes.
 pub fn push_output(out: &mut String, bytes: &[u8]) -> Result<(), AllocError>
     ensures { OnOk result (string_bytes out.new ≡ string_bytes out.old ++ output_text bytes.now) }
 {

@@ -83,8 +83,8 @@ fn put_line<O: Write>(address: u32, word: u32, out: &mut O) -> io::Result<()>
     put_all(out, line.as_slice())
 }
 
-/// Writes the line of each word of code, through to the end: its address, the word and the text of the instruction that it means. Where
-/// the writer fails it has the first bytes of the listing.
+/// Writes the line of each word of code, through to the end: its address, the word and the text of the instruction that
+/// it means. Where the writer fails it has the first bytes of the listing.
 pub fn put_listing<O: Write>(words: &[u32], out: &mut O) -> io::Result<()>
     requires { length words.now ≤ 65536 }
     ensures whole { OnOk result (Appends (O.contents out.old) (O.contents out.new) (listing CODE_START words.now)) }

@@ -24,7 +24,8 @@ control_of c = record (started_with c.y) { pc = c.pc; npc = c.npc; base = trap_b
 
 -- and WIM, of a processor with these registers, and PSR with its window
 abbrev pub with_control : (n : ℕ) → Windows → Said → Cpu n
-with_control n regs c = with_psr n (record { regs = record regs { mask = c.wim % 2 ^ n }; control = control_of c }) c.psr
+with_control n regs c =
+    with_psr n (record { regs = record regs { mask = c.wim % 2 ^ n }; control = control_of c }) c.psr
 
 -- the processor that a start sets: registers that it doesn't name are 0
 abbrev pub started : (n : ℕ) → Start → Cpu n

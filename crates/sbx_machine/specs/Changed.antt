@@ -18,4 +18,5 @@ change_text place (Some before) (Some word) =
 -- the same of the first words, so many
 unfoldable pub changes_text : List ℕ → List ℕ → ℕ → List ℕ
 changes_text first now zero = []
-changes_text first now (suc k) = changes_text first now k ++ change_text (4 * k) (entry_of first (4 * k)) (entry_of now (4 * k))
+changes_text first now (suc k) =
+    changes_text first now k ++ change_text (4 * k) (entry_of first (4 * k)) (entry_of now (4 * k))

@@ -13,11 +13,13 @@ use Rattle.sbx_image_states.specs.Told.{nothing_told}
 use Rattle.sbx_machine.specs.Bare.{IsMmuOf, started}
 use Rattle.sbx_machine.specs.Changed.{WORDS, changes_text}
 
--- where a machine of n windows starts: with the processor and the RAM of the start, and a device that has no input to give
+-- where a machine of n windows starts: with the processor and the RAM of the start, and a device that has no input to
+-- give
 abbrev pub start_of : (n : ℕ) → Start → World n Device
 start_of n s = world n (started n s) s.ram.items (seen [] false [] None)
 
--- The text tells the states of a run from the start, of at most so many turns, and then the words of RAM that it changed.
+-- The text tells the states of a run from the start, of at most so many turns, and then the words of RAM that it
+-- changed.
 pub record IsTold (n : ℕ) (s : Start) (limit : ℕ) (text : List ℕ) : Type 0 where
   pub mmu : MmuRegs
   pub regs : IsMmuOf s mmu
@@ -33,7 +35,8 @@ BeginsLines n s limit bytes =
 
 -- the bytes are none, or the first ones of the states' lines, or of such a text
 abbrev pub BeginsTold : (n : ℕ) → Start → ℕ → List ℕ → Type 0
-BeginsTold n s limit bytes = (bytes ≡ []) ⊎ BeginsLines n s limit bytes ⊎ ((text : List ℕ) × IsTold n s limit text × Begins bytes text)
+BeginsTold n s limit bytes = (bytes ≡ []) ⊎ BeginsLines n s limit bytes
+    ⊎ ((text : List ℕ) × IsTold n s limit text × Begins bytes text)
 
 -- memory was refused, or the writer failed
 abbrev pub IsOwnFault : RunFault → Type 0

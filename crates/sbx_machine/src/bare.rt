@@ -46,7 +46,8 @@ pub fn memory_of<'a>(alloc: Global, ram: &'a [u8]) -> Result<Memory<SlicePort<'a
     }
 }
 
-/// Writes a register in its window, where there is that window. Of PSR the window is left alone that is, and the rest may be lost.
+/// Writes a register in its window, where there is that window. Of PSR the window is left alone that is, and the rest
+/// may be lost.
 fn set_register<const N: usize, B: Bus>(machine: &mut Machine<N, B>, register: &Register)
     ensures registers { machine.new.cpu.regs ≡ with_register N machine.old.cpu.regs register.now }
     ensures rest { SameRest machine.old.cpu.control machine.new.cpu.control }

@@ -1,5 +1,5 @@
-//! A machine of one's own, with no board: it runs from a start, and its states are told line by line, and then the words of RAM that it
-//! changed.
+//! A machine of one's own, with no board: it runs from a start, and its states are told line by line, and then the
+//! words of RAM that it changed.
 #![tactic(auto)]
 
 mod bare;

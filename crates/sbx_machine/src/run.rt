@@ -25,8 +25,10 @@ fn tell_changes<B: Bus, W: Write>(
     now: &B,
     out: &mut W,
 ) -> Result<(), RunFault>
-    ensures whole { OnOk result (Appends (W.contents out.old) (W.contents out.new) (changes_text (B.ram first.now) (B.ram now.now) WORDS)) }
-    ensures part { OnErr result (WroteSome (W.contents out.old) (W.contents out.new) (changes_text (B.ram first.now) (B.ram now.now) WORDS)) }
+    ensures whole { OnOk result
+        (Appends (W.contents out.old) (W.contents out.new) (changes_text (B.ram first.now) (B.ram now.now) WORDS)) }
+    ensures part { OnErr result
+        (WroteSome (W.contents out.old) (W.contents out.new) (changes_text (B.ram first.now) (B.ram now.now) WORDS)) }
     ensures fault { IfErr result IsOwnFault }
 {
     let mut text = String::new(alloc);
@@ -81,10 +83,11 @@ fn machine_on<const N: usize, W: Write>(
     own_run::<N, W>(alloc, start, limit, out)
 }
 
-/// Runs a machine of so many windows, 4 to 32, from a start, which isn't booted, until its device stops it or it is in error mode, but
-/// at most so many turns, and writes a line of its states before the first turn, one for each, and one behind the last, as
-/// `sbx_states::tell_states` does; then a line for each word of RAM that is another than the start says. The device is that of
-/// `v8_memory`, with no input to give. Where the writer fails, or memory is refused, it has the first bytes of such a text.
+/// Runs a machine of so many windows, 4 to 32, from a start, which isn't booted, until its device stops it or it is in
+/// error mode, but at most so many turns, and writes a line of its states before the first turn, one for each, and one
+/// behind the last, as `sbx_states::tell_states` does; then a line for each word of RAM that is another than the start
+/// says. The device is that of `v8_memory`, with no input to give. Where the writer fails, or memory is refused, it has
+/// the first bytes of such a text.
 pub fn machine_windows<W: Write>(
     alloc: Global,
     windows: u32,

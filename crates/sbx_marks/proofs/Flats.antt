@@ -33,7 +33,8 @@ callers_same (c ∷ cs) [] gs a b h k = absurd h
 callers_same (c ∷ cs) (f ∷ fs) [] a b h k = absurd k
 callers_same (c ∷ cs) (f ∷ fs) (g ∷ gs) a b h k = (h.0.base ∙ sym k.0.base, callers_same cs fs gs a b h.1 k.1)
 
-files_same : (window : Window) (known : ℕ → Bool) (at : ℕ) (words : Words) (calls : List Open) (a b : Registers) → ShowsFile window known at words calls a → ShowsFile window known at words calls b → SameBases (a.newest ∷ a.older) (b.newest ∷ b.older)
+files_same : (window : Window) (known : ℕ → Bool) (at : ℕ) (words : Words) (calls : List Open) (a b : Registers) → ShowsFile window known at words calls a →
+    ShowsFile window known at words calls b → SameBases (a.newest ∷ a.older) (b.newest ∷ b.older)
 files_same (Own n) known at words calls a b h k = (h.base_is ∙ sym k.base_is, callers_same calls a.older b.older a.oldest_ins b.oldest_ins h.calls_are k.calls_are)
 files_same Lent known at words calls a b h k = callers_same calls (a.newest ∷ a.older) (b.newest ∷ b.older) a.oldest_ins b.oldest_ins h.calls_are k.calls_are
 
@@ -69,7 +70,13 @@ module _ (parts : Parts) (formed : IsFormed parts) (checked : Checked parts) whe
   all = kept parts formed checked
 
   pub begin_beside : (input : List ℕ) (s t : State) → AreBytes input → IsStart parts input s → IsStart parts input t → Beside parts 0 s t
-  begin_beside input s t bytes a b = record { calm = calm_start parts input; first = begins parts input s bytes (rules parts formed checked) a; second = begins parts input t bytes (rules parts formed checked) b }
+  begin_beside input s t bytes a b =
+      record {
+        calm = calm_start parts input;
+        first = begins parts input s bytes (rules parts formed checked) a;
+        second =
+            begins parts input t bytes (rules parts formed checked) b;
+      }
 
   module _ (w : ℕ) (s t : State) (h : Beside parts w s t) where
     pub bound : w ≤ budget parts

@@ -26,7 +26,8 @@ start_entry n parts old new other after_it one two e less =
     ap (entry_of new) (sym place) ∙ one.tables (640 + e) (omega arith) ∙ sym (two.tables (640 + e) (omega arith)) ∙ ap (entry_of after_it) place
 
 -- a run's end is the state after so many turns, before which it was going and after which it has ended
-end_is : (n : ℕ) (parts : Parts) (input : List ℕ) (end : State n) (r : Ran n parts input end) (count : ℕ) → count ≤ budget parts → ((j : ℕ) → j < count → ending_of n (after board n r.start.mmu j r.start.world) ≡ None) →
+end_is : (n : ℕ) (parts : Parts) (input : List ℕ) (end : State n) (r : Ran n parts input end) (count : ℕ) → count ≤ budget parts →
+    ((j : ℕ) → j < count → ending_of n (after board n r.start.mmu j r.start.world) ≡ None) →
     (ending_of n (after board n r.start.mmu count r.start.world) ≡ None → ⊥) → end.world ≡ after board n r.start.mmu count r.start.world
 end_is n parts input end r count within going over =
     let world_at : (j : ℕ) → j ≤ count → (board_after n j r.start).world ≡ after board n r.start.mmu j r.start.world =
@@ -44,7 +45,8 @@ runs_use_the_same n parts input one other image formed checked bytes r q =
     let s = flat_start parts input (boot n r.made.world.cpu.regs) r.made.world.cpu.control.y in
     let t = flat_start parts input (boot n q.made.world.cpu.regs) q.made.world.cpu.control.y in
     let beside = begin_beside parts formed checked input s t bytes (is_flat_start n parts input r.made r.any) (is_flat_start n parts input q.made q.any) in
-    let both = both_end n parts formed checked image.fits r.start.mmu q.start.mmu (ap root_of r.loaded.mmu ∙ r.any.state.root) (ap root_of q.loaded.mmu ∙ q.any.state.root) a b r.start.world q.start.world s t 1 beside
+    let both = both_end n parts formed checked image.fits r.start.mmu q.start.mmu (ap root_of r.loaded.mmu ∙ r.any.state.root)
+    (ap root_of q.loaded.mmu ∙ q.any.state.root) a b r.start.world q.start.world s t 1 beside
     (start_shows n parts input r.made r.start image bytes r.any r.loaded) (start_shows n parts input q.made q.start image bytes q.any q.loaded)
     (start_entry n parts r.made.world.memory.ram r.start.world.memory.ram q.made.world.memory.ram q.start.world.memory.ram r.loaded.ram q.loaded.ram) in
     let within = both.within in

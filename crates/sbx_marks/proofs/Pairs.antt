@@ -75,7 +75,8 @@ after_more n mmu a (suc b) x =
     let e : a + suc b ≡ suc (a + b) = omega arith in
     ap (λ k. after board n mmu k x) e ∙ ap (λ (w : World n Device). after board n mmu 1 w) (after_more n mmu a b x)
 
-going_more : (n : ℕ) (mmu : MmuRegs) (a b : ℕ) (x : World n Device) → ((j : ℕ) → j < a → ending_of n (after board n mmu j x) ≡ None) → ((j : ℕ) → j < b → ending_of n (after board n mmu j (after board n mmu a x)) ≡ None) →
+going_more : (n : ℕ) (mmu : MmuRegs) (a b : ℕ) (x : World n Device) → ((j : ℕ) → j < a → ending_of n (after board n mmu j x) ≡ None) →
+    ((j : ℕ) → j < b → ending_of n (after board n mmu j (after board n mmu a x)) ≡ None) →
     (j : ℕ) → j < a + b → ending_of n (after board n mmu j x) ≡ None
 going_more n mmu a b x first second j less =
     let split : (j < a) ⊎ (a ≤ j) = search arith in
@@ -91,12 +92,15 @@ not_over e o a b = cc
 
 over_ends : (n : ℕ) (w : World n Device) (status : ℕ) → w.memory.device.stopped ≡ Some (stops.Exit status) → ending_of n w ≡ None → ⊥
 unfolding ending_of
-over_ends n w status stopped none = not_over _ (ending_by w.memory.device.stopped w.cpu.control.tt w.cpu.control.error) (ap (λ (k : Option Stop). ending_by k w.cpu.control.tt w.cpu.control.error) stopped) none
+over_ends n w status stopped none =
+    not_over _ (ending_by w.memory.device.stopped w.cpu.control.tt w.cpu.control.error)
+    (ap (λ (k : Option Stop). ending_by k w.cpu.control.tt w.cpu.control.error) stopped) none
 
 no_exit : (o : Option ℕ) (status : ℕ) → o ≡ None → o ≡ Some status → ⊥
 no_exit o status a b = cc
 
-module _ (n : ℕ) (parts : Parts) (formed : IsFormed parts) (checked : Checked parts) (fits : Fits parts) (mmu two : MmuRegs) (root : root_of mmu ≡ CONTEXT_TABLE) (root_two : root_of two ≡ CONTEXT_TABLE) (a b : List ℕ) where
+module _ (n : ℕ) (parts : Parts) (formed : IsFormed parts) (checked : Checked parts) (fits : Fits parts) (mmu two : MmuRegs)
+    (root : root_of mmu ≡ CONTEXT_TABLE) (root_two : root_of two ≡ CONTEXT_TABLE) (a b : List ℕ) where
   -- what the two boards show: flat states with what each had put out before
   abbrev First : World n Device → State → ℕ → Type 0
   First x s r = Shows n parts x (with_earlier a s) r
@@ -160,7 +164,9 @@ module _ (n : ℕ) (parts : Parts) (formed : IsFormed parts) (checked : Checked 
 
     module _ (i : ℕ) (h : Stands n parts mmu x (with_earlier a s) r i) (k : Stands n parts two y (with_earlier b t) r i) where
       heavy : (op : Operation) → AsksFor parts.words i op → weight_at parts (place_of parts s) ≡ weight_of op
-      heavy op is = ap (weight_at parts) (sym (earlier_place a parts s)) ∙ weight_at_word parts (with_earlier a s) (slice_index parts.words i) h.straight (here n parts mmu x (with_earlier a s) r i h) ∙ ap weight_of is
+      heavy op is =
+          ap (weight_at parts) (sym (earlier_place a parts s))
+          ∙ weight_at_word parts (with_earlier a s) (slice_index parts.words i) h.straight (here n parts mmu x (with_earlier a s) r i h) ∙ ap weight_of is
 
       reaches_same : (op : Operation) → AsksFor parts.words i op → flat_reach (with_earlier a s) op ≡ flat_reach (with_earlier b t) op
       reaches_same op is =
@@ -230,7 +236,8 @@ module _ (n : ℕ) (parts : Parts) (formed : IsFormed parts) (checked : Checked 
                   same = λ e less.
                       fill_marks n parts mmu x (with_earlier a s) i one good e less f is
                       ∙ ap (λ q. reached e q false (after_handler e q (base s.registers 1) false (entry_at x.memory.ram e))) pcs
-                      ∙ ap (λ q. reached e t.pc false (after_handler e t.pc q false (entry_at x.memory.ram e))) (same_bases parts formed checked w s t p.beside going 1 (caller_there n parts mmu x (with_earlier a s) i one good f is))
+                      ∙ ap (λ q. reached e t.pc false (after_handler e t.pc q false (entry_at x.memory.ram e)))
+                      (same_bases parts formed checked w s t p.beside going 1 (caller_there n parts mmu x (with_earlier a s) i one good f is))
                       ∙ ap (λ o. reached e t.pc false (after_handler e t.pc (base t.registers 1) false o)) (p.same e less)
                       ∙ sym (fill_marks n parts two y (with_earlier b t) i other good_too e less f is);
                 })
@@ -240,12 +247,25 @@ module _ (n : ℕ) (parts : Parts) (formed : IsFormed parts) (checked : Checked 
     by_word : s.annulled ≡ false → (o : Option ℕ) → word_at parts.words s.pc ≡ o → Stepped x y s t r
     unfolding turn
     by_word straight None e =
-        absurd (good (still, still_is_fresh, OutsideCode, ap (λ o. goes_on parts still (with_earlier a s) o s.annulled) going ∙ ap (goes_on parts still (with_earlier a s) None) straight ∙ ap (λ o. fetches parts still o (with_earlier a s)) e))
+        absurd (good (
+          still,
+          still_is_fresh,
+          OutsideCode,
+          ap (λ o. goes_on parts still (with_earlier a s) o s.annulled) going
+              ∙ ap (goes_on parts still (with_earlier a s) None) straight ∙ ap (λ o. fetches parts still o (with_earlier a s)) e,
+        ))
     by_word straight (Some word) e =
         let l = located parts.words s.pc word e in
         let h : Stands n parts mmu x (with_earlier a s) r l.index = record { fits = fits; root = root; shows = p.first; straight = straight; place = l.place; within = l.within } in
         let k : Stands n parts two y (with_earlier b t) r l.index =
-        record { fits = fits; root = root_two; shows = p.second; straight = sym (annul_of parts (with_earlier a s) (with_earlier b t) places) ∙ straight; place = sym pcs ∙ l.place; within = l.within } in
+        record {
+          fits = fits;
+          root = root_two;
+          shows = p.second;
+          straight = sym (annul_of parts (with_earlier a s) (with_earlier b t) places) ∙ straight;
+          place = sym pcs ∙ l.place;
+          within = l.within;
+        } in
         by_operation l.index h k (asked (slice_index parts.words l.index)) refl
 
     stepped : Stepped x y s t r
@@ -267,7 +287,8 @@ module _ (n : ℕ) (parts : Parts) (formed : IsFormed parts) (checked : Checked 
     pub second_over : ending_of n (after board n two count y) ≡ None → ⊥
     pub same : SameEntries (after board n mmu count x).memory.ram (after board n two count y).memory.ram
 
-  join : (w : ℕ) (x y : World n Device) (s t : State) (r : ℕ) (k : Stepped x y s t r) → Both (w + weight_at parts (place_of parts s)) (after board n mmu k.count x) (after board n two k.count y) → Both w x y
+  join : (w : ℕ) (x y : World n Device) (s t : State) (r : ℕ) (k : Stepped x y s t r) →
+      Both (w + weight_at parts (place_of parts s)) (after board n mmu k.count x) (after board n two k.count y) → Both w x y
   join w x y s t r k rest =
       let one = after_more n mmu k.count rest.count x in
       let other = after_more n two k.count rest.count y in
@@ -286,7 +307,8 @@ module _ (n : ℕ) (parts : Parts) (formed : IsFormed parts) (checked : Checked 
   -- after the step: both go on, or both are over
   finish : (w : ℕ) (x y : World n Device) (s t : State) (r : ℕ) (k : Stepped x y s t r) (u v : State) → Beside parts (w + weight_at parts (place_of parts s)) u v →
       k.first.next_state ≡ with_earlier a u → k.second.next_state ≡ with_earlier b v →
-      (Paired (w + weight_at parts (place_of parts s)) (after board n mmu k.count x) (after board n two k.count y) u v k.windows → Both (w + weight_at parts (place_of parts s)) (after board n mmu k.count x) (after board n two k.count y)) →
+      (Paired (w + weight_at parts (place_of parts s)) (after board n mmu k.count x) (after board n two k.count y) u v k.windows →
+      Both (w + weight_at parts (place_of parts s)) (after board n mmu k.count x) (after board n two k.count y)) →
       Shows n parts (after board n mmu k.count x) k.first.next_state k.windows ⊎ ((status : ℕ) × Over n parts (after board n mmu k.count x) k.first.next_state status) →
       Shows n parts (after board n two k.count y) k.second.next_state k.windows ⊎ ((status : ℕ) × Over n parts (after board n two k.count y) k.second.next_state status) → Both w x y
   finish w x y s t r k u v beside one other goes_on (inl on) (inl on_too) =

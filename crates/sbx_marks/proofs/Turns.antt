@@ -9,7 +9,8 @@ use Rattle.v8_core.specs.Transfer.{Transfer as Moving}
 use Rattle.v8_core.specs.Transfers.{writes_memory}
 use Rattle.v8_core.specs.Trap.{Trap}
 use Rattle.v8_core.specs.Operation.{Operation}
-use Rattle.v8_core.specs.Operation.TheVariants.{BranchOnCondition, Call, Compute, Coprocessor, Divide, FloatingPoint, Illegal, JumpAndLink, Nothing, ReadState, ReadY, Restore, ReturnFromTrap, Save, SetHigh, TaggedTrap, Transfer, TrapOnCondition, WriteState, WriteY}
+use Rattle.v8_core.specs.Operation.TheVariants.{BranchOnCondition, Call, Compute, Coprocessor, Divide, FloatingPoint, Illegal, JumpAndLink, Nothing, ReadState}
+use Rattle.v8_core.specs.Operation.TheVariants.{ReadY, Restore, ReturnFromTrap, Save, SetHigh, TaggedTrap, Transfer, TrapOnCondition, WriteState, WriteY}
 use Rattle.v8_core.specs.MmuRegs.{MmuRegs}
 use Rattle.v8_core.specs.declared.turn.Turn.{Turn}
 use Rattle.v8_core.specs.Accesses.{World}
@@ -52,7 +53,8 @@ flat_reach s _ = None
 
 -- ---- an annulled instruction
 
-pub annulled_marks : (n : ℕ) (parts : Parts) (mmu : MmuRegs) (x : World n Device) (s : State) (r e : ℕ) → Shows n parts x s r → s.annulled ≡ true → entry_at (after board n mmu 1 x).memory.ram e ≡ entry_at x.memory.ram e
+pub annulled_marks : (n : ℕ) (parts : Parts) (mmu : MmuRegs) (x : World n Device) (s : State) (r e : ℕ) → Shows n parts x s r → s.annulled ≡ true →
+    entry_at (after board n mmu 1 x).memory.ram e ≡ entry_at x.memory.ram e
 annulled_marks n parts mmu x s r e h annul =
     ap (λ (p : Turn × World n Device). entry_at p.1.memory.ram e) (annulled_turn n mmu x h.device.running h.control.sane (h.control.annul ∙ annul))
 
@@ -76,13 +78,15 @@ module _ (n : ℕ) (parts : Parts) (mmu : MmuRegs) (x : World n Device) (s : Sta
   plain : (op : Operation) → AsksFor parts.words i op → reach_of n x.cpu op ≡ None → entry_at (after board n mmu 1 x).memory.ram e ≡ fetched
   plain op is none = plain_marks n (pages_of parts) parts.words mmu x i here e less op is none ∙ same_fetch
 
-  moving : (t : Moving) (m : MemoryOperand) → AsksFor parts.words i (Transfer t m) → is_admitted (Transfer t m) ≡ true → entry_at (after board n mmu 1 x).memory.ram e ≡ reached e (address_in s m) (writes_memory t) fetched
+  moving : (t : Moving) (m : MemoryOperand) → AsksFor parts.words i (Transfer t m) → is_admitted (Transfer t m) ≡ true →
+      entry_at (after board n mmu 1 x).memory.ram e ≡ reached e (address_in s m) (writes_memory t) fetched
   unfolding is_admitted
   moving t m is may =
       let one = transfer_turn n parts mmu x s r i h good t m is may in
       let fit = fields n parts mmu x s r i h (Transfer t m) is in
       ran_marks n (pages_of parts) parts.words mmu x i here e less (Transfer t m) is (one_ran n parts mmu x s r i h (Transfer t m) is may r one)
-      ∙ ap (λ a. reached e a (writes_memory t) (reached e x.cpu.control.pc false (entry_at x.memory.ram e))) (same_address n parts mmu x s r i h m.rs1 m.operand2 fit.first (fit.second (first_of (is_normal m.space) _ may)))
+      ∙ ap (λ a. reached e a (writes_memory t) (reached e x.cpu.control.pc false (entry_at x.memory.ram e)))
+      (same_address n parts mmu x s r i h m.rs1 m.operand2 fit.first (fit.second (first_of (is_normal m.space) _ may)))
       ∙ ap (reached e (address_in s m) (writes_memory t)) same_fetch
 
   by_service : (k : ℕ) → AsksFor parts.words i (calls k) → entry_at (after board n mmu (turns_of (calls k)) x).memory.ram e ≡ fetched
@@ -96,7 +100,8 @@ module _ (n : ℕ) (parts : Parts) (mmu : MmuRegs) (x : World n Device) (s : Sta
   unfolding is_admitted
   serving t is may =
       let c = called t.cond t.rs1 t.operand2 may in
-      subst (λ (q : Trap). entry_at (after board n mmu (turns_of (TrapOnCondition q)) x).memory.ram e ≡ fetched) (sym c.is) (by_service c.number (subst (λ (q : Trap). AsksFor parts.words i (TrapOnCondition q)) c.is is))
+      subst (λ (q : Trap). entry_at (after board n mmu (turns_of (TrapOnCondition q)) x).memory.ram e ≡ fetched) (sym c.is)
+      (by_service c.number (subst (λ (q : Trap). AsksFor parts.words i (TrapOnCondition q)) c.is is))
 
   by_operation : (op : Operation) → AsksFor parts.words i op → is_admitted op ≡ true → entry_at (after board n mmu (turns_of op) x).memory.ram e ≡ after_reach e (flat_reach s op) fetched
   by_operation (Transfer t m) is may = moving t m is may
@@ -140,7 +145,8 @@ module _ (n : ℕ) (parts : Parts) (mmu : MmuRegs) (x : World n Device) (s : Sta
 
 -- ---- a RESTORE that finds none
 
-pub fill_marks : (n : ℕ) (parts : Parts) (mmu : MmuRegs) (x : World n Device) (s : State) (i : ℕ) → Stands n parts mmu x s 1 i → (IsWrong parts s → ⊥) → (e : ℕ) → e < 192 → (f : Three) → AsksFor parts.words i (Restore f) →
+pub fill_marks : (n : ℕ) (parts : Parts) (mmu : MmuRegs) (x : World n Device) (s : State) (i : ℕ) → Stands n parts mmu x s 1 i → (IsWrong parts s → ⊥) →
+    (e : ℕ) → e < 192 → (f : Three) → AsksFor parts.words i (Restore f) →
     entry_at (after board n mmu 25 x).memory.ram e ≡ reached e s.pc false (after_handler e s.pc (base s.registers 1) false (entry_at x.memory.ram e))
 fill_marks n parts mmu x s i h good e less f is =
     let back = returns n parts mmu x s 1 i h f is good in
@@ -157,7 +163,8 @@ fill_marks n parts mmu x s i h good e less f is =
     ∙ ap (λ q. after_handler e s.pc q false (entry_at x.memory.ram e)) (filling.pointer_is n parts mmu x s i h f is two))
 
 -- its caller is there
-pub caller_there : (n : ℕ) (parts : Parts) (mmu : MmuRegs) (x : World n Device) (s : State) (i : ℕ) → Stands n parts mmu x s 1 i → (IsWrong parts s → ⊥) → (f : Three) → AsksFor parts.words i (Restore f) → 1 < depth s.registers
+pub caller_there : (n : ℕ) (parts : Parts) (mmu : MmuRegs) (x : World n Device) (s : State) (i : ℕ) → Stands n parts mmu x s 1 i → (IsWrong parts s → ⊥) →
+    (f : Three) → AsksFor parts.words i (Restore f) → 1 < depth s.registers
 caller_there n parts mmu x s i h good f is =
     let back = returns n parts mmu x s 1 i h f is good in
     let deep : length s.registers.older ≡ suc (length back.older) = ap length back.is in

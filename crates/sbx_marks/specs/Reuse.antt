@@ -10,7 +10,8 @@ use Rattle.sbx_sound.specs.Law.{IsFormed}
 use Rattle.sbx_sound.specs.Verdicts.{Checked}
 use Rattle.sbx_windows.specs.Runs.{IsAnyBoard, IsImage}
 
--- A board with this input to give, whatever else it held, that the image was loaded into and ran on, up to the image's budget.
+-- A board with this input to give, whatever else it held, that the image was loaded into and ran on, up to the image's
+-- budget.
 pub record Ran (n : ℕ) (parts : Parts) (input : List ℕ) (end : State n) : Type 0 where
   pub made : State n
   pub start : State n

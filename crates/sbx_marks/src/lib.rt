@@ -1,4 +1,5 @@
-//! Why a run's pages are the image's and the input's alone: a board that is used again tells the same of them as a new one.
+//! Why a run's pages are the image's and the input's alone: a board that is used again tells the same of them as a new
+//! one.
 #![tactic(auto)]
 
 pub mod laws;

@@ -32,7 +32,8 @@ fault_place f = (f.line, Fault f.cause)
 -- the line of the last of some words that stands at an address or before it
 abbrev pub last_line : Option ℕ → List Row → ℕ → Option ℕ
 last_line found [] address = found
-last_line found (row ∷ rows) address = last_line (if nat_le row.address address then Some row.line else found) rows address
+last_line found (row ∷ rows) address =
+    last_line (if nat_le row.address address then Some row.line else found) rows address
 
 -- 1 where there is none, as there is of each word of an image
 abbrev pub line_among : List Row → ℕ → ℕ
@@ -45,8 +46,8 @@ line_among rows address = elim (last_line None rows address) [
 abbrev pub refusal_place : List Item → Refusal → ℕ × Code
 refusal_place items refusal = (line_among (each row_at [] items) refusal.address, Rule refusal.cause)
 
--- A source means no image: of each of its faults, which are the one that the assembler tells and those of lines behind it, the line and the
--- number are told, in that order.
+-- A source means no image: of each of its faults, which are the one that the assembler tells and those of lines behind
+-- it, the line and the number are told, in that order.
 pub record IsFaulty (source : List ℕ) (fault : AsmFault) (findings : List Finding) : Type 0 where
   pub faults : Faults
   pub told : AreTold source faults
@@ -65,8 +66,10 @@ pub record IsAccepted (source : List ℕ) : Type 0 where
   pub means : source_image source ≡ Ok parts
   pub checked : Checked parts
 
--- The verdict is that on the source, and the findings are what is wrong with it: of a refusal one, at the line of its word.
+-- The verdict is that on the source, and the findings are what is wrong with it: of a refusal one, at the line of its
+-- word.
 abbrev pub IsCheck : List ℕ → Verdict → List Finding → Type 0
 IsCheck source (Faulty fault) findings = IsFaulty source fault findings
-IsCheck source (Refused refusal) findings = IsRefused source refusal × (map finding_place findings ≡ refusal_place (items_of source) refusal ∷ [])
+IsCheck source (Refused refusal) findings =
+    IsRefused source refusal × (map finding_place findings ≡ refusal_place (items_of source) refusal ∷ [])
 IsCheck source Accepted findings = IsAccepted source × (findings ≡ [])

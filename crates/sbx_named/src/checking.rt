@@ -3,7 +3,8 @@ ghost use Rattle.std.specs.Prelude.{◌≡◌, ◌∷◌, [], IfOk, None, Ok, ma
 ghost use Rattle.sbx_asm.specs.Items.{items_of};
 ghost use Rattle.sbx_asm.specs.Images.{source_image};
 ghost use Rattle.sbx_check.specs.Faults.{AreTold};
-ghost use Rattle.sbx_named.specs.Findings.{IsAccepted, IsCheck, IsRefused, finding_place, last_line, line_among, refusal_place};
+ghost use Rattle.sbx_named.specs.Findings.{IsAccepted, IsCheck, IsRefused, finding_place, last_line, line_among};
+ghost use Rattle.sbx_named.specs.Findings.{refusal_place};
 
 use crate::findings::{Code, Finding, findings_of};
 use crate::names::names_of;
@@ -101,7 +102,8 @@ fn refusal_finding(
     })
 }
 
-/// What explains a refusal, which is the text `why` without its first two lines, by the names of the source of some lines.
+/// What explains a refusal, which is the text `why` without its first two lines, by the names of the source of some
+/// lines.
 fn push_reasons(
     alloc: Global,
     out: &mut String,
@@ -198,9 +200,9 @@ fn check_faults(
     })
 }
 
-/// What is wrong with a source, told under its name: its faults, each with its line and a mark at its place; or the rule that its image
-/// breaks, at the line of the word, and what explains that by the source's own names and lines; or that nothing is. It fails where memory is
-/// refused.
+/// What is wrong with a source, told under its name: its faults, each with its line and a mark at its place; or the
+/// rule that its image breaks, at the line of the word, and what explains that by the source's own names and lines; or
+/// that nothing is. It fails where memory is refused.
 pub fn check_source(alloc: Global, name: &str, source: &[u8]) -> Result<Check, AllocError>
     ensures { IfOk result (λ check. IsCheck source.now check.verdict check.findings.items) }
 {

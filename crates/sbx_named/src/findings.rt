@@ -78,8 +78,8 @@ impl<'l, 'a> Walk<'l, 'a> {
         walk
     }
 
-    /// The column of a fault of the line that comes next, and its sentence; those of a fault of the source as a whole where the line of the
-    /// fault is behind the last.
+    /// The column of a fault of the line that comes next, and its sentence; those of a fault of the source as a whole
+    /// where the line of the fault is behind the last.
     fn place_of(
         self,
         alloc: Global,
@@ -126,7 +126,8 @@ fn push_each(
     walk: Walk<'_, '_>,
     faults: &[AsmFault],
 ) -> Result<(), AllocError>
-    ensures { OnOk result (map finding_place found.new.items ≡ map finding_place found.old.items ++ map fault_place faults.now) }
+    ensures { OnOk result
+        (map finding_place found.new.items ≡ map finding_place found.old.items ++ map fault_place faults.now) }
 {
     let mut walk = walk;
     for fault in faults {
@@ -143,7 +144,8 @@ pub(crate) fn findings_of(
     lines: &[Line<'_>],
     faults: &Faults,
 ) -> Result<Vec<Finding>, AllocError>
-    ensures { IfOk result (λ found. map finding_place found.items ≡ map fault_place (faults.now.first ∷ faults.now.others.items)) }
+    ensures { IfOk result
+        (λ found. map finding_place found.items ≡ map fault_place (faults.now.first ∷ faults.now.others.items)) }
 {
     let survey = survey_lines(alloc, lines)?;
     let walk = Walk::start(lines).up_to(faults.first.line);

@@ -1,4 +1,5 @@
-//! What is told of an image by its source's own names and lines: the map of a source, texts with its names, and what is wrong with it.
+//! What is told of an image by its source's own names and lines: the map of a source, texts with its names, and what is
+//! wrong with it.
 #![tactic(auto)]
 
 mod checking;

@@ -68,8 +68,8 @@ fn push_line(out: &mut String, place: Place, line: &Line<'_>) -> Result<(), Allo
     }
 }
 
-/// Pushes where the lines of a source stand, which means an image: a line for each label, and one for each word of the code, in the order of
-/// the source. `digest` is what the image is known by, in one word.
+/// Pushes where the lines of a source stand, which means an image: a line for each label, and one for each word of the
+/// code, in the order of the source. `digest` is what the image is known by, in one word.
 pub fn push_map(
     alloc: Global,
     out: &mut String,

@@ -193,8 +193,9 @@ impl Names<'_> {
     }
 }
 
-/// Pushes a text that tells of the image of a source by the source's names: in the place of `f2`, `f2_b3`, `f2+1C` and `function 2`, and of
-/// addresses of the code, where that is wanted. Places and addresses have their lines behind them in brackets, as `main+1C (12)`.
+/// Pushes a text that tells of the image of a source by the source's names: in the place of `f2`, `f2_b3`, `f2+1C` and
+/// `function 2`, and of addresses of the code, where that is wanted. Places and addresses have their lines behind them
+/// in brackets, as `main+1C (12)`.
 pub fn push_renamed(
     out: &mut String,
     names: &Names<'_>,

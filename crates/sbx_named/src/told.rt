@@ -37,7 +37,8 @@ fn shown_part(bytes: &[u8], at: usize) -> (&[u8], usize) {
     (part, at.saturating_sub(from))
 }
 
-/// Pushes a line of a source and a mark below the place behind so many of its bytes. Of a long line the part about the place is shown.
+/// Pushes a line of a source and a mark below the place behind so many of its bytes. Of a long line the part about the
+/// place is shown.
 fn push_marked(out: &mut String, bytes: &[u8], at: usize) -> Result<(), AllocError> {
     let (part, before) = shown_part(bytes, at);
     for byte in part {
@@ -66,8 +67,8 @@ fn push_finding(
     }
 }
 
-/// Pushes findings under the name of their source, of which these are the lines: line, column, number and sentence, and below the line with
-/// a mark at the place.
+/// Pushes findings under the name of their source, of which these are the lines: line, column, number and sentence, and
+/// below the line with a mark at the place.
 pub(crate) fn push_findings(
     out: &mut String,
     name: &str,

@@ -18,9 +18,11 @@ use Rattle.sbx_objects.specs.Objects.{Named, array_of, member_tokens, object_of,
 abbrev pub location_json : ℕ → Json
 location_json l = string (location_text l)
 
--- the words of a range, read as signed, lie from the low end to the high one, and are multiples of 2 to the power of the alignment
+-- the words of a range, read as signed, lie from the low end to the high one, and are multiples of 2 to the power of
+-- the alignment
 abbrev pub range_members : Range → List Named
-range_members r = (codes "low", signed r.lo) ∷ (codes "high", signed r.hi) ∷ (codes "alignment", unsigned r.alignment) ∷ []
+range_members r =
+    (codes "low", signed r.lo) ∷ (codes "high", signed r.hi) ∷ (codes "alignment", unsigned r.alignment) ∷ []
 
 abbrev pub range_json : Range → Json
 range_json r = object_of (range_members r)
@@ -29,7 +31,8 @@ abbrev pub cell_json : Cell → Json
 cell_json c = object_of ((codes "location", location_json c.location) ∷ range_members c.range)
 
 abbrev pub term_json : Term → Json
-term_json t = object_of ((codes "location", location_json t.location) ∷ (codes "coefficient", signed t.coefficient) ∷ [])
+term_json t =
+    object_of ((codes "location", location_json t.location) ∷ (codes "coefficient", signed t.coefficient) ∷ [])
 
 abbrev pub block_json : Block → Json
 block_json b = object_of (
@@ -59,7 +62,9 @@ function_json f = object_of (
     )
 
 abbrev pub region_json : Placed → Json
-region_json r = object_of ((codes "address", unsigned r.address) ∷ (codes "bytes", unsigned (length r.bytes)) ∷ (codes "writable", boolean r.writable) ∷ [])
+region_json r =
+    object_of ((codes "address", unsigned r.address) ∷ (codes "bytes", unsigned (length r.bytes))
+    ∷ (codes "writable", boolean r.writable) ∷ [])
 
 -- each service by whether it is declared: bit 0 exit, bit 1 get, bit 2 put
 abbrev pub services_json : ℕ → Json
@@ -85,7 +90,9 @@ image_json parts = object_of (
 -- ---- on the way
 
 abbrev pub range_tokens : Range → List Token
-range_tokens r = member_tokens (codes "low") (signed r.lo) ++ (member_tokens (codes "high") (signed r.hi) ++ member_tokens (codes "alignment") (unsigned r.alignment))
+range_tokens r =
+    member_tokens (codes "low") (signed r.lo)
+    ++ (member_tokens (codes "high") (signed r.hi) ++ member_tokens (codes "alignment") (unsigned r.alignment))
 
 abbrev pub number_tokens : Function → List Token
 number_tokens f =

@@ -36,8 +36,8 @@ array_of js = array (items_of js)
 
 -- ---- what is written
 
--- A line that has this value, and behind it the line's end: by the writer's own escapes, and without a space. A reader finds the
--- value's tokens in it and no others, whatever bytes its texts have.
+-- A line that has this value, and behind it the line's end: by the writer's own escapes, and without a space. A reader
+-- finds the value's tokens in it and no others, whatever bytes its texts have.
 abbrev pub IsLine : Json → List ℕ → Type 0
 IsLine j line = (line ≡ print (json_tokens j) ++ 10 ∷ []) × (tokens (print (json_tokens j)) ≡ json_tokens j)
 

@@ -28,7 +28,9 @@ trapped_json t place = object_of (
     )
 
 abbrev pub error_json : ℕ → Json
-error_json t = object_of ((codes "how", string (codes "error")) ∷ (codes "trap", unsigned t) ∷ (codes "name", string (trap_name t)) ∷ [])
+error_json t =
+    object_of ((codes "how", string (codes "error")) ∷ (codes "trap", unsigned t) ∷ (codes "name", string (trap_name t))
+    ∷ [])
 
 abbrev pub limit_json : Json
 limit_json = object_of ((codes "how", string (codes "limit")) ∷ [])
@@ -73,10 +75,13 @@ count_tokens windows limit run =
     member_tokens (codes "turns") (unsigned run.raw.outcome.turns)
     ++ (member_tokens (codes "limit") (unsigned limit)
     ++ (member_tokens (codes "windows") (unsigned windows)
-    ++ (member_tokens (codes "overflows") (unsigned run.raw.outcome.overflows) ++ member_tokens (codes "underflows") (unsigned run.raw.outcome.underflows))))
+    ++ (member_tokens (codes "overflows") (unsigned run.raw.outcome.overflows)
+    ++ member_tokens (codes "underflows") (unsigned run.raw.outcome.underflows))))
 
 abbrev pub status_tokens : ℕ → List Token
-status_tokens status = member_tokens (codes "fault_status") (unsigned status) ++ member_tokens (codes "fault") (string (status_text status))
+status_tokens status =
+    member_tokens (codes "fault_status") (unsigned status)
+    ++ member_tokens (codes "fault") (string (status_text status))
 
 abbrev pub trap_tokens : ℕ → List Token
 trap_tokens t = member_tokens (codes "trap") (unsigned t) ++ member_tokens (codes "name") (string (trap_name t))

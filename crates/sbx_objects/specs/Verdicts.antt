@@ -10,7 +10,8 @@ use Rattle.sbx_objects.specs.Objects.{member_tokens, object_of, unsigned}
 abbrev pub accepted_json : Json
 accepted_json = object_of ((codes "accepted", boolean true) ∷ [])
 
--- the rule by its number and in words, the function by its number, the address of the word, and the text that explains all this
+-- the rule by its number and in words, the function by its number, the address of the word, and the text that explains
+-- all this
 abbrev pub refused_json : Refusal → List ℕ → Json
 refused_json refusal text = object_of (
     (codes "accepted", boolean false)
@@ -29,4 +30,6 @@ verdict_json (Some refusal) text = refused_json refusal text
 -- ---- on the way
 
 abbrev pub place_tokens : Refusal → List Token
-place_tokens refusal = member_tokens (codes "function") (unsigned refusal.function) ++ member_tokens (codes "address") (unsigned refusal.address)
+place_tokens refusal =
+    member_tokens (codes "function") (unsigned refusal.function)
+    ++ member_tokens (codes "address") (unsigned refusal.address)

@@ -72,8 +72,8 @@ fn put_check(
     close_object(out)
 }
 
-/// The line of what is wrong with a source: whether that is nothing, each finding, and all of it in words. It fails where memory is
-/// refused.
+/// The line of what is wrong with a source: whether that is nothing, each finding, and all of it in words. It fails
+/// where memory is refused.
 pub fn check_line(alloc: Global, findings: &[Finding], text: &str) -> Result<Vec<u8>, AllocError>
     ensures { IfOk result (λ line. IsLine (check_json findings.now text.now) line.items) }
 {

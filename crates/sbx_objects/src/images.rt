@@ -4,7 +4,9 @@ ghost use Rattle.json.specs.Json.{boolean};
 ghost use Rattle.json.specs.Tree.{json_tokens};
 ghost use Rattle.sbx_image.specs.Regions.{page_rights, placed};
 ghost use Rattle.sbx_objects.specs.Objects.{Adds, IsLine, array_of, member_tokens, signed, unsigned};
-ghost use Rattle.sbx_objects.specs.Images.{block_json, cell_json, function_json, image_json, is_framed, location_json, number_tokens, range_json, range_tokens, region_json, services_json, size_tokens, term_json};
+ghost use Rattle.sbx_objects.specs.Images.{block_json, cell_json, function_json, image_json, is_framed, location_json};
+ghost use Rattle.sbx_objects.specs.Images.{number_tokens, range_json, range_tokens, region_json, services_json};
+ghost use Rattle.sbx_objects.specs.Images.{size_tokens, term_json};
 
 use crate::lists::{Told, put_items, put_member};
 use crate::members::{
@@ -153,7 +155,10 @@ fn put_byte_count(out: &mut Writer, region: &Region) -> Result<(), AllocError>
 
 /// A region that begins at an address.
 fn put_region(out: &mut Writer, start: u32, region: &Region) -> Result<(), AllocError>
-    ensures { OnOk result (Adds out.old out.new (json_tokens (region_json (record { address = start; bytes = region.now.bytes; writable = region.now.writable })))) }
+    ensures { OnOk result
+        (Adds out.old out.new
+        (json_tokens (region_json
+        (record { address = start; bytes = region.now.bytes; writable = region.now.writable })))) }
 {
     open_object(out)?;
     put_word(out, "address", start)?;
@@ -233,8 +238,8 @@ fn put_image(alloc: Global, out: &mut Writer, image: &Image) -> Result<(), Alloc
     close_object(out)
 }
 
-/// The line of what an image declares: its version, services, pages of stack, words of code, bytes and regions of data, and its
-/// functions with their blocks, cells and terms. It fails where memory is refused.
+/// The line of what an image declares: its version, services, pages of stack, words of code, bytes and regions of data,
+/// and its functions with their blocks, cells and terms. It fails where memory is refused.
 pub fn image_line(alloc: Global, image: &Image) -> Result<Vec<u8>, AllocError>
     ensures { IfOk result (λ line. IsLine (image_json image.now) line.items) }
 {

@@ -1,5 +1,5 @@
-//! What is told of images, of runs and of refusals as JSON, for programs to read: an object on a line, whose members stand in a fixed
-//! order.
+//! What is told of images, of runs and of refusals as JSON, for programs to read: an object on a line, whose members
+//! stand in a fixed order.
 #![tactic(auto)]
 
 mod findings;

@@ -7,7 +7,8 @@ ghost use Rattle.sbx_lines.specs.Faults.{status_text};
 ghost use Rattle.sbx_lines.specs.Marks.{marks_text};
 ghost use Rattle.sbx_lines.specs.Words.{byte_text};
 ghost use Rattle.sbx_objects.specs.Objects.{Adds, IsLine, member_tokens};
-ghost use Rattle.sbx_objects.specs.Runs.{count_tokens, ending_json, error_json, exit_json, limit_json, pages_json, run_json, status_tokens, trap_tokens, trapped_json};
+ghost use Rattle.sbx_objects.specs.Runs.{count_tokens, ending_json, error_json, exit_json, limit_json, pages_json};
+ghost use Rattle.sbx_objects.specs.Runs.{run_json, status_tokens, trap_tokens, trapped_json};
 
 use crate::members::{
     close_object, line_of, new_line, open_object, put_byte, put_key, put_number, put_text, put_word,
@@ -171,8 +172,8 @@ fn put_run(
     close_object(out)
 }
 
-/// The line of what a run gave: its output, how it ended, its turns and window traps, the pages that it used, and its fault status.
-/// It fails where memory is refused.
+/// The line of what a run gave: its output, how it ended, its turns and window traps, the pages that it used, and its
+/// fault status. It fails where memory is refused.
 pub fn run_line(alloc: Global, windows: u32, limit: u64, run: &Run) -> Result<Vec<u8>, AllocError>
     ensures { IfOk result (λ line. IsLine (run_json windows limit run.now) line.items) }
 {

@@ -79,8 +79,8 @@ fn put_verdict(
     }
 }
 
-/// The line of a verdict: that the image is accepted; or by which rule, in which function and at which address it is refused, and the
-/// text that explains it. It fails where memory is refused.
+/// The line of a verdict: that the image is accepted; or by which rule, in which function and at which address it is
+/// refused, and the text that explains it. It fails where memory is refused.
 pub fn verdict_line(
     alloc: Global,
     found: Option<Refusal>,

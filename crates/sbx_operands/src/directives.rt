@@ -180,8 +180,8 @@ fn shape_of(keyword: Keyword) -> OperandReason {
     }
 }
 
-/// Why the operands behind a directive's name are none that it takes, and where. `tokens` are those behind the name, which is a token of the
-/// line too.
+/// Why the operands behind a directive's name are none that it takes, and where. `tokens` are those behind the name,
+/// which is a token of the line too.
 pub fn operand_mark(line: &[u8], keyword: Keyword, name: &Token, tokens: &[Token]) -> Mark {
     let list = List { line, tokens };
     let found = list.of(keyword).unwrap_or(Mark {
@@ -229,7 +229,8 @@ fn bounds_of(width: Width) -> (i64, i64, OperandReason) {
     }
 }
 
-/// Which value of a data directive has an unknown symbol, where one has. `tokens` are those behind the directive's name.
+/// Which value of a data directive has an unknown symbol, where one has. `tokens` are those behind the directive's
+/// name.
 pub fn symbol_mark<S: Symbols>(line: &[u8], tokens: &[Token], symbols: &S) -> Mark {
     let list = List { line, tokens };
     let mut mark = Mark {
@@ -249,7 +250,8 @@ pub fn symbol_mark<S: Symbols>(line: &[u8], tokens: &[Token], symbols: &S) -> Ma
     mark
 }
 
-/// Which value of a data directive doesn't fit its width, where one doesn't. `tokens` are those behind the directive's name.
+/// Which value of a data directive doesn't fit its width, where one doesn't. `tokens` are those behind the directive's
+/// name.
 pub fn value_mark<S: Symbols>(line: &[u8], width: Width, tokens: &[Token], symbols: &S) -> Mark {
     let list = List { line, tokens };
     let (low, high, reason) = bounds_of(width);

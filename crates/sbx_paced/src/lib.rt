@@ -1,4 +1,5 @@
-//! Runs of accepted images on the fast flat machine, in pieces: each step takes some bytes of the input and gives some of the output.
+//! Runs of accepted images on the fast flat machine, in pieces: each step takes some bytes of the input and gives some
+//! of the output.
 #![tactic(auto)]
 
 mod course;

@@ -52,11 +52,14 @@ impl Tally {
         self.traffic.turns += 1;
     }
 
-    /// The counts behind the next step, of a decoded word or of none; None where they would have more turns than the limit.
+    /// The counts behind the next step, of a decoded word or of none; None where they would have more turns than the
+    /// limit.
     #[inline(always)]
     pub fn after(self, next: Option<&Decoded>, limit: u64) -> Option<Tally>
         requires { limit ≤ 2 ^ 62 }
-        ensures counted { IfSome result (λ after. (parts : Parts) → (place : Place) → option_copied next.entry ≡ next_at parts place → after.traffic ≡ after_place parts self.windows place self.traffic) }
+        ensures counted { IfSome result (λ after. (parts : Parts) → (place : Place) →
+            option_copied next.entry ≡ next_at parts place →
+            after.traffic ≡ after_place parts self.windows place self.traffic) }
         ensures windows { IfSome result (λ after. after.windows ≡ self.windows) }
         ensures more { IfSome result (λ after. self.traffic.turns < after.traffic.turns) }
         ensures within { IfSome result (λ after. after.traffic.turns ≤ limit) }

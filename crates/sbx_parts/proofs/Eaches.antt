@@ -13,7 +13,8 @@ module _ {A S : Type 0} (keeps : S → A → Result S ImageFault) where
   pub at_item : (xs : List A) (i : ℕ) (s : S) (x : A) (r : Result S ImageFault) → x ≡ get_or xs i x → r ≡ keeps s x → r ≡ keeps s (get_or xs i x)
   at_item xs i s x r at h = h ∙ ap (keeps s) at
 
-  pub goes_on : (xs : List A) (i : ℕ) (s t : S) (d : A) (total : Result S ImageFault) → i < length xs → Ok t ≡ keeps s (get_or xs i d) → each keeps s (drop i xs) ≡ total → each keeps t (drop (i + 1) xs) ≡ total
+  pub goes_on : (xs : List A) (i : ℕ) (s t : S) (d : A) (total : Result S ImageFault) → i < length xs → Ok t ≡ keeps s (get_or xs i d) →
+      each keeps s (drop i xs) ≡ total → each keeps t (drop (i + 1) xs) ≡ total
   goes_on xs i s t d total lt h so_far = one_more s (get_or xs i d) (Ok t) (drop (i + 1) xs) h ∙ ap (each keeps s) (sym (drop_more xs i d lt)) ∙ so_far
 
   pub fails : (xs : List A) (i : ℕ) (s : S) (e : ImageFault) (d : A) (total : Result S ImageFault) → i < length xs → Err e ≡ keeps s (get_or xs i d) → each keeps s (drop i xs) ≡ total → Err e ≡ total

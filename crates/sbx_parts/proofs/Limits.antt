@@ -17,7 +17,9 @@ use Rattle.sbx_parts.specs.declared.parts.Parts.{Parts}
 use Rattle.sbx_parts.specs.declared.parts.Region.{Region}
 use Rattle.sbx_parts.specs.Regions.{AreData, IsSized, byte_count, page_rights, pages_for}
 use Rattle.sbx_parts.proofs.Placing.{page_count}
-use Rattle.sbx_parts.specs.Rules.{◌>>=◌, wants, between, each, Place, code_start, admits, is_location, is_fuel, is_coefficient, is_known, is_version, is_depth, is_data, is_data_length, is_one_region, is_length_behind, region_keeps, in_order, range_keeps, location_keeps, cell_keeps, term_keeps, block_keeps, ranges_keep, function_keeps, parts_keep}
+use Rattle.sbx_parts.specs.Rules.{◌>>=◌, wants, between, each, Place, code_start, admits, is_location, is_fuel, is_coefficient, is_known, is_version, is_depth}
+use Rattle.sbx_parts.specs.Rules.{is_data, is_data_length, is_one_region, is_length_behind, region_keeps, in_order, range_keeps, location_keeps, cell_keeps}
+use Rattle.sbx_parts.specs.Rules.{term_keeps, block_keeps, ranges_keep, function_keeps, parts_keep}
 use Rattle.sbx_parts.specs.Widths.{IsCountedBlock, IsCountedFunction}
 use Rattle.sbx_parts.proofs.Steps.{bind_ok, wanted, wanted_last, both_true, is_between, ok_is}
 
@@ -80,7 +82,18 @@ block_kept end next b state e =
     let fuel = wanted (is_fuel b.fuel) fault.Limit _ _ term_count.1 in
     let cells = bind_ok _ _ _ fuel.1 in
     let terms = bind_ok _ _ _ cells.2 in
-    record { address = address.0; cell_count = cell_count.0; term_count = term_count.0; fuel = fuel.0; last_cell = cells.0; cells = cells.1; last_term = terms.0; terms = terms.1; state_is = ok_is _ _ terms.2 }
+    record {
+      address = address.0;
+      cell_count = cell_count.0;
+      term_count = term_count.0;
+      fuel = fuel.0;
+      last_cell = cells.0;
+      cells = cells.1;
+      last_term =
+          terms.0;
+      terms = terms.1;
+      state_is = ok_is _ _ terms.2;
+    }
 
 pub record KeptFunction (version end : ℕ) (place : Place) (f : Function) (state : Place) : Type 0 where
   pub param_count : between 0 6 (length f.params) ≡ true
@@ -153,7 +166,19 @@ parts_kept p e =
     let function_count = wanted (between 1 256 (length p.functions)) fault.Limit _ _ stack_pages.1 in
     let lengths = bind_ok (each region_keeps 0 p.regions) _ tt function_count.1 in
     let functions = bind_ok (each (function_keeps p.version (code_start + 4 * length p.words)) (Exactly code_start, 0) p.functions) (λ _. Ok tt) tt lengths.2 in
-    record { version = version.0; services = services.0; word_count = word_count.0; regions = regions.0; stack_pages = stack_pages.0; function_count = function_count.0; last_pages = lengths.0; lengths = lengths.1; last = functions.0; functions = functions.1 }
+    record {
+      version = version.0;
+      services = services.0;
+      word_count = word_count.0;
+      regions = regions.0;
+      stack_pages = stack_pages.0;
+      function_count =
+          function_count.0;
+      last_pages = lengths.0;
+      lengths = lengths.1;
+      last = functions.0;
+      functions = functions.1;
+    }
 
 -- the code has 1 to 65,536 words
 pub words_within : (p : Parts) → parts_keep p ≡ Ok tt → (1 ≤ length p.words) × (length p.words ≤ 65536)
@@ -242,7 +267,8 @@ pub functions_within : (p : Parts) → parts_keep p ≡ Ok tt → (1 ≤ length 
 functions_within p e = is_between 1 256 (length p.functions) (parts_kept p e).function_count
 
 -- what each item keeps by itself, each item of a list keeps
-pub each_all : {A S : Type 0} (keeps : S → A → Result S ImageFault) (P : A → Type 0) (one : (s : S) (a : A) (t : S) → keeps s a ≡ Ok t → P a) (xs : List A) (s t : S) → each keeps s xs ≡ Ok t → AllByRecursion P xs
+pub each_all : {A S : Type 0} (keeps : S → A → Result S ImageFault) (P : A → Type 0) (one : (s : S) (a : A) (t : S) → keeps s a ≡ Ok t →
+    P a) (xs : List A) (s t : S) → each keeps s xs ≡ Ok t → AllByRecursion P xs
 unfolding each
 each_all keeps P one [] s t e = tt
 each_all keeps P one (x ∷ xs) s t e =
@@ -269,4 +295,6 @@ function_counted version end place f state e =
 pub functions_counted : (p : Parts) → parts_keep p ≡ Ok tt → All IsCountedFunction p.functions
 functions_counted p e =
     let k = parts_kept p e in
-    All-from_recursion IsCountedFunction p.functions (each_all (function_keeps p.version (code_start + 4 * length p.words)) IsCountedFunction (function_counted p.version (code_start + 4 * length p.words)) p.functions (Exactly code_start, 0) k.last k.functions)
+    All-from_recursion IsCountedFunction p.functions
+    (each_all (function_keeps p.version (code_start + 4 * length p.words)) IsCountedFunction
+    (function_counted p.version (code_start + 4 * length p.words)) p.functions (Exactly code_start, 0) k.last k.functions)

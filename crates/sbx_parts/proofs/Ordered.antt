@@ -9,7 +9,8 @@ use Rattle.sbx_parts.specs.declared.parts.Block.{Block}
 use Rattle.sbx_parts.specs.declared.parts.Function.{Function}
 use Rattle.sbx_parts.specs.declared.parts.Parts.{Parts}
 use Rattle.sbx_parts.specs.Rules.{admits, each, Place, code_start, block_keeps, function_keeps, parts_keep}
-use Rattle.sbx_parts.specs.Order.{IsFunction, IsBlock, or_function, or_block, function_at, block_at, code_end, entry_or_end, address_or_end, function_end, block_end, words_in, address_of, HasWords, AreInOrder, StandsAt, HasPlace, HavePlaces}
+use Rattle.sbx_parts.specs.Order.{IsFunction, IsBlock, or_function, or_block, function_at, block_at, code_end, entry_or_end, address_or_end, function_end}
+use Rattle.sbx_parts.specs.Order.{block_end, words_in, address_of, HasWords, AreInOrder, StandsAt, HasPlace, HavePlaces}
 use Rattle.sbx_parts.proofs.Steps.{bind_ok, both_true, is_between}
 use Rattle.sbx_parts.proofs.Limits.{block_kept, function_kept, parts_kept, words_within}
 
@@ -138,7 +139,8 @@ fine_after end bs entry out some entry_in blocks =
     let stands = block_stands end (Exactly entry) bs out blocks (entry_in.low, entry_in.whole, entry_in.high) k.0 (omega (arith, k.1)) in
     subst (IsFine end) (sym (stands.last k.1)) stands.is_in.low
 
-function_stands : (version end : ℕ) (place : Place) (fs : List Function) (out : Place) → each (function_keeps version end) place fs ≡ Ok out → IsFine end place.0 → (f : ℕ) → f < length fs → FunctionStands end fs f
+function_stands : (version end : ℕ) (place : Place) (fs : List Function) (out : Place) → each (function_keeps version end) place fs ≡ Ok out →
+    IsFine end place.0 → (f : ℕ) → f < length fs → FunctionStands end fs f
 unfolding each
 function_stands version end place [] out e fine f less = absurd (omega arith)
 function_stands version end place (x ∷ []) out e fine zero less =
@@ -168,7 +170,9 @@ function_stands version end place (x ∷ y ∷ ys) out e fine (suc f) less =
     let first = bind_ok (function_keeps version end place x) (λ s. each (function_keeps version end) s (y ∷ ys)) out e in
     let kept = function_kept version end place x first.0 first.1 in
     let x_in = admitted end place.0 x.entry fine kept.entry in
-    let s = function_stands version end first.0 (y ∷ ys) out first.2 (subst (IsFine end) kept.next_is (fine_after end x.blocks x.entry kept.next (is_between 1 (4096 - place.1) (length x.blocks) kept.block_count).0 x_in kept.blocks)) f (omega arith) in
+    let s = function_stands version end first.0 (y ∷ ys) out first.2
+    (subst (IsFine end) kept.next_is
+    (fine_after end x.blocks x.entry kept.next (is_between 1 (4096 - place.1) (length x.blocks) kept.block_count).0 x_in kept.blocks)) f (omega arith) in
     record { entry = s.entry; some = s.some; out = s.out; blocks = s.blocks; next = λ h. s.next (omega arith) }
 
 -- ---- where functions and blocks start, with the end as one more start
@@ -232,7 +236,8 @@ module _ (parts : Parts) (keeps : parts_keep parts ≡ Ok tt) where
           let one : suc f ≡ f + 1 = omega arith in
           let admits_next : admits (code_end parts) at.out (function_at parts (suc f)).entry ≡ true = at.next (omega arith) in
           let past : (block_at parts f b).address < (function_at parts (suc f)).entry =
-          is_past (code_end parts) (block_at parts f b).address (function_at parts (suc f)).entry (subst (λ n. admits (code_end parts) n (function_at parts (suc f)).entry ≡ true) (stands.last last) admits_next) in
+          is_past (code_end parts) (block_at parts f b).address (function_at parts (suc f)).entry
+          (subst (λ n. admits (code_end parts) n (function_at parts (suc f)).entry ≡ true) (stands.last last) admits_next) in
           let there : function_end parts f ≡ (function_at parts (f + 1)).entry = entry_there (code_end parts) parts.functions (f + 1) less in
           let same : (function_at parts (suc f)).entry ≡ (function_at parts (f + 1)).entry = ap (λ k. (function_at parts k).entry) one in
           omega arith

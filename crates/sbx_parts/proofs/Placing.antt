@@ -31,7 +31,8 @@ module _ (low high : ℤ) (writes : Bool) where
   pub found : (rs : List Region) (i start : ℕ) (r : Region) (total : Bool) → i < length rs → r ≡ get_or rs i r → of_region start r ≡ true → from start (drop i rs) ≡ total → true ≡ total
   found rs i start r total lt is h so_far = sym (ap (λ b. b || from (behind start r) (drop (i + 1) rs)) h) ∙ sym (one_more rs i start r lt is) ∙ so_far
 
-  pub goes_on : (rs : List Region) (i start : ℕ) (r : Region) (total : Bool) → i < length rs → r ≡ get_or rs i r → of_region start r ≡ false → from start (drop i rs) ≡ total → from (behind start r) (drop (i + 1) rs) ≡ total
+  pub goes_on : (rs : List Region) (i start : ℕ) (r : Region) (total : Bool) → i < length rs → r ≡ get_or rs i r → of_region start r ≡ false →
+      from start (drop i rs) ≡ total → from (behind start r) (drop (i + 1) rs) ≡ total
   goes_on rs i start r total lt is h so_far = sym (ap (λ b. b || from (behind start r) (drop (i + 1) rs)) h) ∙ sym (one_more rs i start r lt is) ∙ so_far
 
   pub is_done : (rs : List Region) (i start : ℕ) (total : Bool) → length rs ≤ i → from start (drop i rs) ≡ total → false ≡ total

@@ -1,5 +1,6 @@
 -- What is in the data's pages: each region's bytes, and zeros behind them; and what may be reached there.
-use Rattle.std.proofs.Common.{◌≡◌, ℕ, zero, ◌+◌, ◌-◌, ◌*◌, ◌%◌, ◌^◌, ◌≤◌, ◌<◌, ℤ, pos, Bool, true, false, not, ◌&&◌, ◌||◌, List, [], ◌∷◌, ◌++◌, length, get_or, refl, sym, ap, subst, ◌∙◌, arith, inl, inr}
+use Rattle.std.proofs.Common.{◌≡◌, ℕ, zero, ◌+◌, ◌-◌, ◌*◌, ◌%◌, ◌^◌, ◌≤◌, ◌<◌, ℤ, pos, Bool, true, false, not, ◌&&◌, ◌||◌, List, [], ◌∷◌, ◌++◌, length, get_or}
+use Rattle.std.proofs.Common.{refl, sym, ap, subst, ◌∙◌, arith, inl, inr}
 use Rattle.std.specs.Prelude.{◌≤ℤ◌, Option, None, Some, replicate, slice_get, slice_index, int_lt, nat_lt, if◌then◌else◌}
 use Rattle.std.proofs.lemmas.Int.{ints}
 use Rattle.std.proofs.lemmas.Bool.{cases_lt, le-ltb, ltb-false}
@@ -9,7 +10,8 @@ use Rattle.sbx_parts.specs.declared.parts.Region.{Region}
 use Rattle.v8_map.specs.declared.TheConstants.{DATA_END}
 use Rattle.std.specs.List.{AllByRecursion}
 use Rattle.sbx_parts.specs.Widths.{IsTypedRegion}
-use Rattle.sbx_parts.specs.Regions.{AreBytes, LieApart, LiesInOne, LiesInPages, Placed, behind, byte_in, byte_of_region, data_at, data_start, holds, in_one_region, laid, on_pages, one_holds, or_else, page_rights, pages_for, placed, placed_from, region_holds}
+use Rattle.sbx_parts.specs.Regions.{AreBytes, LieApart, LiesInOne, LiesInPages, Placed, behind, byte_in, byte_of_region, data_at, data_start, holds}
+use Rattle.sbx_parts.specs.Regions.{in_one_region, laid, on_pages, one_holds, or_else, page_rights, pages_for, placed, placed_from, region_holds}
 use Rattle.sbx_parts.proofs.Placing.{page_count}
 use Rattle.sbx_parts.proofs.Steps.{both_true}
 
@@ -77,7 +79,8 @@ lies_at : (start : ℕ) (rs : List Region) (a b : ℕ) → byte_in (placed_from 
 lies_at start [] a b e = absurd cc
 lies_at start (r ∷ rs) a b e = by (lies_at (behind start r) rs a b) (byte_of_region (placed_at start r) a) refl e
   where
-    by : (byte_in (placed_from (behind start r) rs) a ≡ Some b → LiesInPages (behind start r) rs a b) → (o : Option ℕ) → byte_of_region (placed_at start r) a ≡ o → or_else o (byte_in (placed_from (behind start r) rs) a) ≡ Some b → LiesInPages start (r ∷ rs) a b
+    by : (byte_in (placed_from (behind start r) rs) a ≡ Some b → LiesInPages (behind start r) rs a b) → (o : Option ℕ) →
+        byte_of_region (placed_at start r) a ≡ o → or_else o (byte_in (placed_from (behind start r) rs) a) ≡ Some b → LiesInPages start (r ∷ rs) a b
     by later (Some c) first h = lies_first start r rs a b (is_at (placed_at start r) a b (first ∙ h))
     by later None first h = lies_later start r rs a b (later h)
 
@@ -122,7 +125,8 @@ pub fewer_held : (low high lower higher : ℤ) (writes : Bool) (rs : List Placed
 fewer_held low high lower higher writes [] l h e = absurd cc
 fewer_held low high lower higher writes (r ∷ rs) l h e = by (fewer_held low high lower higher writes rs l h) (region_holds lower higher writes r) refl e
   where
-    by : (one_holds lower higher writes rs ≡ true → one_holds low high writes rs ≡ true) → (t : Bool) → region_holds lower higher writes r ≡ t → (t || one_holds lower higher writes rs) ≡ true → (region_holds low high writes r || one_holds low high writes rs) ≡ true
+    by : (one_holds lower higher writes rs ≡ true → one_holds low high writes rs ≡ true) → (t : Bool) → region_holds lower higher writes r ≡ t →
+        (t || one_holds lower higher writes rs) ≡ true → (region_holds low high writes r || one_holds low high writes rs) ≡ true
     by later true held _ =
         let k = held_by lower higher writes r held in
         let from : not (int_lt low (pos r.address)) ≡ true = is_not_less low (pos r.address) (omega (arith, ints, k.from, l)) in
@@ -153,7 +157,8 @@ later_right n w rest k right past e =
     slice_get-get_or (replicate n w ++ rest) k right (omega (arith, length-append (replicate n w) rest, count, less, past))
     ∙ ap Some (get_or-append_right (replicate n w) rest n k right count past ∙ get_or_from_slice_get rest (k - n) right right e)
 
-reached_first : (start : ℕ) (r : Region) (rs : List Region) (a size : ℕ) (writes : Bool) → 0 < size → HeldBy (pos a) (pos (a + size)) writes (placed_at start r) → LiesInOne start (r ∷ rs) a size writes
+reached_first : (start : ℕ) (r : Region) (rs : List Region) (a size : ℕ) (writes : Bool) → 0 < size →
+    HeldBy (pos a) (pos (a + size)) writes (placed_at start r) → LiesInOne start (r ∷ rs) a size writes
 reached_first start r rs a size writes some h =
     let from : start ≤ a = omega (arith, ints, h.from) in
     let to : a + size ≤ start + length r.bytes = omega (arith, ints, h.to) in
@@ -167,7 +172,8 @@ reached_first start r rs a size writes some h =
       bytes = λ i less.
           let within : a + i < start + length r.bytes = omega (arith, less, to) in
           let place : a + i - start < 4096 * pages_for (length r.bytes) = omega (arith, within) in
-          ap (λ o. or_else o (byte_in (placed_from (behind start r) rs) (a + i))) (is_byte (placed_at start r) (a + i) (omega (arith, from)) within) ∙ ap Some (sym (laid_front r rs (a + i - start) place));
+          ap (λ o. or_else o (byte_in (placed_from (behind start r) rs) (a + i))) (is_byte (placed_at start r) (a + i) (omega (arith, from)) within)
+          ∙ ap Some (sym (laid_front r rs (a + i - start) place));
     }
 
 reached_later : (start : ℕ) (r : Region) (rs : List Region) (a size : ℕ) (writes : Bool) → LiesInOne (behind start r) rs a size writes → LiesInOne start (r ∷ rs) a size writes
@@ -195,7 +201,8 @@ reached_from start [] a size writes some e = absurd cc
 reached_from start (r ∷ rs) a size writes some e = by (reached_from (behind start r) rs a size writes some) (region_holds (pos a) (pos (a + size)) writes (placed_at start r)) refl e
   where
     by : (one_holds (pos a) (pos (a + size)) writes (placed_from (behind start r) rs) ≡ true → LiesInOne (behind start r) rs a size writes)
-        → (t : Bool) → region_holds (pos a) (pos (a + size)) writes (placed_at start r) ≡ t → (t || one_holds (pos a) (pos (a + size)) writes (placed_from (behind start r) rs)) ≡ true → LiesInOne start (r ∷ rs) a size writes
+        → (t : Bool) → region_holds (pos a) (pos (a + size)) writes (placed_at start r) ≡ t →
+        (t || one_holds (pos a) (pos (a + size)) writes (placed_from (behind start r) rs)) ≡ true → LiesInOne start (r ∷ rs) a size writes
     by later true held _ = reached_first start r rs a size writes some (held_by (pos a) (pos (a + size)) writes (placed_at start r) held)
     by later false held e = reached_later start r rs a size writes (later e)
 
@@ -209,12 +216,14 @@ unfolding holds
 held_part rs low high lower higher writes l h e = fewer_held low high lower higher writes (placed rs) l h e
 
 -- where what is held lies
-bounds_from : (start : ℕ) (rs : List Region) (low high : ℤ) (writes : Bool) → one_holds low high writes (placed_from start rs) ≡ true → (pos start ≤ℤ low) × (high ≤ℤ pos (start + 4096 * length (page_rights rs)))
+bounds_from : (start : ℕ) (rs : List Region) (low high : ℤ) (writes : Bool) → one_holds low high writes (placed_from start rs) ≡ true →
+    (pos start ≤ℤ low) × (high ≤ℤ pos (start + 4096 * length (page_rights rs)))
 bounds_from start [] low high writes e = absurd cc
 bounds_from start (r ∷ rs) low high writes e = by (bounds_from (behind start r) rs low high writes) (region_holds low high writes (placed_at start r)) refl e
   where
     by : (one_holds low high writes (placed_from (behind start r) rs) ≡ true → (pos (behind start r) ≤ℤ low) × (high ≤ℤ pos (behind start r + 4096 * length (page_rights rs))))
-        → (t : Bool) → region_holds low high writes (placed_at start r) ≡ t → (t || one_holds low high writes (placed_from (behind start r) rs)) ≡ true → (pos start ≤ℤ low) × (high ≤ℤ pos (start + 4096 * length (page_rights (r ∷ rs))))
+        → (t : Bool) → region_holds low high writes (placed_at start r) ≡ t → (t || one_holds low high writes (placed_from (behind start r) rs)) ≡ true →
+        (pos start ≤ℤ low) × (high ≤ℤ pos (start + 4096 * length (page_rights (r ∷ rs))))
     by later true held _ =
         let h = held_by low high writes (placed_at start r) held in
         let count = page_count r rs in

@@ -1,7 +1,8 @@
 -- The code that each fault is shown by.
 use Rattle.std.specs.Prelude.{ℕ, List, codes}
 use Rattle.sbx_parts.specs.declared.fault.ImageFault.{ImageFault}
-use Rattle.sbx_parts.specs.declared.fault.ImageFault.TheVariants.{Short, Magic, Version, Service, Limit, Trailing, Order, Range, Memory}
+use Rattle.sbx_parts.specs.declared.fault.ImageFault.TheVariants.{Short, Magic, Version, Service, Limit, Trailing}
+use Rattle.sbx_parts.specs.declared.fault.ImageFault.TheVariants.{Order, Range, Memory}
 
 abbrev pub code_of : ImageFault → List ℕ
 code_of Short = codes "I1"

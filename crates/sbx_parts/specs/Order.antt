@@ -13,7 +13,19 @@ abbrev pub no_block : Block
 no_block = record { address = 0; fuel = pos 0; cells = []; terms = [] }
 
 abbrev pub no_function : Function
-no_function = record { kind = Leaf; params = []; results = []; entry = 0; frame = 0; stack_room = 0; budget = 0; depth = 0; blocks = [] }
+no_function =
+    record {
+      kind = Leaf;
+      params = [];
+      results = [];
+      entry = 0;
+      frame = 0;
+      stack_room = 0;
+      budget = 0;
+      depth =
+          0;
+      blocks = [];
+    }
 
 abbrev pub or_function : Option Function → Function
 or_function None = no_function
@@ -48,7 +60,8 @@ abbrev pub address_or_end : ℕ → Option Block → ℕ
 address_or_end end None = end
 address_or_end end (Some b) = b.address
 
--- a function ends where the next one begins, a block where the next block of its function does, and the last ones with what they are in
+-- a function ends where the next one begins, a block where the next block of its function does, and the last ones with
+-- what they are in
 abbrev pub function_end : Parts → ℕ → ℕ
 function_end parts f = entry_or_end (code_end parts) (slice_get parts.functions (f + 1))
 
@@ -69,15 +82,18 @@ address_of parts f b i = (block_at parts f b).address + 4 * i
 pub record HasWords (parts : Parts) (f b : ℕ) : Type 0 where
   pub some : 1 ≤ words_in parts f b
   pub ends : address_of parts f b (words_in parts f b) ≡ block_end parts f b
-  pub each : (i : ℕ) → i < words_in parts f b → (k : ℕ) × (k < length parts.words) × (address_of parts f b i ≡ code_start + 4 * k)
+  pub each : (i : ℕ) → i < words_in parts f b →
+      (k : ℕ) × (k < length parts.words) × (address_of parts f b i ≡ code_start + 4 * k)
 
--- The code begins with the first function. A function has a block or more, and begins with its first one. Blocks follow one another.
+-- The code begins with the first function. A function has a block or more, and begins with its first one. Blocks follow
+-- one another.
 pub record AreInOrder (parts : Parts) : Type 0 where
   pub first : IsBlock parts 0 0 × (address_of parts 0 0 0 ≡ code_start)
   pub entries : (f : ℕ) → IsFunction parts f → IsBlock parts f 0 × ((function_at parts f).entry ≡ address_of parts f 0 0)
   pub blocks : (f b : ℕ) → IsBlock parts f b → HasWords parts f b
   pub ascending : (f b c : ℕ) → b < c → IsBlock parts f c → block_end parts f b ≤ address_of parts f c 0
-  pub functions : (f g b c : ℕ) → f < g → IsBlock parts f b → IsBlock parts g c → block_end parts f b ≤ address_of parts g c 0
+  pub functions : (f g b c : ℕ) → f < g → IsBlock parts f b → IsBlock parts g c →
+      block_end parts f b ≤ address_of parts g c 0
   pub small : code_end parts ≤ CODE_END
 
 -- word i of block b of function f, at an address

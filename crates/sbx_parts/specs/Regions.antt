@@ -1,5 +1,7 @@
 -- Where the data of an image lie: its regions one after another, each on pages of its own.
-use Rattle.std.specs.Prelude.{ℕ, ◌+◌, ◌-◌, ◌*◌, ◌/◌, ◌%◌, ◌<◌, ◌≤◌, ◌^◌, ◌≡◌, ℤ, pos, Bool, true, false, not, ◌&&◌, ◌||◌, List, [], ◌∷◌, ◌++◌, length, replicate, Option, None, Some, nat_lt, int_lt, slice_get, slice_index, if◌then◌else◌}
+use Rattle.std.specs.Prelude.{ℕ, ◌+◌, ◌-◌, ◌*◌, ◌/◌, ◌%◌, ◌<◌, ◌≤◌, ◌^◌, ◌≡◌, ℤ, pos, Bool, true, false, not, ◌&&◌}
+use Rattle.std.specs.Prelude.{◌||◌, List, [], ◌∷◌, ◌++◌, length, replicate, Option, None, Some, nat_lt, int_lt}
+use Rattle.std.specs.Prelude.{slice_get, slice_index, if◌then◌else◌}
 use Rattle.std.specs.List.{AllByRecursion}
 use Rattle.v8_map.specs.declared.TheConstants.{DATA_END, DATA_START}
 use Rattle.sbx_parts.specs.declared.parts.Region.{Region}
@@ -42,7 +44,8 @@ behind start r = start + 4096 * pages_for (length r.bytes)
 
 abbrev pub placed_from : ℕ → List Region → List Placed
 placed_from start [] = []
-placed_from start (r ∷ rs) = record { address = start; bytes = r.bytes; writable = r.writable } ∷ placed_from (behind start r) rs
+placed_from start (r ∷ rs) =
+    record { address = start; bytes = r.bytes; writable = r.writable } ∷ placed_from (behind start r) rs
 
 abbrev pub placed : List Region → List Placed
 placed regions = placed_from data_start regions
@@ -71,10 +74,13 @@ byte_in (r ∷ rs) address = or_else (byte_of_region r address) (byte_in rs addr
 abbrev pub data_at : List Region → ℕ → Option ℕ
 data_at regions address = byte_in (placed regions) address
 
--- ---- what may be reached: the bytes from low up to but not at high, all in one region, that may be written where they are
+-- ---- what may be reached: the bytes from low up to but not at high, all in one region, that may be written where they
+-- are
 
 abbrev pub region_holds : ℤ → ℤ → Bool → Placed → Bool
-region_holds low high writes r = not (int_lt low (pos r.address)) && not (int_lt (pos (r.address + length r.bytes)) high) && (not writes || r.writable)
+region_holds low high writes r =
+    not (int_lt low (pos r.address)) && not (int_lt (pos (r.address + length r.bytes)) high)
+    && (not writes || r.writable)
 
 abbrev pub one_holds : ℤ → ℤ → Bool → List Placed → Bool
 one_holds low high writes [] = false
@@ -113,7 +119,8 @@ pub record LiesInPages (start : ℕ) (rs : List Region) (a b : ℕ) : Type 0 whe
   pub to : a < start + 4096 * length (page_rights rs)
   pub is : slice_index (laid rs) (a - start) ≡ b
 
--- So many bytes from an address on lie in one region: their pages have one right, and each of them is a byte of the data.
+-- So many bytes from an address on lie in one region: their pages have one right, and each of them is a byte of the
+-- data.
 pub record LiesInOne (start : ℕ) (rs : List Region) (a size : ℕ) (writes : Bool) : Type 0 where
   pub from : start ≤ a
   pub to : a + size ≤ start + 4096 * length (page_rights rs)
@@ -122,7 +129,8 @@ pub record LiesInOne (start : ℕ) (rs : List Region) (a size : ℕ) (writes : B
   pub pages : (k : ℕ) → a < start + 4096 * k + 4096 → start + 4096 * k < a + size → slice_get (page_rights rs) k ≡ Some right
   pub bytes : (i : ℕ) → i < size → byte_in (placed_from start rs) (a + i) ≡ Some (slice_index (laid rs) (a + i - start))
 
--- Each region begins with a page, and not before the end of the one before it; the last one ends in the data's addresses.
+-- Each region begins with a page, and not before the end of the one before it; the last one ends in the data's
+-- addresses.
 abbrev pub LieApart : ℕ → List Placed → Type 0
 LieApart from [] = from ≤ DATA_END
 LieApart from (r ∷ rs) = (from ≤ r.address) × (r.address % 4096 ≡ 0) × LieApart (r.address + length r.bytes) rs

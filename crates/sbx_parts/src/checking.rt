@@ -2,7 +2,9 @@
 ghost use Rattle.std.specs.Prelude.{◌≡◌, ◌≤◌, ◌+◌, ◌-◌, true, false, MatchResult, IfOk};
 ghost use Rattle.sbx_parts.specs.declared.order.Next.TheVariants.{Exactly};
 ghost use Rattle.sbx_parts.specs.declared.fault.ImageFault.TheVariants as fault;
-ghost use Rattle.sbx_parts.specs.Rules.{wants, between, range_keeps, location_keeps, cell_keeps, term_keeps, block_keeps, function_keeps, parts_keep, is_data, is_one_region, region_keeps, is_known, is_version, is_depth, each, code_start};
+ghost use Rattle.sbx_parts.specs.Rules.{wants, between, range_keeps, location_keeps, cell_keeps, term_keeps};
+ghost use Rattle.sbx_parts.specs.Rules.{block_keeps, function_keeps, parts_keep, is_data, is_one_region, region_keeps};
+ghost use Rattle.sbx_parts.specs.Rules.{is_known, is_version, is_depth, each, code_start};
 
 use crate::fault::ImageFault;
 use crate::lists::{Checked, check_each};
@@ -38,7 +40,8 @@ fn is_version(version: u16) -> bool
     between(1, 3, version as u64)
 }
 
-/// Whether regions are data of version 1: none, or one that has whole double words, up to 262,144 bytes, and may be written.
+/// Whether regions are data of version 1: none, or one that has whole double words, up to 262,144 bytes, and may be
+/// written.
 fn is_one_region(regions: &[Region]) -> bool
     ensures { result ≡ is_one_region regions.now }
 {
@@ -83,7 +86,8 @@ fn check_location(last: u16, location: u16) -> Result<(), ImageFault>
 
 /// A function's number of blocks, where those of all functions so far are `before`.
 fn check_count(before: u16, count: usize) -> Result<u16, ImageFault>
-    ensures cases { MatchResult result (λ n. (n ≡ count) × (between 1 (4096 - before) count ≡ true)) (λ e. (e ≡ fault.Limit) × (between 1 (4096 - before) count ≡ false)) }
+    ensures cases { MatchResult result (λ n. (n ≡ count) × (between 1 (4096 - before) count ≡ true))
+        (λ e. (e ≡ fault.Limit) × (between 1 (4096 - before) count ≡ false)) }
     ensures room { IfOk result (λ n. before + n ≤ 4096) }
 {
     let room = 4096u16.saturating_sub(before);
@@ -215,8 +219,8 @@ fn check_functions(
 }
 
 impl Parts {
-    /// Whether they keep every limit and order; else the fault of the first field, in the order of the format, that breaks
-    /// a rule: `Version`, `Service`, `Limit`, `Order` or `Range`.
+    /// Whether they keep every limit and order; else the fault of the first field, in the order of the format, that
+    /// breaks a rule: `Version`, `Service`, `Limit`, `Order` or `Range`.
     #[tactic(auto, unfolding(crate::specs::Rules::parts_keep))]
     pub fn check(&self) -> Result<(), ImageFault>
         ensures { result ≡ parts_keep self.now }

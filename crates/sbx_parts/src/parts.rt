@@ -64,7 +64,8 @@ pub struct Function {
     pub stack_room: u32,
     /// Turns, below 2^40.
     pub budget: u64,
-    /// How many frames calls of it push at one time: at most 256 in version 3, 0 in versions 1 and 2, which don't tell it.
+    /// How many frames calls of it push at one time: at most 256 in version 3, 0 in versions 1 and 2, which don't tell
+    /// it.
     pub depth: u16,
     /// At least 1.
     pub blocks: Items<Block>,
@@ -87,7 +88,8 @@ pub struct Parts {
     pub services: Services,
     /// The code, 1 to 65,536 words.
     pub words: Items<u32>,
-    /// The data, from the start of the data's addresses on. Version 1 has no region, or one that is writable; versions 2 and 3 up to 8.
+    /// The data, from the start of the data's addresses on. Version 1 has no region, or one that is writable; versions
+    /// 2 and 3 up to 8.
     pub regions: Items<Region>,
     /// Pages of stack, 1 to 16.
     pub stack_pages: u16,

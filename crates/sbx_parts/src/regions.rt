@@ -13,8 +13,8 @@ pub fn pages_for(count: usize) -> usize
     count / 4096 + usize::from(count % 4096 > 0)
 }
 
-/// Whether a region may have so many bytes, behind regions of so many pages: 1 or more, up to 262,144, whole double words, on 64
-/// pages in all.
+/// Whether a region may have so many bytes, behind regions of so many pages: 1 or more, up to 262,144, whole double
+/// words, on 64 pages in all.
 pub fn is_length_behind(pages: u16, count: usize) -> bool
     ensures { result ≡ is_length_behind pages count }
 {
@@ -30,17 +30,20 @@ pub fn behind(start: u32, region: &Region) -> u32
     start + PAGE * pages_for(region.bytes.len()) as u32
 }
 
-/// Whether a region that begins at `start` has all bytes from `low` up to but not at `high`, and may be written where `writes` is set.
+/// Whether a region that begins at `start` has all bytes from `low` up to but not at `high`, and may be written where
+/// `writes` is set.
 fn region_holds(start: u32, region: &Region, low: i64, high: i64, writes: bool) -> bool
     requires { pages_for (length region.now.bytes) ≤ 64 }
-    ensures { result ≡ region_holds low high writes (record { address = start; bytes = region.now.bytes; writable = region.now.writable }) }
+    ensures { result ≡
+        region_holds low high writes
+        (record { address = start; bytes = region.now.bytes; writable = region.now.writable }) }
 {
     let end = i64::from(start) + region.bytes.len() as i64;
     !(low < i64::from(start)) && !(end < high) && (!writes || region.writable)
 }
 
-/// Whether one region has all bytes from the address `low` up to but not at `high`, and may be written where `writes` is set.
-/// An address is a whole number.
+/// Whether one region has all bytes from the address `low` up to but not at `high`, and may be written where `writes`
+/// is set. An address is a whole number.
 pub fn holds(regions: &[Region], low: i64, high: i64, writes: bool) -> bool
     requires { length (page_rights regions.now) ≤ 64 }
     ensures { result ≡ holds regions.now low high writes }
@@ -55,7 +58,8 @@ pub fn holds(regions: &[Region], low: i64, high: i64, writes: bool) -> bool
     false
 }
 
-/// The address of the first byte of the region with a number, counted from 0; nothing where there are not so many regions.
+/// The address of the first byte of the region with a number, counted from 0; nothing where there are not so many
+/// regions.
 pub fn start_of(regions: &[Region], index: usize) -> Option<u32>
     requires { length (page_rights regions.now) ≤ 64 }
     ensures { result ≡ start_of regions.now index }

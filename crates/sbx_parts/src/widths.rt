@@ -1,7 +1,8 @@
 //! What the types of an image's fields say of its numbers, as one statement about its parts.
 ghost use Rattle.std.specs.Prelude.{◌<◌, ◌^◌};
 ghost use Rattle.sbx_parts.specs.Regions.{AreBytes};
-ghost use Rattle.sbx_parts.specs.Widths.{IsTyped, IsTypedBlock, IsTypedCell, IsTypedFunction, IsTypedRange, IsTypedRegion, IsTypedTerm};
+ghost use Rattle.sbx_parts.specs.Widths.{IsTyped, IsTypedBlock, IsTypedCell, IsTypedFunction, IsTypedRange};
+ghost use Rattle.sbx_parts.specs.Widths.{IsTypedRegion, IsTypedTerm};
 
 use crate::lists::{Typed, each_fits};
 use crate::parts::{Block, Cell, Function, Parts, Range, Region, Term};
@@ -78,7 +79,8 @@ impl Typed for u32 {
 }
 
 impl Parts {
-    /// Each number of the parts is one that its field can hold. It changes nothing, and takes time in proportion to them.
+    /// Each number of the parts is one that its field can hold. It changes nothing, and takes time in proportion to
+    /// them.
     pub fn fit(&self)
         ensures { IsTyped self.now }
     {

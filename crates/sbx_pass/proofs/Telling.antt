@@ -9,7 +9,9 @@ use Rattle.want.specs.declared.Want.{Want}
 use Rattle.v8_meaning.specs.declared.operation.Operation.{Operation}
 use Rattle.sbx_image.specs.Function.{Function}
 use Rattle.sbx_rules.specs.declared.cause.Cause.{Cause}
-use Rattle.sbx_rules.specs.declared.cause.Cause.TheVariants.{NotAnInstruction, NotAdmitted, BadShape, BadBranch, BadCall, UndefinedRead, ReservedRegister, Misaligned, OutOfBounds, ZeroDivisor, TagOverflow, UndeclaredService, UnkeptCells, OutOfFuel, OutOfStack, RunsPastEnd, UnkeptResults, BadEntry, TooDeep, NoMemory}
+use Rattle.sbx_rules.specs.declared.cause.Cause.TheVariants.{NotAnInstruction, NotAdmitted, BadShape, BadBranch, BadCall, UndefinedRead, ReservedRegister}
+use Rattle.sbx_rules.specs.declared.cause.Cause.TheVariants.{Misaligned, OutOfBounds, ZeroDivisor, TagOverflow, UndeclaredService, UnkeptCells, OutOfFuel}
+use Rattle.sbx_rules.specs.declared.cause.Cause.TheVariants.{OutOfStack, RunsPastEnd, UnkeptResults, BadEntry, TooDeep, NoMemory}
 use Rattle.sbx_rules.specs.Causes.{number_of}
 use Rattle.sbx_rules.specs.Ways.{Visit}
 use Rattle.sbx_pass.specs.Firsts.{AreKept, Tells}
@@ -20,7 +22,10 @@ or_memory (Some cause) = cause
 
 -- a rule by its number
 rule_of : ℕ → Cause
-rule_of n = or_memory (slice_get (NotAnInstruction ∷ NotAdmitted ∷ BadShape ∷ BadBranch ∷ BadCall ∷ UndefinedRead ∷ ReservedRegister ∷ Misaligned ∷ OutOfBounds ∷ ZeroDivisor ∷ TagOverflow ∷ UndeclaredService ∷ UnkeptCells ∷ OutOfFuel ∷ OutOfStack ∷ RunsPastEnd ∷ UnkeptResults ∷ BadEntry ∷ NoMemory refused ∷ TooDeep ∷ []) (n - 1))
+rule_of n = or_memory
+    (slice_get (NotAnInstruction ∷ NotAdmitted ∷ BadShape ∷ BadBranch ∷ BadCall ∷ UndefinedRead ∷ ReservedRegister ∷ Misaligned ∷ OutOfBounds ∷ ZeroDivisor
+    ∷ TagOverflow ∷ UndeclaredService ∷ UnkeptCells ∷ OutOfFuel ∷ OutOfStack ∷ RunsPastEnd ∷ UnkeptResults ∷ BadEntry ∷ NoMemory refused ∷ TooDeep ∷ [])
+    (n - 1))
 
 numbered : (cause : Cause) → rule_of (number_of cause) ≡ cause
 unfolding rule_of or_memory

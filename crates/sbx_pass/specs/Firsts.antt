@@ -1,4 +1,5 @@
--- What the pass tells: of the rules that a word breaks the one of least number, of the words of a block the first that breaks one.
+-- What the pass tells: of the rules that a word breaks the one of least number, of the words of a block the first that
+-- breaks one.
 use Rattle.std.specs.Prelude.{ℕ, ◌<◌, ◌≤◌, Option, Some, None}
 use Rattle.sbx_image.specs.Parts.{Parts}
 use Rattle.sbx_rules.specs.declared.cause.Cause.{Cause}

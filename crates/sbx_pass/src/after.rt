@@ -1,5 +1,6 @@
 //! The rules that look after a word: what is known then on each of its ways, and where they lead.
-ghost use Rattle.std.specs.Prelude.{◌≡◌, ◌&&◌, ◌||◌, ◌==◌, ◌<◌, ◌+◌, ◌*◌, ◌↔◌, IfSome, IsTrue, Ok, false, if◌then◌else◌, length, nat_lt, not, suc};
+ghost use Rattle.std.specs.Prelude.{◌≡◌, ◌&&◌, ◌||◌, ◌==◌, ◌<◌, ◌+◌, ◌*◌, ◌↔◌, IfSome, IsTrue, Ok, false};
+ghost use Rattle.std.specs.Prelude.{if◌then◌else◌, length, nat_lt, not, suc};
 ghost use Rattle.std.specs.List.{list_any};
 ghost use Rattle.sbx_rules.specs.Known.{Known, known};
 ghost use Rattle.sbx_fuel.specs.Least.{HasOnlyLocations};
@@ -9,7 +10,9 @@ ghost use Rattle.sbx_rules.specs.Operations.{is_call, is_framed, is_return};
 ghost use Rattle.sbx_rules.specs.Fuel.{IsEnough, IsWithinBudget};
 ghost use Rattle.sbx_image.specs.Order.{block_at, function_at};
 ghost use Rattle.sbx_rules.specs.Places.{ends_run};
-ghost use Rattle.sbx_rules.specs.Rules.{HasUnpaidEdge, Holds, LacksFuel, calls_deeper, has_cells, has_outs, is_back, is_entry, is_past, lacks_depth, lacks_room, lists_badly, misses_params, names_strange, params_of, room_of_callee};
+ghost use Rattle.sbx_rules.specs.Rules.{HasUnpaidEdge, Holds, LacksFuel, calls_deeper, has_cells, has_outs, is_back};
+ghost use Rattle.sbx_rules.specs.Rules.{is_entry, is_past, lacks_depth, lacks_room, lists_badly, misses_params};
+ghost use Rattle.sbx_rules.specs.Rules.{names_strange, params_of, room_of_callee};
 ghost use Rattle.sbx_rules.specs.Ways.{after_call, cells_at, fuel_at, state_at, visits_at, weight_to};
 ghost use Rattle.sbx_known.specs.Courses.{AreWell, IsWell, arrivals_at, is_any, listed, misses_at};
 ghost use Rattle.sbx_pass.specs.Firsts.{Tells};
@@ -58,7 +61,9 @@ fn misses_cells(image: &Image, function: usize, course: Option<Course>, state: &
 /// Whether the function that was called right before a word's slot begins with more than is known after the slot.
 fn misses_params(image: &Image, spot: &Spot, state: &State) -> bool
     requires { IsSpot image.now spot.now }
-    ensures { result ≡ not (has_cells (known state.now) (params_of image.now spot.now.function spot.now.block spot.now.number spot.now.called)) }
+    ensures { result ≡
+        not (has_cells (known state.now)
+        (params_of image.now spot.now.function spot.now.block spot.now.number spot.now.called)) }
 {
     match spot.called {
         Some(callee) => !keeps_cells(image, callee, 0, state),
@@ -69,7 +74,9 @@ fn misses_params(image: &Image, spot: &Spot, state: &State) -> bool
 /// The effect of the call whose slot a word is, and whether its function begins with more than is known after the slot.
 pub fn end_call(image: &Image, spot: &Spot, state: &mut State) -> bool
     requires { IsSpot image.now spot.now }
-    ensures missed { result ≡ not (has_cells (known state.old) (params_of image.now spot.now.function spot.now.block spot.now.number spot.now.called)) }
+    ensures missed { result ≡
+        not (has_cells (known state.old)
+        (params_of image.now spot.now.function spot.now.block spot.now.number spot.now.called)) }
     ensures known { known state.new ≡ after_call image.now spot.now.called (known state.old) }
 {
     let misses = misses_params(image, spot, state);
@@ -80,7 +87,10 @@ pub fn end_call(image: &Image, spot: &Spot, state: &mut State) -> bool
 /// Whether a first block lists cells, or another one a cell that its function can't write.
 fn lists_badly_at(image: &Image, spot: &Spot) -> bool
     requires { IsSpot image.now spot.now }
-    ensures { result ≡ ((spot.now.number == 0) && lists_badly (function_at image.now spot.now.function) spot.now.block (block_at image.now spot.now.function spot.now.block)) }
+    ensures { result ≡
+        ((spot.now.number == 0)
+        && lists_badly (function_at image.now spot.now.function) spot.now.block
+        (block_at image.now spot.now.function spot.now.block)) }
 {
     spot.number == 0
         && lists_badly(
@@ -92,7 +102,9 @@ fn lists_badly_at(image: &Image, spot: &Spot) -> bool
 
 /// Whether the stack room is less than the function's frame, or function 0's more than the stack.
 fn lacks_entry_room(image: &Image, function: &Function, number: usize) -> bool
-    ensures { result ≡ (nat_lt function.now.stack_room function.now.frame || ((number == 0) && nat_lt (4096 * image.now.stack_pages) (function.now.stack_room + 64))) }
+    ensures { result ≡
+        (nat_lt function.now.stack_room function.now.frame
+        || ((number == 0) && nat_lt (4096 * image.now.stack_pages) (function.now.stack_room + 64))) }
 {
     let stack = 4_096 * u64::from(image.stack_pages());
     function.stack_room < function.frame
@@ -143,14 +155,17 @@ fn lacks_depth(image: &Image, spot: &Spot) -> bool
 /// Whether a way is a return whose results aren't within the function's.
 fn breaks_results(function: &Function, course: Option<Course>, state: &State) -> bool
     requires { IsCountedFunction function.now }
-    ensures { result ≡ is_any (λ v. is_back v.way && not (has_outs 8 function.now.results v.known)) course (known state.now) }
+    ensures { result ≡
+        is_any (λ v. is_back v.way && not (has_outs 8 function.now.results v.known)) course (known state.now) }
 {
     comes_back(course) && !has_outs(8, function.results.as_slice(), state)
 }
 
 fn breaks_results_on(function: &Function, courses: &Courses, here: &State, other: &State) -> bool
     requires { IsCountedFunction function.now }
-    ensures { result ≡ list_any (λ v. is_back v.way && not (has_outs 8 function.now.results v.known)) (listed courses.now (known here.now) (known other.now)) }
+    ensures { result ≡
+        list_any (λ v. is_back v.way && not (has_outs 8 function.now.results v.known))
+        (listed courses.now (known here.now) (known other.now)) }
 {
     breaks_results(function, courses.first, here) || breaks_results(function, courses.second, other)
 }
@@ -158,7 +173,10 @@ fn breaks_results_on(function: &Function, courses: &Courses, here: &State, other
 /// Whether function 0 has params or returns.
 fn is_bad_entry(image: &Image, spot: &Spot) -> bool
     requires { IsSpot image.now spot.now }
-    ensures { result ≡ ((spot.now.function == 0) && ((is_entry spot.now.block spot.now.number && not (length (function_at image.now spot.now.function).params == 0)) || is_return spot.now.operation)) }
+    ensures { result ≡
+        ((spot.now.function == 0)
+        && ((is_entry spot.now.block spot.now.number
+        && not (length (function_at image.now spot.now.function).params == 0)) || is_return spot.now.operation)) }
 {
     spot.function == 0
         && ((is_entry(spot) && function_at(image, spot.function).params.len() != 0)
@@ -169,7 +187,8 @@ fn is_bad_entry(image: &Image, spot: &Spot) -> bool
 fn breaks_cells(image: &Image, spot: &Spot, courses: &Courses, here: &State, other: &State) -> bool
     requires spot { IsSpot image.now spot.now }
     requires well { AreWell image.now spot.now.function courses.now }
-    ensures { result ≡ (list_any (misses_at image.now spot.now.function) (listed courses.now (known here.now) (known other.now))
+    ensures { result ≡
+        (list_any (misses_at image.now spot.now.function) (listed courses.now (known here.now) (known other.now))
         || ((spot.now.number == 0) && lists_badly (function_at image.now spot.now.function) spot.now.block (block_at image.now spot.now.function spot.now.block))) }
 {
     misses_cells(image, spot.function, courses.first, here)
@@ -186,7 +205,8 @@ fn fault_of_ways(
     other: &State,
 ) -> Option<Cause>
     requires spot { IsSpot image.now spot.now }
-    requires arrivals { arrivals_at image.now spot.now.function spot.now.block spot.now.number ≡ listed courses.now (known here.now) (known other.now) }
+    requires arrivals { arrivals_at image.now spot.now.function spot.now.block spot.now.number ≡
+        listed courses.now (known here.now) (known other.now) }
     ensures { Tells (Holds image.now spot.now.function spot.now.block spot.now.number) 15 21 result }
 {
     let function = function_at(image, spot.function);
@@ -219,7 +239,8 @@ fn pays(image: &Image, spot: &Spot, weight: u64, course: Option<Course>, state: 
 /// Whether the run or the function ends after a word for which the fuel of its block isn't enough.
 fn ends_short(image: &Image, spot: &Spot, weight: u64, courses: &Courses) -> bool
     requires { IsSpot image.now spot.now }
-    ensures { (d e : Known) → IsTrue result ↔ (IsTrue (list_any (λ v. is_back v.way) (listed courses.now d e) || ends_run spot.now.operation)
+    ensures { (d e : Known) →
+        IsTrue result ↔ (IsTrue (list_any (λ v. is_back v.way) (listed courses.now d e) || ends_run spot.now.operation)
         × (IsEnough (state_at image.now spot.now.function spot.now.block 0) (fuel_at image.now spot.now.function spot.now.block) weight → ⊥)) }
 {
     (some_comes_back(courses) || ends_run(&spot.operation))
@@ -238,7 +259,8 @@ fn lacks_budget(image: &Image, spot: &Spot) -> bool
 /// Whether a term of a block's fuel names no cell of it.
 fn names_strange_at(image: &Image, spot: &Spot) -> bool
     requires { IsSpot image.now spot.now }
-    ensures { result ≡ ((spot.now.number == 0) && names_strange image.now spot.now.function spot.now.block spot.now.number) }
+    ensures { result ≡
+        ((spot.now.number == 0) && names_strange image.now spot.now.function spot.now.block spot.now.number) }
 {
     spot.number == 0 && names_strange(image, spot.function, spot.block)
 }
@@ -266,7 +288,8 @@ fn leaves_unpaid(
 ) -> bool
     requires spot { IsSpot image.now spot.now }
     requires well { AreWell image.now spot.now.function courses.now }
-    requires arrivals { arrivals_at image.now spot.now.function spot.now.block spot.now.number ≡ listed courses.now (known here.now) (known other.now) }
+    requires arrivals { arrivals_at image.now spot.now.function spot.now.block spot.now.number ≡
+        listed courses.now (known here.now) (known other.now) }
     requires weight { weight ≡ weight_to image.now spot.now.function spot.now.block (suc spot.now.number) }
     ensures { IsTrue result ↔ HasUnpaidEdge image.now spot.now.function spot.now.block spot.now.number }
 {
@@ -287,7 +310,8 @@ fn lacks_fuel(
 ) -> bool
     requires spot { IsSpot image.now spot.now }
     requires well { AreWell image.now spot.now.function courses.now }
-    requires arrivals { arrivals_at image.now spot.now.function spot.now.block spot.now.number ≡ listed courses.now (known here.now) (known other.now) }
+    requires arrivals { arrivals_at image.now spot.now.function spot.now.block spot.now.number ≡
+        listed courses.now (known here.now) (known other.now) }
     requires weight { weight ≡ weight_to image.now spot.now.function spot.now.block (suc spot.now.number) }
     ensures { IsTrue result ↔ LacksFuel image.now spot.now.function spot.now.block spot.now.number }
 {
@@ -299,7 +323,8 @@ fn lacks_fuel(
     )
 }
 
-/// The first of the rules 13 to 18 and 20 that a word breaks, where no call that it ends is made with less than its params.
+/// The first of the rules 13 to 18 and 20 that a word breaks, where no call that it ends is made with less than its
+/// params.
 pub fn fault_after(
     image: &Image,
     spot: &Spot,
@@ -310,8 +335,10 @@ pub fn fault_after(
 ) -> Option<Cause>
     requires spot { IsSpot image.now spot.now }
     requires well { AreWell image.now spot.now.function courses.now }
-    requires arrivals { arrivals_at image.now spot.now.function spot.now.block spot.now.number ≡ listed courses.now (known here.now) (known other.now) }
-    requires params { list_any (misses_params image.now spot.now.function spot.now.block spot.now.number) (visits_at image.now spot.now.function spot.now.block spot.now.number) ≡ false }
+    requires arrivals { arrivals_at image.now spot.now.function spot.now.block spot.now.number ≡
+        listed courses.now (known here.now) (known other.now) }
+    requires params { list_any (misses_params image.now spot.now.function spot.now.block spot.now.number)
+        (visits_at image.now spot.now.function spot.now.block spot.now.number) ≡ false }
     requires weight { weight ≡ weight_to image.now spot.now.function spot.now.block (suc spot.now.number) }
     ensures { Tells (Holds image.now spot.now.function spot.now.block spot.now.number) 13 21 result }
 {

@@ -1,9 +1,13 @@
-//! The rules that look before a word: what it is, where it goes, and what it reads, writes and reaches on each of its ways.
+//! The rules that look before a word: what it is, where it goes, and what it reads, writes and reaches on each of its
+//! ways.
 ghost use Rattle.std.specs.Prelude.{◌≡◌, ◌<◌, ◌+◌, ◌&&◌, ◌||◌, nat_le, not, ℕ};
 ghost use Rattle.sbx_image.specs.Parts.{Parts};
 ghost use Rattle.sbx_rules.specs.Known.{Known, known};
-ghost use Rattle.sbx_rules.specs.Operations.{access_of, is_call, is_framed, is_framed_return, is_restore, is_save, is_transfer, is_trap};
-ghost use Rattle.sbx_rules.specs.Rules.{Holds, branches_badly, enters_well, has_bad_shape, is_aligned_access, is_entry, is_later, is_placed_access, may_divide_by_zero, may_overflow, reads_undefined, runs_with, same_test, suits, touches_reserved};
+ghost use Rattle.sbx_rules.specs.Operations.{access_of, is_call, is_framed, is_framed_return, is_restore, is_save};
+ghost use Rattle.sbx_rules.specs.Operations.{is_transfer, is_trap};
+ghost use Rattle.sbx_rules.specs.Rules.{Holds, branches_badly, enters_well, has_bad_shape, is_aligned_access, is_entry};
+ghost use Rattle.sbx_rules.specs.Rules.{is_later, is_placed_access, may_divide_by_zero, may_overflow, reads_undefined};
+ghost use Rattle.sbx_rules.specs.Rules.{runs_with, same_test, suits, touches_reserved};
 ghost use Rattle.sbx_rules.specs.Places.{ends_run};
 ghost use Rattle.sbx_rules.specs.Ways.{visits_at};
 ghost use Rattle.sbx_known.specs.Courses.{listed};
@@ -27,7 +31,8 @@ pub fn is_entry(spot: &Spot) -> bool
     spot.block == 0 && spot.number == 0
 }
 
-/// Whether a function's first word isn't as its kind asks, or a SAVE or a RESTORE stands where it may not, or a RESTORE doesn't where it must.
+/// Whether a function's first word isn't as its kind asks, or a SAVE or a RESTORE stands where it may not, or a RESTORE
+/// doesn't where it must.
 fn misplaces_windows(function: &Function, spot: &Spot) -> bool
     ensures { result ≡ ((is_entry spot.now.block spot.now.number && not (enters_well function.now spot.now.operation))
         || (is_save spot.now.operation && not (is_entry spot.now.block spot.now.number && is_framed function.now.kind))
@@ -46,7 +51,8 @@ fn is_last(spot: &Spot) -> bool
     spot.count <= spot.number + 1
 }
 
-/// Whether a transfer stands in a slot, or before one that isn't in its block, or a word of the block after a slot or an exit.
+/// Whether a transfer stands in a slot, or before one that isn't in its block, or a word of the block after a slot or
+/// an exit.
 fn misplaces_transfers(spot: &Spot) -> bool
     requires { spot.now.number < spot.now.count }
     ensures { result ≡ ((is_transfer spot.now.before && (is_transfer spot.now.operation || is_trap spot.now.operation))
@@ -92,7 +98,8 @@ fn branches_badly(image: &Image, spot: &Spot) -> bool
 
 /// Whether a CALL goes to no function of larger number.
 fn calls_badly(spot: &Spot) -> bool
-    ensures { (parts : Parts) → (b i : ℕ) → result ≡ (is_call spot.now.operation && not (is_later parts spot.now.function b i spot.now.callee)) }
+    ensures { (parts : Parts) → (b i : ℕ) →
+        result ≡ (is_call spot.now.operation && not (is_later parts spot.now.function b i spot.now.callee)) }
 {
     is_call(&spot.operation)
         && match spot.callee {
@@ -121,14 +128,16 @@ fn reads_undefined_on(
     here: &State,
     other: &State,
 ) -> bool
-    ensures { result ≡ runs_with (reads_undefined function.now operation.now) (listed courses.now (known here.now) (known other.now)) }
+    ensures { result ≡
+        runs_with (reads_undefined function.now operation.now) (listed courses.now (known here.now) (known other.now)) }
 {
     (runs(courses.first) && reads_undefined(function, operation, here))
         || (runs(courses.second) && reads_undefined(function, operation, other))
 }
 
 fn touches_reserved_on(function: &Function, operation: &Operation, courses: &Courses) -> bool
-    ensures { (d e : Known) → result ≡ runs_with (λ _. touches_reserved function.now operation.now) (listed courses.now d e) }
+    ensures { (d e : Known) →
+        result ≡ runs_with (λ _. touches_reserved function.now operation.now) (listed courses.now d e) }
 {
     (runs(courses.first) || runs(courses.second)) && touches_reserved(function, operation)
 }
@@ -140,7 +149,9 @@ fn is_misaligned_on(
     here: &State,
     other: &State,
 ) -> bool
-    ensures { result ≡ runs_with (λ d. not (is_aligned_access (access_of function.now operation.now d))) (listed courses.now (known here.now) (known other.now)) }
+    ensures { result ≡
+        runs_with (λ d. not (is_aligned_access (access_of function.now operation.now d)))
+        (listed courses.now (known here.now) (known other.now)) }
 {
     (runs(courses.first) && !is_aligned(function, operation, here))
         || (runs(courses.second) && !is_aligned(function, operation, other))
@@ -154,7 +165,9 @@ fn is_outside_on(
     here: &State,
     other: &State,
 ) -> bool
-    ensures { result ≡ runs_with (λ d. not (is_placed_access image.now function.now.frame (access_of function.now operation.now d))) (listed courses.now (known here.now) (known other.now)) }
+    ensures { result ≡
+        runs_with (λ d. not (is_placed_access image.now function.now.frame (access_of function.now operation.now d)))
+        (listed courses.now (known here.now) (known other.now)) }
 {
     (runs(courses.first) && !is_placed(image, function, operation, here))
         || (runs(courses.second) && !is_placed(image, function, operation, other))
@@ -166,7 +179,8 @@ fn may_divide_by_zero_on(
     here: &State,
     other: &State,
 ) -> bool
-    ensures { result ≡ runs_with (may_divide_by_zero operation.now) (listed courses.now (known here.now) (known other.now)) }
+    ensures { result ≡
+        runs_with (may_divide_by_zero operation.now) (listed courses.now (known here.now) (known other.now)) }
 {
     (runs(courses.first) && may_divide_by_zero(operation, here))
         || (runs(courses.second) && may_divide_by_zero(operation, other))
@@ -188,7 +202,8 @@ fn fault_on_ways(
     other: &State,
 ) -> Option<Cause>
     requires spot { IsSpot image.now spot.now }
-    requires visits { visits_at image.now spot.now.function spot.now.block spot.now.number ≡ listed courses.now (known here.now) (known other.now) }
+    requires visits { visits_at image.now spot.now.function spot.now.block spot.now.number ≡
+        listed courses.now (known here.now) (known other.now) }
     ensures { Tells (Holds image.now spot.now.function spot.now.block spot.now.number) 6 12 result }
 {
     let function = function_at(image, spot.function);
@@ -215,7 +230,8 @@ pub fn fault_before(
     other: &State,
 ) -> Option<Cause>
     requires spot { IsSpot image.now spot.now }
-    requires visits { visits_at image.now spot.now.function spot.now.block spot.now.number ≡ listed courses.now (known here.now) (known other.now) }
+    requires visits { visits_at image.now spot.now.function spot.now.block spot.now.number ≡
+        listed courses.now (known here.now) (known other.now) }
     ensures { Tells (Holds image.now spot.now.function spot.now.block spot.now.number) 1 13 result }
 {
     fault_of_word(image, spot)

@@ -10,8 +10,8 @@ use sbx_known::{spot_at, start, weight_of_spot, words_in};
 use sbx_rules::{Cause, State};
 use v8_meaning::Operation;
 
-/// The first word of a block that breaks a rule, by its number in the block, and of the rules that it breaks the one of least
-/// number. The states are room to work in.
+/// The first word of a block that breaks a rule, by its number in the block, and of the rules that it breaks the one of
+/// least number. The states are room to work in.
 pub fn first_fault_in_block(
     image: &Image,
     function: usize,
@@ -21,7 +21,8 @@ pub fn first_fault_in_block(
 ) -> Option<(usize, Cause)>
     requires keeps { parts_keep image.now ≡ Ok tt }
     requires block { IsBlock image.now function block }
-    ensures { MatchOption result (IsQuiet image.now function block) (λ found. IsFirstOfBlock image.now function block found.0 found.1) }
+    ensures { MatchOption result (IsQuiet image.now function block)
+        (λ found. IsFirstOfBlock image.now function block found.0 found.1) }
 {
     start(image, function, block, here);
     let count = words_in(image, function, block);

@@ -14,7 +14,8 @@ use sbx_image::Image;
 use sbx_known::{Courses, Spot, courses_of, perform_on};
 use sbx_rules::{Cause, State};
 
-/// The first of the rules 13 to 18 and 20 that a word breaks, once it has run on its ways. The states go on to what is known then.
+/// The first of the rules 13 to 18 and 20 that a word breaks, once it has run on its ways. The states go on to what is
+/// known then.
 fn fault_once_run(
     image: &Image,
     spot: &Spot,
@@ -24,12 +25,14 @@ fn fault_once_run(
     other: &mut State,
 ) -> Option<Cause>
     requires spot { IsSpot image.now spot.now }
-    requires visits { visits_at image.now spot.now.function spot.now.block spot.now.number ≡ listed courses.now (known here.old) (known other.old) }
+    requires visits { visits_at image.now spot.now.function spot.now.block spot.now.number ≡
+        listed courses.now (known here.old) (known other.old) }
     requires well { AreWell image.now spot.now.function courses.now }
     requires straight { is_branch spot.now.before ≡ false → IsStraight courses.now }
     requires weight { weight ≡ weight_to image.now spot.now.function spot.now.block (suc spot.now.number) }
     ensures told { Tells (Holds image.now spot.now.function spot.now.block spot.now.number) 13 21 result }
-    ensures next { result ≡ None → is_branch spot.now.before ≡ false → known here.new ≡ after_word image.now spot.now.function spot.now.block spot.now.number (known here.old) }
+    ensures next { result ≡ None → is_branch spot.now.before ≡ false →
+        known here.new ≡ after_word image.now spot.now.function spot.now.block spot.now.number (known here.old) }
 {
     perform_on(image, spot, courses, here, other);
     if end_call(image, spot, here) {
@@ -38,8 +41,9 @@ fn fault_once_run(
     fault_after(image, spot, weight, courses, here, other)
 }
 
-/// The first rule that a word breaks, where the one state is what is known before it, no word before it in its block breaks the rule
-/// of shape, and the words up to it count so much. The state goes on to what is known before the next word.
+/// The first rule that a word breaks, where the one state is what is known before it, no word before it in its block
+/// breaks the rule of shape, and the words up to it count so much. The state goes on to what is known before the next
+/// word.
 pub fn fault_at(
     image: &Image,
     spot: &Spot,
@@ -49,10 +53,12 @@ pub fn fault_at(
 ) -> Option<Cause>
     requires spot { IsSpot image.now spot.now }
     requires known { known here.old ≡ state_at image.now spot.now.function spot.now.block spot.now.number }
-    requires shape { (j : ℕ) → j < spot.now.number → has_bad_shape image.now spot.now.function spot.now.block j ≡ false }
+    requires shape { (j : ℕ) → j < spot.now.number →
+        has_bad_shape image.now spot.now.function spot.now.block j ≡ false }
     requires weight { weight ≡ weight_to image.now spot.now.function spot.now.block (suc spot.now.number) }
     ensures told { Tells (Holds image.now spot.now.function spot.now.block spot.now.number) 1 21 result }
-    ensures next { result ≡ None → suc spot.now.number < words_in image.now spot.now.function spot.now.block → known here.new ≡ state_at image.now spot.now.function spot.now.block (suc spot.now.number) }
+    ensures next { result ≡ None → suc spot.now.number < words_in image.now spot.now.function spot.now.block →
+        known here.new ≡ state_at image.now spot.now.function spot.now.block (suc spot.now.number) }
 {
     let courses = courses_of(image, spot, here, other);
     match fault_before(image, spot, &courses, here, other) {

@@ -1,4 +1,5 @@
-//! Refinement, condition by condition: two ranges, and what is left of them where the condition holds, or nothing where it can't.
+//! Refinement, condition by condition: two ranges, and what is left of them where the condition holds, or nothing where
+//! it can't.
 use crate::reading::{Table, are_so};
 use sbx_range::{Range, common};
 use v8_word::Cond;

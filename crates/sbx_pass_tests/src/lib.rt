@@ -1,5 +1,5 @@
-//! What the verifier knows, from below: ranges and linear forms, what is known between two words, the pass over blocks, and the walk over
-//! whole images.
+//! What the verifier knows, from below: ranges and linear forms, what is known between two words, the pass over blocks,
+//! and the walk over whole images.
 #![tactic(auto)]
 
 #[cfg(test)]

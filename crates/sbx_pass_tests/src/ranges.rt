@@ -211,7 +211,8 @@ const HIGH: Range = Range {
     alignment: 2,
 };
 
-/// Whether operands of which one is not a multiple of 4, or whose sum or difference is past the ends, may have no tagged result.
+/// Whether operands of which one is not a multiple of 4, or whose sum or difference is past the ends, may have no
+/// tagged result.
 fn may_trap() -> bool {
     let (add, sub) = (TaggedOp::TaggedAdd, TaggedOp::TaggedSub);
     !(tagged_fits(add, FOUR, EVEN)

@@ -40,7 +40,8 @@ fn is_pair(got: Option<Pair>, left: Option<Range>, right: Option<Range>) -> bool
     }
 }
 
-/// Whether these are the ranges of a row: what is left of the first, of the first two, or what an operation makes of them.
+/// Whether these are the ranges of a row: what is left of the first, of the first two, or what an operation makes of
+/// them.
 fn agrees(
     table: Table,
     x: Range,

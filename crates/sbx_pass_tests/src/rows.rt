@@ -6,8 +6,8 @@ pub struct Row<'a> {
     pub told: Option<(usize, u32, u8)>,
 }
 
-/// `save %sp,-96,%sp; mov 1000,%l0; loop: ta 1; cmp %o0,-1; be done; nop; ta 2; deccc %l0; bne loop; nop; done: mov 0,%o0; ta 0`, in four
-/// blocks: the loop's two take 16 turns for each of %l0, which is from 1 to 1,000.
+/// `save %sp,-96,%sp; mov 1000,%l0; loop: ta 1; cmp %o0,-1; be done; nop; ta 2; deccc %l0; bne loop; nop; done: mov
+/// 0,%o0; ta 0`, in four blocks: the loop's two take 16 turns for each of %l0, which is from 1 to 1,000.
 pub const ECHO: &[u8] = &[
     83, 66, 88, 56, 0, 1, 0, 7, 0, 0, 0, 12, 0, 0, 0, 0, 0, 1, 0, 1, 157, 227, 191, 160, 160, 16,
     35, 232, 145, 208, 32, 1, 128, 162, 63, 255, 2, 128, 0, 6, 1, 0, 0, 0, 145, 208, 32, 2, 160,
@@ -19,8 +19,8 @@ pub const ECHO: &[u8] = &[
     4, 0, 40, 0, 0, 0, 0, 0, 0, 0, 0, 0, 0, 0, 4,
 ];
 
-/// A loop that copies its input, a program that does nothing, one that calls, an image for each of the rules 1 to 18 that breaks it, and
-/// some of version 3.
+/// A loop that copies its input, a program that does nothing, one that calls, an image for each of the rules 1 to 18
+/// that breaks it, and some of version 3.
 pub static ROWS: [Row<'static>; 28] = [
     Row {
         image: ECHO,

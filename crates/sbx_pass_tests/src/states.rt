@@ -41,7 +41,8 @@ fn wrong(state: &mut State, cells: &[Cell], rows: &[Row]) -> Option<usize> {
     first_wrong(state, rows)
 }
 
-/// The programs. A function that names a table costs the prover by all that stands in it, so this one does nothing else.
+/// The programs. A function that names a table costs the prover by all that stands in it, so this one does nothing
+/// else.
 fn all_programs() -> &'static [Program] {
     &PROGRAMS
 }

@@ -21,8 +21,8 @@ fn a_loop_is_checked(rt: HostRuntime) {
     assert!(rt; is_told(rt.alloc(), ECHO, &None));
 }
 
-/// `save %sp,-96,%sp; mov 32,%o0; call .+20; nop; ta 2; mov 0,%o0; ta 0; retl; add %o0,1,%o0`: a function of 39 turns that passes 32 to a
-/// leaf, which asks for at most 254, adds 1 and promises at most 255.
+/// `save %sp,-96,%sp; mov 32,%o0; call .+20; nop; ta 2; mov 0,%o0; ta 0; retl; add %o0,1,%o0`: a function of 39 turns
+/// that passes 32 to a leaf, which asks for at most 254, adds 1 and promises at most 255.
 const ADDING: [u8; 158] = [
     83, 66, 88, 56, 0, 1, 0, 7, 0, 0, 0, 9, 0, 0, 0, 0, 0, 1, 0, 2, 157, 227, 191, 160, 144, 16,
     32, 32, 64, 0, 0, 5, 1, 0, 0, 0, 145, 208, 32, 2, 144, 16, 32, 0, 145, 208, 32, 0, 129, 195,
@@ -32,7 +32,8 @@ const ADDING: [u8; 158] = [
     255, 0, 0, 4, 0, 28, 0, 0, 0, 0, 0, 0, 0, 0, 0, 0, 0, 2,
 ];
 
-/// The same with a leaf that asks for at most `param` and promises at most `promised`, and so many turns as budget and fuel.
+/// The same with a leaf that asks for at most `param` and promises at most `promised`, and so many turns as budget and
+/// fuel.
 fn adding(param: u8, promised: u8, turns: u8) -> [u8; 158] {
     let mut bytes = ADDING;
     bytes[79] = turns;
@@ -98,8 +99,9 @@ fn calls_are_checked(rt: HostRuntime) {
     }
 }
 
-/// `save %sp,-96,%sp`, `mov 0` to each local, and `mov 0,%o0; ta 0`, in two blocks, the second with a cell of each local, 0 to 0, and the
-/// greatest coefficients of both signs. A SAVE weighs 25, an exit 3: the first block has 37 turns.
+/// `save %sp,-96,%sp`, `mov 0` to each local, and `mov 0,%o0; ta 0`, in two blocks, the second with a cell of each
+/// local, 0 to 0, and the greatest coefficients of both signs. A SAVE weighs 25, an exit 3: the first block has 37
+/// turns.
 const LOCALS: [u8; 258] = [
     83, 66, 88, 56, 0, 1, 0, 7, 0, 0, 0, 11, 0, 0, 0, 0, 0, 1, 0, 1, 157, 227, 191, 160, 160, 16,
     32, 0, 162, 16, 32, 0, 164, 16, 32, 0, 166, 16, 32, 0, 168, 16, 32, 0, 170, 16, 32, 0, 172, 16,

@@ -44,7 +44,8 @@ pub first_start : (before : List Item) → list_any is_region before ≡ false �
 first_start [] h = refl
 first_start (i ∷ before) h = by (is_region i) h (first_start before)
   where
-    by : (t : Bool) → (t || list_any is_region before) ≡ false → (list_any is_region before ≡ false → region_start before ≡ DATA_START) → (if t then next_start before (region_start before) else region_start before) ≡ DATA_START
+    by : (t : Bool) → (t || list_any is_region before) ≡ false → (list_any is_region before ≡ false → region_start before ≡ DATA_START) →
+        (if t then next_start before (region_start before) else region_start before) ≡ DATA_START
     by true k more = absurd (cc)
     by false k more = more k
 

@@ -31,7 +31,8 @@ pub worth_push : (ls : List Label) (l : Label) (q : List ℕ) → worth_in (ls +
 worth_push [] l q = refl
 worth_push (k ∷ ls) l q = by (worth_push ls l q) (bytes_eq k.name q)
   where
-    by : worth_in (ls ++ l ∷ []) q ≡ or_else (worth_in ls q) (cond (bytes_eq l.name q) (Some l.address) None) → (t : Bool) → cond t (Some k.address) (worth_in (ls ++ l ∷ []) q) ≡ or_else (cond t (Some k.address) (worth_in ls q)) (cond (bytes_eq l.name q) (Some l.address) None)
+    by : worth_in (ls ++ l ∷ []) q ≡ or_else (worth_in ls q) (cond (bytes_eq l.name q) (Some l.address) None) → (t : Bool) →
+        cond t (Some k.address) (worth_in (ls ++ l ∷ []) q) ≡ or_else (cond t (Some k.address) (worth_in ls q)) (cond (bytes_eq l.name q) (Some l.address) None)
     by more true = refl
     by more false = more
 
@@ -60,7 +61,9 @@ pub more_labels : (front before after : List Label) → duplicates front (before
 more_labels front [] after = ap (λ (ls : List Label). duplicates ls after) (sym (append-nil front))
 more_labels front (l ∷ before) after =
     let again : List AsmFault = told_again (list_any (is_called l.name) front) l.line in
-    ap (λ (fs : List AsmFault). again ++ fs) (more_labels (front ++ l ∷ []) before after ∙ ap (λ (ls : List Label). duplicates (front ++ l ∷ []) before ++ duplicates ls after) (append_assoc front (l ∷ []) before))
+    ap (λ (fs : List AsmFault). again ++ fs)
+    (more_labels (front ++ l ∷ []) before after
+    ∙ ap (λ (ls : List Label). duplicates (front ++ l ∷ []) before ++ duplicates ls after) (append_assoc front (l ∷ []) before))
     ∙ sym (append_assoc again (duplicates (front ++ l ∷ []) before) (duplicates (front ++ l ∷ before) after))
 
 -- one more label, whose name has a value

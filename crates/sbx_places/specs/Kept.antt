@@ -16,7 +16,15 @@ worth t name = get_by (λ k. bytes_eq name k.now) t.entries
 
 -- the place of a line behind some others, the nearest first
 abbrev pub place_at : List Item → Place
-place_at before = record { in_code = in_code before; next_word = code_address before; has_region = list_any is_region before; region_start = region_start before; region_bytes = data_offset before }
+place_at before =
+    record {
+      in_code = in_code before;
+      next_word = code_address before;
+      has_region =
+          list_any is_region before;
+      region_start = region_start before;
+      region_bytes = data_offset before;
+    }
 
 -- a survey of some labels has the worth of each, and the faults of those that stand twice
 abbrev pub IsSurvey : List Label → Survey → Type 0

@@ -7,4 +7,5 @@ use Rattle.sbx_places.specs.declared.rows.Row.{Row}
 
 -- a statement of the code has its words from the address on that a label of its line has
 abbrev pub row_at : List Item → Item → List Item → List Row
-row_at before i after = elim i.said [ Ok statements.Instruction ↦ record { address = code_address before; line = i.number } ∷ [] | _ ↦ [] ]
+row_at before i after =
+    elim i.said [ Ok statements.Instruction ↦ record { address = code_address before; line = i.number } ∷ [] | _ ↦ [] ]

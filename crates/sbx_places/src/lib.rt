@@ -1,4 +1,5 @@
-//! Where the lines of a source stand, what its labels are worth, and which of these stand twice: for who tells of a source line by line.
+//! Where the lines of a source stand, what its labels are worth, and which of these stand twice: for who tells of a
+//! source line by line.
 #![tactic(auto)]
 
 mod kinds;

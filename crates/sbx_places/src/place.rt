@@ -2,7 +2,8 @@
 ghost use Rattle.std.specs.Prelude.{◌≡◌, ◌+◌, ◌-◌, ◌*◌, ◌≤◌, min, List, [], ◌∷◌};
 ghost use Rattle.sbx_directives.specs.Data.{bytes_of_width};
 ghost use Rattle.sbx_asm.specs.Items.{Item};
-ghost use Rattle.sbx_asm.specs.Addresses.{code_offset, data_offset, data_length, in_code, label_address, padding_of, section_room, next_start, region_start, start_behind};
+ghost use Rattle.sbx_asm.specs.Addresses.{code_offset, data_offset, data_length, in_code, label_address, padding_of};
+ghost use Rattle.sbx_asm.specs.Addresses.{section_room, next_start, region_start, start_behind};
 ghost use Rattle.sbx_places.specs.Kept.{place_at};
 
 use crate::kinds::{is_data, is_region, is_text};

@@ -20,7 +20,8 @@ pub struct Row {
 
 /// Adds the row of a line at its place, if it has words.
 fn push_row(rows: &mut Vec<Row>, place: Place, line: &Line<'_>) -> Result<(), AllocError>
-    ensures { IfOk result (λ _. (before after : List Item) → place ≡ place_at before → rows.new.items ≡ rows.old.items ++ row_at before line.now after) }
+    ensures { IfOk result (λ _. (before after : List Item) → place ≡ place_at before →
+        rows.new.items ≡ rows.old.items ++ row_at before line.now after) }
 {
     match line.said() {
         Ok(Statement::Instruction) => {

@@ -43,7 +43,8 @@ cells_of_page r =
 region_byte : (r : Region) (k : ℕ) → or_none (slice_get (region_cells r) k) ≡ slice_get r.bytes k
 region_byte r k = elim (cases_lt k (length r.bytes)) [
   | inl less ↦ ap or_none (in_front (map Some r.bytes) empty k (subst (λ n. k < n) (sym full) less)) ∙ some_byte r.bytes k
-  | inr past ↦ ap or_none (past_front (map Some r.bytes) empty k (subst (λ n. n ≤ k) (sym full) past)) ∙ no_byte (4096 * pages_for (length r.bytes) - length r.bytes) (k - length (map Some r.bytes)) ∙ sym (slice_get_past r.bytes k past)
+  | inr past ↦ ap or_none (past_front (map Some r.bytes) empty k (subst (λ n. n ≤ k) (sym full) past))
+      ∙ no_byte (4096 * pages_for (length r.bytes) - length r.bytes) (k - length (map Some r.bytes)) ∙ sym (slice_get_past r.bytes k past)
 ]
   where
     full : length (map Some r.bytes) ≡ length r.bytes

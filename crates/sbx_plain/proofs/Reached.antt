@@ -37,7 +37,9 @@ fails_by _ new why h = absurd h
 pub reaches_none : (parts : Parts) (m : Plain) → Reaches parts m [] m
 reaches_none parts m s shows = (s, refl, shows)
 
-pub reaches_more : (parts : Parts) (fill : ℕ) (start now new : Plain) (path : List Place) (place : Place) (after : List Place) → fill < 2 ^ 32 → Reaches parts start path now → ((t : State) → Shows now t → place ≡ place_of parts t) → Turns (turn parts (filled fill)) now new turned.Went → after ≡ path ++ place ∷ [] → Reaches parts start after new
+pub reaches_more : (parts : Parts) (fill : ℕ) (start now new : Plain) (path : List Place) (place : Place) (after : List Place) → fill < 2 ^ 32 →
+    Reaches parts start path now → ((t : State) → Shows now t → place ≡ place_of parts t) → Turns (turn parts (filled fill)) now new turned.Went →
+    after ≡ path ++ place ∷ [] → Reaches parts start after new
 reaches_more parts fill start now new path place after small reached at step is s shows =
     let r = reached s shows in
     let g = goes_by (turn parts (filled fill) r.0) new (step r.0 r.2) in
@@ -45,17 +47,20 @@ reaches_more parts fill start now new path place after small reached at step is 
     let e : path ++ place_of parts r.0 ∷ [] ≡ after = ap (λ p. path ++ p ∷ []) (sym (at r.0 r.2)) ∙ sym is in
     (g.0, subst (λ way. Run parts s way g.0) e run, g.2)
 
-pub exits : (parts : Parts) (fill limit : ℕ) (start now : Plain) (path : List Place) (word : ℕ) → Reaches parts start path now → length path ≤ limit → now.exit ≡ Some word → (s : State) → Shows start s → IsRan parts fill limit s now path (endings.Exit word)
+pub exits : (parts : Parts) (fill limit : ℕ) (start now : Plain) (path : List Place) (word : ℕ) → Reaches parts start path now → length path ≤ limit →
+    now.exit ≡ Some word → (s : State) → Shows start s → IsRan parts fill limit s now path (endings.Exit word)
 exits parts fill limit start now path word reached few over s shows =
     let r = reached s shows in
     record { state = r.0; run = r.1; within = few; ends = (r.2, r.2.exit ∙ over) }
 
-pub limits : (parts : Parts) (fill limit : ℕ) (start now : Plain) (path : List Place) → Reaches parts start path now → length path ≡ limit → (s : State) → Shows start s → IsRan parts fill limit s now path endings.Limit
+pub limits : (parts : Parts) (fill limit : ℕ) (start now : Plain) (path : List Place) → Reaches parts start path now → length path ≡ limit → (s : State) →
+    Shows start s → IsRan parts fill limit s now path endings.Limit
 limits parts fill limit start now path reached all s shows =
     let r = reached s shows in
     record { state = r.0; run = r.1; within = omega arith; ends = (r.2, all) }
 
-pub fails : (parts : Parts) (fill limit : ℕ) (start now new : Plain) (path : List Place) (why : Wrong) → Reaches parts start path now → length path ≤ limit → Turns (turn parts (filled fill)) now new (turned.Failed why) → (s : State) → Shows start s → IsRan parts fill limit s new path (endings.Failed why)
+pub fails : (parts : Parts) (fill limit : ℕ) (start now new : Plain) (path : List Place) (why : Wrong) → Reaches parts start path now → length path ≤ limit →
+    Turns (turn parts (filled fill)) now new (turned.Failed why) → (s : State) → Shows start s → IsRan parts fill limit s new path (endings.Failed why)
 fails parts fill limit start now new path why reached few step s shows =
     let r = reached s shows in
     record { state = r.0; run = r.1; within = few; ends = fails_by (turn parts (filled fill) r.0) new why (step r.0 r.2) }

@@ -1,5 +1,6 @@
 -- What the machine's frames show after a write, a call and a return.
-use Rattle.std.proofs.Common.{◌≡◌, ◌≢◌, ℕ, zero, suc, ◌+◌, ◌-◌, ◌/◌, ◌%◌, ◌<◌, ◌≤◌, ◌⊎◌, inl, inr, Bool, true, false, List, [], ◌∷◌, ◌++◌, length, replicate, reverse, Option, Some, None, slice_index, slice_set, slice_get, refl, sym, ap, ◌∙◌, subst, arith}
+use Rattle.std.proofs.Common.{◌≡◌, ◌≢◌, ℕ, zero, suc, ◌+◌, ◌-◌, ◌/◌, ◌%◌, ◌<◌, ◌≤◌, ◌⊎◌, inl, inr, Bool, true, false, List, [], ◌∷◌, ◌++◌, length, replicate}
+use Rattle.std.proofs.Common.{reverse, Option, Some, None, slice_index, slice_set, slice_get, refl, sym, ap, ◌∙◌, subst, arith}
 use Rattle.std.specs.Prelude.{◌==◌, ◌&&◌, nat_lt, nat_le, if◌then◌else◌}
 use Rattle.std.proofs.lemmas.Bool.Decides.{nat_tests}
 use Rattle.std.proofs.lemmas.Grind.{get_or-set_at}
@@ -19,18 +20,23 @@ by_if P true x y p q = p
 by_if P false x y p q = q
 
 -- what holds of each part's write holds of the write
-kept : (P : Registers → Type 0) (n v : ℕ) (file : Registers) → P file → P (record file { globals = with_word file.globals n v }) → P (record file { newest = record file.newest { outs = with_word file.newest.outs n v } }) → P (record file { newest = record file.newest { locals = with_word file.newest.locals n v } }) → P (with_in n v file) → P (written n v file)
+kept : (P : Registers → Type 0) (n v : ℕ) (file : Registers) → P file → P (record file { globals = with_word file.globals n v }) →
+    P (record file { newest = record file.newest { outs = with_word file.newest.outs n v } }) →
+    P (record file { newest = record file.newest { locals = with_word file.newest.locals n v } }) → P (with_in n v file) → P (written n v file)
 unfolding written
 kept P n v file a b c d e = by_if P (n == 0) _ _ a (by_if P (nat_lt n 8) _ _ b (by_if P (nat_lt n 16) _ _ c (by_if P (nat_lt n 24) _ _ d e)))
 
-slots_in : (m : Slots) (n v : ℕ) (globals : Words) (newest : Frame) (older : List Frame) (ins : Words) → ShowsSlots m newest.slots → ShowsSlots m (with_in n v (record { globals = globals; newest = newest; older = older; oldest_ins = ins })).newest.slots
+slots_in : (m : Slots) (n v : ℕ) (globals : Words) (newest : Frame) (older : List Frame) (ins : Words) → ShowsSlots m newest.slots →
+    ShowsSlots m (with_in n v (record { globals = globals; newest = newest; older = older; oldest_ins = ins })).newest.slots
 slots_in m n v globals newest [] ins h = h
 slots_in m n v globals newest (c ∷ older) ins h = h
 
 slots_written : (m : Slots) (n v : ℕ) (file : Registers) → ShowsSlots m file.newest.slots → ShowsSlots m (written n v file).newest.slots
 slots_written m n v file h = kept (λ f. ShowsSlots m f.newest.slots) n v file h h h h (slots_in m n v file.globals file.newest file.older file.oldest_ins h)
 
-callers_in : (ms : List Saved) (n v : ℕ) (globals : Words) (newest : Frame) (older : List Frame) (ins : Words) → ShowsCallers ms older ins → ShowsCallers ms (with_in n v (record { globals = globals; newest = newest; older = older; oldest_ins = ins })).older (with_in n v (record { globals = globals; newest = newest; older = older; oldest_ins = ins })).oldest_ins
+callers_in : (ms : List Saved) (n v : ℕ) (globals : Words) (newest : Frame) (older : List Frame) (ins : Words) → ShowsCallers ms older ins →
+    ShowsCallers ms (with_in n v (record { globals = globals; newest = newest; older = older; oldest_ins = ins })).older
+    (with_in n v (record { globals = globals; newest = newest; older = older; oldest_ins = ins })).oldest_ins
 callers_in [] n v globals newest [] ins h = tt
 callers_in [] n v globals newest (c ∷ older) ins h = absurd h
 callers_in (m ∷ ms) n v globals newest [] ins h = absurd h
@@ -136,7 +142,8 @@ if_both : (a b : Bool) (x : Option ℕ) → (if a && b then x else None) ≡ (if
 if_both true b x = refl
 if_both false b x = refl
 
-same_slot : (base top a : ℕ) → base % 8 ≡ 0 → base + 64 ≤ top → is_slot base top a ≡ ((nat_le (base + 64) a && ((a - (base + 64)) % 4 == 0)) && nat_lt ((a - (base + 64)) / 4) ((top - base - 64 + 3) / 4))
+same_slot : (base top a : ℕ) → base % 8 ≡ 0 → base + 64 ≤ top →
+    is_slot base top a ≡ ((nat_le (base + 64) a && ((a - (base + 64)) % 4 == 0)) && nat_lt ((a - (base + 64)) / 4) ((top - base - 64 + 3) / 4))
 same_slot base top a whole room = grind (arith, nat_tests)
 
 slot_same : (fill base top a : ℕ) → base % 8 ≡ 0 → base + 64 ≤ top → (if is_slot base top a then Some fill else None) ≡ slot_at (base + 64) (replicate ((top - base - 64 + 3) / 4) fill) a
@@ -218,7 +225,9 @@ pub record IsPopped (old new : Frames) (caller : Saved) : Type 0 where
   pub slots : new.slots ≡ caller.slots
   pub older : old.older.items ≡ new.older.items ++ caller ∷ []
 
-module _ (old new : Frames) (caller : Saved) (is : IsPopped old new caller) (globals oldest : Words) (newest back : Frame) (rest : List Frame) (h : ShowsFrames old (record { globals = globals; newest = newest; older = back ∷ rest; oldest_ins = oldest })) (c : ShowsCaller caller back (ins_of rest oldest)) where
+module _ (old new : Frames) (caller : Saved) (is : IsPopped old new caller) (globals oldest : Words) (newest back : Frame) (rest : List Frame)
+    (h : ShowsFrames old (record { globals = globals; newest = newest; older = back ∷ rest; oldest_ins = oldest }))
+    (c : ShowsCaller caller back (ins_of rest oldest)) where
   abbrev before : Registers
   before = record { globals = globals; newest = newest; older = back ∷ rest; oldest_ins = oldest }
 
@@ -254,7 +263,8 @@ module _ (old new : Frames) (caller : Saved) (is : IsPopped old new caller) (glo
     callers = others;
   }
 
-pop_by : (old new : Frames) (caller : Saved) → IsPopped old new caller → (globals oldest : Words) (newest : Frame) (older : List Frame) → ShowsFrames old (record { globals = globals; newest = newest; older = older; oldest_ins = oldest }) →
+pop_by : (old new : Frames) (caller : Saved) → IsPopped old new caller → (globals oldest : Words) (newest : Frame) (older : List Frame) →
+    ShowsFrames old (record { globals = globals; newest = newest; older = older; oldest_ins = oldest }) →
     ShowsCallers (caller ∷ reverse new.older.items) older oldest → Pops true (popped (record { globals = globals; newest = newest; older = older; oldest_ins = oldest })) old new
 pop_by old new caller is globals oldest newest [] h callers = absurd callers
 pop_by old new caller is globals oldest newest (back ∷ rest) h callers = back_shows old new caller is globals oldest newest back rest h callers.0 callers.1
@@ -264,7 +274,8 @@ pop_shows old new caller file is h =
     let e : reverse old.older.items ≡ caller ∷ reverse new.older.items = ap reverse is.older ∙ reverse-append new.older.items (caller ∷ []) in
     pop_by old new caller is file.globals file.oldest_ins file.newest file.older h (subst (λ ms. ShowsCallers ms file.older file.oldest_ins) e h.callers)
 
-none_by : (old : Frames) (globals oldest : Words) (newest : Frame) (older : List Frame) → ShowsCallers [] older oldest → Pops false (popped (record { globals = globals; newest = newest; older = older; oldest_ins = oldest })) old old
+none_by : (old : Frames) (globals oldest : Words) (newest : Frame) (older : List Frame) → ShowsCallers [] older oldest →
+    Pops false (popped (record { globals = globals; newest = newest; older = older; oldest_ins = oldest })) old old
 none_by old globals oldest newest [] h = refl
 none_by old globals oldest newest (f ∷ fs) h = absurd h
 

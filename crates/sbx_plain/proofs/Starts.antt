@@ -1,5 +1,6 @@
 -- A machine at a start shows a flat start.
-use Rattle.std.proofs.Common.{◌≡◌, ℕ, zero, suc, ◌+◌, ◌-◌, ◌^◌, ◌<◌, ◌≤◌, ◌⊎◌, inl, inr, Bool, true, false, List, [], ◌∷◌, reverse, Option, None, slice_index, slice_get, refl, sym, ap, ◌∙◌, subst, arith}
+use Rattle.std.proofs.Common.{◌≡◌, ℕ, zero, suc, ◌+◌, ◌-◌, ◌^◌, ◌<◌, ◌≤◌, ◌⊎◌, inl, inr, Bool, true, false, List, [], ◌∷◌, reverse, Option, None, slice_index}
+use Rattle.std.proofs.Common.{slice_get, refl, sym, ap, ◌∙◌, subst, arith}
 use Rattle.std.specs.Prelude.{◌==◌, ◌&&◌, nat_le, ◌%◌, ◌/◌, if◌then◌else◌}
 use Rattle.std.proofs.lemmas.Bool.Decides.{nat_tests}
 use Rattle.std.proofs.lemmas.Option.{slice_get_past}
@@ -91,8 +92,10 @@ start_state parts input fill = record {
   exit = None;
 }
 
-pub starts : (parts : Parts) (input : List ℕ) (fill : ℕ) (m : Plain) → fill < 2 ^ 32 → m.pc ≡ code_start → m.npc ≡ code_start + 4 → m.annulled ≡ false → m.icc ≡ record { n = false; z = false; v = false; c = false } → m.y ≡ fill →
-    IsFirst m.frames fill → ((a : ℕ) → cell_at m.memory.cells.items a ≡ data_at parts.regions a) → m.input.now ≡ input → m.output.items ≡ [] → m.exit ≡ None → (s : State) × IsStart parts input s × Shows m s
+pub starts : (parts : Parts) (input : List ℕ) (fill : ℕ) (m : Plain) → fill < 2 ^ 32 → m.pc ≡ code_start → m.npc ≡ code_start + 4 → m.annulled ≡ false →
+    m.icc ≡ record { n = false; z = false; v = false; c = false } → m.y ≡ fill →
+    IsFirst m.frames fill → ((a : ℕ) → cell_at m.memory.cells.items a ≡ data_at parts.regions a) → m.input.now ≡ input → m.output.items ≡ [] → m.exit ≡ None →
+    (s : State) × IsStart parts input s × Shows m s
 starts parts input fill m small pc npc straight icc y frames bytes same output exit = (
   start_state parts input fill,
   record {

@@ -33,7 +33,8 @@ is_apart : (low high a : ℕ) → (a < low) ⊎ (high ≤ a) → (nat_le low a &
 is_apart low high a (inl less) = grind (arith, nat_tests)
 is_apart low high a (inr past) = grind (arith, nat_tests)
 
-module _ (bytes mid new : Bytes) (address c n : ℕ) (there : IsSome (number_at bytes address (suc c))) (front : (a : ℕ) → mid a ≡ with_number bytes address c (n / 256) a) (last : (a : ℕ) → new a ≡ (if a == address + c then if_some (mid a) (n % 256) else mid a)) where
+module _ (bytes mid new : Bytes) (address c n : ℕ) (there : IsSome (number_at bytes address (suc c))) (front : (a : ℕ) →
+    mid a ≡ with_number bytes address c (n / 256) a) (last : (a : ℕ) → new a ≡ (if a == address + c then if_some (mid a) (n % 256) else mid a)) where
   -- outside of the number
   apart : (count m a : ℕ) → (nat_le address a && nat_lt a (address + count)) ≡ false → with_number bytes address count m a ≡ bytes a
   apart count m a e = ap (λ (b : Bool). if b then Some (byte_of count m (a - address)) else bytes a) e
@@ -72,8 +73,10 @@ module _ (bytes mid new : Bytes) (address c n : ℕ) (there : IsSome (number_at 
 
   outside_of : (a : ℕ) → (a < address) ⊎ (address + c < a) → new a ≡ with_number bytes address (suc c) n a
   outside_of a out =
-      let none : (nat_le address a && nat_lt a (address + c)) ≡ false = elim out [ inl low ↦ is_apart address (address + c) a (inl low) | inr high ↦ is_apart address (address + c) a (inr (omega arith)) ] in
-      let still_none : (nat_le address a && nat_lt a (address + suc c)) ≡ false = elim out [ inl low ↦ is_apart address (address + suc c) a (inl low) | inr high ↦ is_apart address (address + suc c) a (inr (omega arith)) ] in
+      let none : (nat_le address a && nat_lt a (address + c)) ≡ false =
+      elim out [ inl low ↦ is_apart address (address + c) a (inl low) | inr high ↦ is_apart address (address + c) a (inr (omega arith)) ] in
+      let still_none : (nat_le address a && nat_lt a (address + suc c)) ≡ false =
+      elim out [ inl low ↦ is_apart address (address + suc c) a (inl low) | inr high ↦ is_apart address (address + suc c) a (inr (omega arith)) ] in
       let other : a ≢ address + c = elim out [ inl low ↦ λ e. omega arith | inr high ↦ λ e. omega arith ] in
       elsewhere a other ∙ front a ∙ apart c (n / 256) a none ∙ sym (apart (suc c) n a still_none)
 
@@ -87,12 +90,14 @@ module _ (bytes mid new : Bytes) (address c n : ℕ) (there : IsSome (number_at 
   stores_more a = by_place a (search arith) (search arith) (search arith)
 
 pub stored : (bytes mid new : Bytes) (address count place n : ℕ) → count ≢ 0 → place ≡ address + count - 1 → IsSome (number_at bytes address count) →
-    ((a : ℕ) → mid a ≡ with_number bytes address (count - 1) (n / 256) a) → ((a : ℕ) → new a ≡ (if a == place then if_some (mid a) (n % 256) else mid a)) → (a : ℕ) → new a ≡ with_number bytes address count n a
+    ((a : ℕ) → mid a ≡ with_number bytes address (count - 1) (n / 256) a) → ((a : ℕ) → new a ≡ (if a == place then if_some (mid a) (n % 256) else mid a)) →
+    (a : ℕ) → new a ≡ with_number bytes address count n a
 stored bytes mid new address zero place n some at there front last a = absurd (some refl)
 stored bytes mid new address (suc c) place n some at there front last a =
     let p : place ≡ address + c = omega arith in
     let e : suc c - 1 ≡ c = omega arith in
-    stores_more bytes mid new address c n there (λ x. front x ∙ ap (λ k. with_number bytes address k (n / 256) x) e) (λ x. last x ∙ ap (λ (k : ℕ). if x == k then if_some (mid x) (n % 256) else mid x) p) a
+    stores_more bytes mid new address c n there (λ x. front x ∙ ap (λ k. with_number bytes address k (n / 256) x) e)
+    (λ x. last x ∙ ap (λ (k : ℕ). if x == k then if_some (mid x) (n % 256) else mid x) p) a
 
 front_of : (x y : Option ℕ) → IsSome (followed_by x y) → IsSome x
 front_of None y h = absurd (cc)

@@ -41,13 +41,15 @@ framed m s f file h shown = record { pc = h.pc; npc = h.npc; annulled = h.annull
 pub flagged : (m : Plain) (s : State) (a : Bool) → Shows m s → Shows (record m { annulled = a }) (record s { annulled = a })
 flagged m s a h = record { pc = h.pc; npc = h.npc; annulled = refl; icc = h.icc; y = h.y; frames = h.frames; memory = h.memory; input = h.input; output = h.output; exit = h.exit }
 
-pub branch_shows : (m new : Plain) (s : State) (b : Branch) (a : Bool) (to : ℕ) → Shows m s → a ≡ annuls b m.icc → to ≡ branched b s → Becomes (transferred to) (record m { annulled = a }) new → Shows new (branches b s)
+pub branch_shows : (m new : Plain) (s : State) (b : Branch) (a : Bool) (to : ℕ) → Shows m s → a ≡ annuls b m.icc → to ≡ branched b s →
+    Becomes (transferred to) (record m { annulled = a }) new → Shows new (branches b s)
 branch_shows m new s b a to h same e go =
     let P : Bool → ℕ → Type 0 = λ a t. Shows new (record (transferred t s) { annulled = a }) in
     let base : P a to = go (record s { annulled = a }) (flagged m s a h) in
     subst (λ t. P (annuls b s.icc) t) e (subst (λ x. P x to) (same ∙ ap (annuls b) (sym h.icc)) base)
 
-pub call_shows : (m new : Plain) (s : State) (d to : ℕ) → Shows m s → to ≡ target m.pc d → Shows new (transferred to (with_reg 15 m.pc s)) → Shows new (transferred (target s.pc d) (with_reg 15 s.pc s))
+pub call_shows : (m new : Plain) (s : State) (d to : ℕ) → Shows m s → to ≡ target m.pc d → Shows new (transferred to (with_reg 15 m.pc s)) →
+    Shows new (transferred (target s.pc d) (with_reg 15 s.pc s))
 call_shows m new s d to h e shown = subst (λ p. Shows new (transferred (target p d) (with_reg 15 p s))) (sym h.pc) (subst (λ t. Shows new (transferred t (with_reg 15 m.pc s))) e shown)
 
 pub jump_comes : (m new : Plain) (s : State) (rd t to : ℕ) → Shows m s → to ≡ t → to % 4 ≡ 0 → Shows new (transferred to (with_reg rd m.pc s)) → Comes (jumps rd t s) new turned.Went
@@ -56,27 +58,34 @@ jump_comes m new s rd t to h e whole shown =
     subst (λ x. Comes (jumps rd x s) new turned.Went) e
     (if_true (to % 4 == 0) _ _ new turned.Went test (subst (λ p. Shows new (transferred to (with_reg rd p s))) (sym h.pc) shown))
 
-pub get_shows : (m new : Plain) (s : State) (byte r v : ℕ) (rest : List ℕ) → Shows m s → m.input.now ≡ byte ∷ rest → r ≡ 8 → v ≡ byte → Shows new (with_reg r v (record s { input = rest })) → Shows new (gets s.input s)
+pub get_shows : (m new : Plain) (s : State) (byte r v : ℕ) (rest : List ℕ) → Shows m s → m.input.now ≡ byte ∷ rest → r ≡ 8 → v ≡ byte →
+    Shows new (with_reg r v (record s { input = rest })) → Shows new (gets s.input s)
 get_shows m new s byte r v rest h e first same shown =
-    subst (λ l. Shows new (gets l s)) (sym (h.input ∙ e)) (subst (λ k. Shows new (with_reg k byte (record s { input = rest }))) first (subst (λ w. Shows new (with_reg r w (record s { input = rest }))) same shown))
+    subst (λ l. Shows new (gets l s)) (sym (h.input ∙ e))
+    (subst (λ k. Shows new (with_reg k byte (record s { input = rest }))) first
+    (subst (λ w. Shows new (with_reg r w (record s { input = rest }))) same shown))
 
 -- ---- frames
 
 pub base_fits : (parts : Parts) (top b : ℕ) → is_base parts top b ≡ true → (b % 8 ≡ 0) × (b + 64 ≤ top)
 base_fits parts top b e = (grind (arith, nat_tests), grind (arith, nat_tests))
 
-pub saves_comes : (parts : Parts) (fresh : Fresh) (new : Plain) (s : State) (rd b base top : ℕ) → rd ≡ 14 → base ≡ b → top ≡ reg s 14 → is_base parts top base ≡ true → Shows new (advanced (record s { registers = pushed fresh base s.registers })) → Comes (saves parts fresh rd b s) new turned.Went
+pub saves_comes : (parts : Parts) (fresh : Fresh) (new : Plain) (s : State) (rd b base top : ℕ) → rd ≡ 14 → base ≡ b → top ≡ reg s 14 →
+    is_base parts top base ≡ true → Shows new (advanced (record s { registers = pushed fresh base s.registers })) →
+    Comes (saves parts fresh rd b s) new turned.Went
 saves_comes parts fresh new s rd b base top sp e same fits shown =
     let first : (rd == 14) ≡ true = grind (arith, nat_tests) in
     let second : is_base parts (reg s 14) base ≡ true = subst (λ t. is_base parts t base ≡ true) same fits in
     subst (λ x. Comes (saves parts fresh rd x s) new turned.Went) e
     (if_true ((rd == 14) && is_base parts (reg s 14) base) _ _ new turned.Went (ap (λ (x : Bool). x && is_base parts (reg s 14) base) first ∙ second) shown)
 
-pub restore_comes : (o : Option Registers) (old now : Frames) (new : Plain) (told : Turned) (s : State) (rd v : ℕ) → Pops true o old now → ((file : Registers) → ShowsFrames now file → Comes (writes rd v (record s { registers = file })) new told) → Comes (restores rd v o s) new told
+pub restore_comes : (o : Option Registers) (old now : Frames) (new : Plain) (told : Turned) (s : State) (rd v : ℕ) → Pops true o old now →
+    ((file : Registers) → ShowsFrames now file → Comes (writes rd v (record s { registers = file })) new told) → Comes (restores rd v o s) new told
 restore_comes None old now new told s rd v pops go = absurd pops
 restore_comes (Some file) old now new told s rd v pops go = go file pops
 
-pub annulled_comes : (parts : Parts) (fresh : Fresh) (m new : Plain) (s : State) → Shows m s → m.exit ≡ None → m.annulled ≡ true → Shows new (advanced (record s { annulled = false })) → Comes (turn parts fresh s) new turned.Went
+pub annulled_comes : (parts : Parts) (fresh : Fresh) (m new : Plain) (s : State) → Shows m s → m.exit ≡ None → m.annulled ≡ true →
+    Shows new (advanced (record s { annulled = false })) → Comes (turn parts fresh s) new turned.Went
 unfolding turn
 annulled_comes parts fresh m new s h no_exit annulled shown =
     subst (λ o. Comes (goes_on parts fresh s o s.annulled) new turned.Went) (sym (h.exit ∙ no_exit))

@@ -33,15 +33,16 @@ Becomes f old new = (s : State) → Shows old s → Shows new (f s)
 
 -- ---- runs
 
--- It shows the last state, which has an exit word, or is the one after so many steps as the limit; or there is no next state, for the
--- reason told.
+-- It shows the last state, which has an exit word, or is the one after so many steps as the limit; or there is no next
+-- state, for the reason told.
 abbrev pub EndsAs : Parts → ℕ → State → Plain → ℕ → List Place → Ending → Type 0
 EndsAs parts fill s new limit path (endings.Exit word) = Shows new s × (s.exit ≡ Some word)
 EndsAs parts fill s new limit path endings.Limit = Shows new s × (length path ≡ limit)
 EndsAs parts fill s new limit path (endings.Failed why) = turn parts (filled fill) s ≡ Fails why
 
 -- A flat run along this path, whose frames hold the fill.
-pub record IsRan (parts : Parts) (fill limit : ℕ) (old : State) (new : Plain) (path : List Place) (ending : Ending) : Type 0 where
+pub record IsRan (parts : Parts) (fill limit : ℕ) (old : State) (new : Plain) (path : List Place)
+    (ending : Ending) : Type 0 where
   pub state : State
   pub run : Run parts old path state
   pub within : length path ≤ limit

@@ -1,5 +1,6 @@
-//! The flat machine, run: as many frames as there are open calls, no windows, pages or traps. It is plain and slow, and its contracts
-//! are the flat machine's definitions, so that what those definitions say can be compared with values from outside.
+//! The flat machine, run: as many frames as there are open calls, no windows, pages or traps. It is plain and slow, and
+//! its contracts are the flat machine's definitions, so that what those definitions say can be compared with values
+//! from outside.
 #![tactic(auto)]
 
 mod accesses;

@@ -1,5 +1,6 @@
 //! The bytes of the data, from 00080000 on. Numbers stand big-endian.
-ghost use Rattle.std.specs.Prelude.{◌≡◌, ℕ, ◌+◌, ◌*◌, ◌^◌, ◌<◌, ◌≤◌, ◌++◌, ◌==◌, map, replicate, None, Some, IsSome, IfSome, IfOk, OnOk, if◌then◌else◌};
+ghost use Rattle.std.specs.Prelude.{◌≡◌, ℕ, ◌+◌, ◌*◌, ◌^◌, ◌<◌, ◌≤◌, ◌++◌, ◌==◌, map, replicate, None, Some, IsSome};
+ghost use Rattle.std.specs.Prelude.{IfSome, IfOk, OnOk, if◌then◌else◌};
 ghost use Rattle.std.specs.List.{flat_map};
 ghost use Rattle.sbx_image.specs.Regions.{data_at};
 ghost use Rattle.sbx_flat.specs.Memory.{number_at, with_number};
@@ -83,7 +84,9 @@ impl Data {
 
     /// Writes the byte at an address, where it is one of the data.
     fn set_byte(&mut self, address: u64, byte: u8)
-        ensures { (a : ℕ) → cell_at self.new.cells.items a ≡ (if a == address then if_some (cell_at self.old.cells.items a) byte else cell_at self.old.cells.items a) }
+        ensures { (a : ℕ) →
+            cell_at self.new.cells.items a ≡
+            (if a == address then if_some (cell_at self.old.cells.items a) byte else cell_at self.old.cells.items a) }
     {
         if address < START {
             return;
@@ -111,7 +114,8 @@ impl Data {
     /// Writes a number to so many bytes from an address on, which all are data.
     pub(crate) fn store(&mut self, address: u32, count: u32, number: u64)
         requires { IsSome (number_at (cell_at self.old.cells.items) address count) }
-        ensures { (a : ℕ) → cell_at self.new.cells.items a ≡ with_number (cell_at self.old.cells.items) address count number a }
+        ensures { (a : ℕ) →
+            cell_at self.new.cells.items a ≡ with_number (cell_at self.old.cells.items) address count number a }
     {
         if count == 0 {
             return;

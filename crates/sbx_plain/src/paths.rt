@@ -45,7 +45,8 @@ fn saved(n: u32, traffic: Traffic) -> Traffic
     requires room { (traffic.turns + 25 < 2 ^ 64) × (traffic.overflows + 1 < 2 ^ 64) }
     ensures value { (f : Three) → result ≡ saved n (Save f) traffic }
     ensures windows { (1 ≤ result.windows) × (result.windows < n) }
-    ensures bound { (result.turns ≤ traffic.turns + 25) × (result.overflows ≤ traffic.overflows + 1) × (result.underflows ≤ traffic.underflows + 1) }
+    ensures bound { (result.turns ≤ traffic.turns + 25) × (result.overflows ≤ traffic.overflows + 1)
+        × (result.underflows ≤ traffic.underflows + 1) }
 {
     let mut after = traffic;
     if traffic.windows == n - 1 {
@@ -64,7 +65,8 @@ fn restored(traffic: Traffic) -> Traffic
     requires room { (traffic.turns + 25 < 2 ^ 64) × (traffic.underflows + 1 < 2 ^ 64) }
     ensures value { (f : Three) → result ≡ restored (Restore f) traffic }
     ensures windows { (1 ≤ result.windows) × (result.windows ≤ traffic.windows) }
-    ensures bound { (result.turns ≤ traffic.turns + 25) × (result.overflows ≤ traffic.overflows + 1) × (result.underflows ≤ traffic.underflows + 1) }
+    ensures bound { (result.turns ≤ traffic.turns + 25) × (result.overflows ≤ traffic.overflows + 1)
+        × (result.underflows ≤ traffic.underflows + 1) }
 {
     let mut after = traffic;
     if traffic.windows == 1 {
@@ -90,10 +92,12 @@ fn with_turns(traffic: Traffic, turns: u64) -> Traffic
 /// The traffic after an operation, on n windows.
 fn performed(n: u32, operation: &Operation, traffic: Traffic) -> Traffic
     requires windows { (1 ≤ traffic.windows) × (traffic.windows < n) }
-    requires room { (traffic.turns + 25 < 2 ^ 64) × (traffic.overflows + 1 < 2 ^ 64) × (traffic.underflows + 1 < 2 ^ 64) }
+    requires room { (traffic.turns + 25 < 2 ^ 64) × (traffic.overflows + 1 < 2 ^ 64)
+        × (traffic.underflows + 1 < 2 ^ 64) }
     ensures value { result ≡ after_operation n operation.now traffic }
     ensures windows { (1 ≤ result.windows) × (result.windows < n) }
-    ensures bound { (result.turns ≤ traffic.turns + 25) × (result.overflows ≤ traffic.overflows + 1) × (result.underflows ≤ traffic.underflows + 1) }
+    ensures bound { (result.turns ≤ traffic.turns + 25) × (result.overflows ≤ traffic.overflows + 1)
+        × (result.underflows ≤ traffic.underflows + 1) }
 {
     match operation {
         Operation::Save(_) => saved(n, traffic),
@@ -106,10 +110,12 @@ fn performed(n: u32, operation: &Operation, traffic: Traffic) -> Traffic
 #[tactic(auto, unfolding(sbx_flat::specs::Traffic::after_place))]
 fn after(image: &Image, n: u32, place: &Place, traffic: Traffic) -> Traffic
     requires windows { (1 ≤ traffic.windows) × (traffic.windows < n) }
-    requires room { (traffic.turns + 25 < 2 ^ 64) × (traffic.overflows + 1 < 2 ^ 64) × (traffic.underflows + 1 < 2 ^ 64) }
+    requires room { (traffic.turns + 25 < 2 ^ 64) × (traffic.overflows + 1 < 2 ^ 64)
+        × (traffic.underflows + 1 < 2 ^ 64) }
     ensures value { result ≡ after_place image.now n place.now traffic }
     ensures windows { (1 ≤ result.windows) × (result.windows < n) }
-    ensures bound { (result.turns ≤ traffic.turns + 25) × (result.overflows ≤ traffic.overflows + 1) × (result.underflows ≤ traffic.underflows + 1) }
+    ensures bound { (result.turns ≤ traffic.turns + 25) × (result.overflows ≤ traffic.overflows + 1)
+        × (result.underflows ≤ traffic.underflows + 1) }
 {
     match word_at(image.words(), place.pc) {
         Some(word) if !place.annulled => performed(n, &asked(word), traffic),

@@ -69,7 +69,8 @@ impl Plain<'_> {
         fill: u32,
         limit: u32,
     ) -> Result<Ran, AllocError>
-        ensures { IfOk result (λ ran. (s : State) → Shows self.old s → IsRan image.now fill limit s self.new ran.path.items ran.ending) }
+        ensures { IfOk result (λ ran. (s : State) → Shows self.old s →
+            IsRan image.now fill limit s self.new ran.path.items ran.ending) }
     {
         let mut path = Vec::new(alloc);
         for _count in 0..limit {

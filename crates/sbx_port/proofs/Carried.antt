@@ -186,6 +186,7 @@ module _ (R : Device → Device → Type 0) (F : Device → Type 0)
         → SameTurn R F n (next board n mmu (world n cpu ram d)) (next board n mmu (world n cpu ram e))
     unfolding next
     next_same n mmu cpu ram d e same =
-        subst (λ (st : Option Stop). SameTurn R F n (goes_on board n mmu (world n cpu ram d) d.stopped cpu.control.error cpu.control.annul) (goes_on board n mmu (world n cpu ram e) st cpu.control.error cpu.control.annul))
+        subst (λ (st : Option Stop). SameTurn R F n (goes_on board n mmu (world n cpu ram d) d.stopped cpu.control.error cpu.control.annul)
+        (goes_on board n mmu (world n cpu ram e) st cpu.control.error cpu.control.annul))
         (stopping d e same)
         (goes_on_same n mmu cpu ram d e same d.stopped cpu.control.error cpu.control.annul)

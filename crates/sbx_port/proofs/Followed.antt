@@ -143,7 +143,8 @@ module _ (met : Bool) (x : ℕ) (l j w c : List ℕ) (en : Bool) (o : List ℕ) 
       let trap_d = record d { stopped = Some stops.Trapped } in
       let trap_e = record e { stopped = Some stops.Trapped } in
       let last = either_kept r (place == 12) (Some trap_d) (Some trap_e) None None (c, refl, refl, refl, refl, refl) tt in
-      let third = either_kept r (place == 8) (Some exit_d) (Some exit_e) (if place == 12 then Some trap_d else None) (if place == 12 then Some trap_e else None) (c, refl, refl, refl, refl, refl) last in
+      let third = either_kept r (place == 8) (Some exit_d) (Some exit_e) (if place == 12 then Some trap_d else None) (if place == 12 then Some trap_e else None)
+      (c, refl, refl, refl, refl, refl) last in
       let second = either_kept r (place == 4) (Some put_d) (Some put_e)
       (if place == 8 then Some exit_d else (if place == 12 then Some trap_d else None)) (if place == 8 then Some exit_e else (if place == 12 then Some trap_e else None))
       (c, refl, refl, refl, append_assoc w o ((v % 2 ^ 8) ∷ []), refl) third in
@@ -312,7 +313,9 @@ module _ (en : Bool) (o : List ℕ) (st : Option Stop) where
       by_place false v = device_load_none (pa - device_base) size
 
 put_none : (d : Device) (v : ℕ) (a b c e : Bool) → d.input ≡ [] →
-    KeepsNone (if a then None else (if b then Some (record d { output = d.output ++ (v % 2 ^ 8) ∷ [] }) else (if c then Some (record d { stopped = Some (stops.Exit v) }) else (if e then Some (record d { stopped = Some stops.Trapped }) else None))))
+    KeepsNone (if a then None
+    else (if b then Some (record d { output = d.output ++ (v % 2 ^ 8) ∷ [] })
+    else (if c then Some (record d { stopped = Some (stops.Exit v) }) else (if e then Some (record d { stopped = Some stops.Trapped }) else None))))
 put_none d v true b c e none = tt
 put_none d v false true c e none = none
 put_none d v false false true e none = none

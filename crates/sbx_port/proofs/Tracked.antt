@@ -1,5 +1,6 @@
 -- A board that waits for bytes, beside the runs on every input that begins with those it has got.
-use Rattle.std.proofs.Common.{◌≡◌, ℕ, zero, suc, ◌+◌, ◌-◌, ◌<◌, ◌≤◌, ◌⊎◌, inl, inr, Bool, true, false, List, [], ◌∷◌, ◌++◌, length, Option, None, Some, refl, sym, ap, subst, ◌∙◌, append_assoc, arith, lit<, rules}
+use Rattle.std.proofs.Common.{◌≡◌, ℕ, zero, suc, ◌+◌, ◌-◌, ◌<◌, ◌≤◌, ◌⊎◌, inl, inr, Bool, true, false, List, [], ◌∷◌, ◌++◌, length, Option, None, Some, refl}
+use Rattle.std.proofs.Common.{sym, ap, subst, ◌∙◌, append_assoc, arith, lit<, rules}
 use Rattle.std.proofs.lemmas.List.{append-nil}
 use Rattle.std.specs.Prelude.{◌≢◌}
 use Rattle.std.specs.Io.KnownBytes.{Appends, Consumes, IsAtEnd}
@@ -307,7 +308,8 @@ pub way_delivered : (n limit : ℕ) (start : State n) (left : ℕ) (read : List 
 unfolding ending_of
 way_delivered n limit start left read met w s (k, tracks, within, all) = (k, tracks_delivered n k start read met w s (with_output s []) tracks refl, within, all)
 
-pub way_fed : (n limit : ℕ) (start : State n) (left : ℕ) (read : List ℕ) (met now_met : Bool) (w : List ℕ) (s t : State n) (first before now : Option (List ℕ)) → IsOnItsWay n limit start left read met w s
+pub way_fed : (n limit : ℕ) (start : State n) (left : ℕ) (read : List ℕ) (met now_met : Bool) (w : List ℕ) (s t : State n)
+    (first before now : Option (List ℕ)) → IsOnItsWay n limit start left read met w s
     → HasRead first before read met → met ≡ false → s.world.memory.device.input ≡ unknown → IsFed n now_met s t before now
     → (more : List ℕ) × IsOnItsWay n limit start left more now_met w t × HasRead first now more now_met
 way_fed n limit start left read met now_met w s t first before now (k, tracks, within, all) (bytes, so_far, end) not_met waiting fed =
@@ -331,7 +333,8 @@ abbrev pub IsReady : (n : ℕ) → Bool → State n → Type 0
 IsReady n met s = (s.world.memory.device.output ≡ []) × (met ≡ true → s.world.memory.device.input ≡ [])
 
 -- what is known of the input after a slice, and what was written
-pub way_exchanged : (n limit : ℕ) (start : State n) (left : ℕ) (read : List ℕ) (met now_met lacks : Bool) (w : List ℕ) (s t : State n) (first before now : Option (List ℕ)) → IsOnItsWay n limit start left read met w s
+pub way_exchanged : (n limit : ℕ) (start : State n) (left : ℕ) (read : List ℕ) (met now_met lacks : Bool) (w : List ℕ) (s t : State n)
+    (first before now : Option (List ℕ)) → IsOnItsWay n limit start left read met w s
     → HasRead first before read met → (met ≡ true → s.world.memory.device.input ≡ []) → (lacks ≡ true → s.world.memory.device.input ≡ unknown)
     → (lacks ≡ true → IsFed n now_met (with_output s []) t before now) → (lacks ≡ false → (now_met ≡ met) × (t ≡ with_output s []) × Consumes before now [])
     → (all : List ℕ) × IsOnItsWay n limit start left all now_met (w ++ s.world.memory.device.output) t × HasRead first now all now_met × IsReady n now_met t
@@ -354,7 +357,8 @@ way_exchanged n limit start left read met now_met false w s t first before now w
     )
 
 -- the measure of the loop: turns that are left, and whether a byte is waited for
-pub comes_nearer : (n left told : ℕ) (lacks now_met : Bool) (s t v : State n) (before now : Option (List ℕ)) → IsSlice n left s told t → (lacks ≡ true → t.world.memory.device.input ≡ unknown) → (lacks ≡ false → 0 < told)
+pub comes_nearer : (n left told : ℕ) (lacks now_met : Bool) (s t v : State n) (before now : Option (List ℕ)) → IsSlice n left s told t →
+    (lacks ≡ true → t.world.memory.device.input ≡ unknown) → (lacks ≡ false → 0 < told)
     → (lacks ≡ true → IsFed n now_met (with_output t []) v before now) → 0 < told ⊎ (told ≡ 0)
     → (left - told) + (left - told) + waits v.world.memory.device.input < left + left + waits s.world.memory.device.input
 comes_nearer n left told lacks now_met s t v before now slice waiting goes fed (inl some) =
@@ -376,7 +380,8 @@ some_or_none : (k : ℕ) → 0 < k ⊎ (k ≡ 0)
 some_or_none zero = inr refl
 some_or_none (suc k) = inl (omega arith)
 
-pub comes_to_an_end : (n left told : ℕ) (lacks now_met : Bool) (s t v : State n) (before now : Option (List ℕ)) → IsSlice n left s told t → (lacks ≡ true → t.world.memory.device.input ≡ unknown) → (lacks ≡ false → 0 < told)
+pub comes_to_an_end : (n left told : ℕ) (lacks now_met : Bool) (s t v : State n) (before now : Option (List ℕ)) → IsSlice n left s told t →
+    (lacks ≡ true → t.world.memory.device.input ≡ unknown) → (lacks ≡ false → 0 < told)
     → (lacks ≡ true → IsFed n now_met (with_output t []) v before now)
     → (left - told) + (left - told) + waits v.world.memory.device.input < left + left + waits s.world.memory.device.input
 comes_to_an_end n left told lacks now_met s t v before now slice waiting goes fed =
@@ -397,7 +402,8 @@ whole n limit start left read met w s first now c d (k, tracks, within, all) (by
   written,
 )
 
-pub unread_part : (n limit : ℕ) (start : State n) (left : ℕ) (read : List ℕ) (met : Bool) (w : List ℕ) (s : State n) (first now c d : Option (List ℕ)) (fault : StreamFault) → IsOnItsWay n limit start left read met w s
+pub unread_part : (n limit : ℕ) (start : State n) (left : ℕ) (read : List ℕ) (met : Bool) (w : List ℕ) (s : State n) (first now c d : Option (List ℕ))
+    (fault : StreamFault) → IsOnItsWay n limit start left read met w s
     → HasRead first now read met → met ≡ false → fault ≡ Reader → Appends c d w → Streamed first now c d (RunsOn n start limit fault)
 unread_part n limit start left read met w s first now c d fault (k, tracks, within, all) (bytes, got, ended) not_met is written = (
   read,
@@ -412,7 +418,8 @@ unread_part n limit start left read met w s first now c d fault (k, tracks, with
   written,
 )
 
-pub unwritten_part : (n limit : ℕ) (start : State n) (left : ℕ) (read : List ℕ) (met : Bool) (w : List ℕ) (s : State n) (first now c d e : Option (List ℕ)) (fault : StreamFault) → IsOnItsWay n limit start left read met w s
+pub unwritten_part : (n limit : ℕ) (start : State n) (left : ℕ) (read : List ℕ) (met : Bool) (w : List ℕ) (s : State n) (first now c d e : Option (List ℕ))
+    (fault : StreamFault) → IsOnItsWay n limit start left read met w s
     → HasRead first now read met → s.world.memory.device.output ≢ [] → fault ≡ Writer → Appends c d w → Appends d e [] → Streamed first now c e (RunsOn n start limit fault)
 unwritten_part n limit start left read met w s first now c d e fault (k, tracks, within, all) (bytes, got, ended) some is written none = (
   read,
@@ -433,8 +440,10 @@ unwritten_part n limit start left read met w s first now c d e fault (k, tracks,
 )
 
 -- a stream failed after a slice, and before more of the input was known
-pub halted_part : (n limit : ℕ) (start : State n) (left : ℕ) (read : List ℕ) (met : Bool) (w : List ℕ) (s : State n) (first before now c d e : Option (List ℕ)) (fault : StreamFault) (lacks : Bool) → IsOnItsWay n limit start left read met w s
-    → HasRead first before read met → Consumes before now [] → (lacks ≡ true → met ≡ false) → Appends c d w → IsHalted fault lacks d e s.world.memory.device.output → Streamed first now c e (RunsOn n start limit fault)
+pub halted_part : (n limit : ℕ) (start : State n) (left : ℕ) (read : List ℕ) (met : Bool) (w : List ℕ) (s : State n) (first before now c d e : Option (List ℕ))
+    (fault : StreamFault) (lacks : Bool) → IsOnItsWay n limit start left read met w s
+    → HasRead first before read met → Consumes before now [] → (lacks ≡ true → met ≡ false) → Appends c d w →
+    IsHalted fault lacks d e s.world.memory.device.output → Streamed first now c e (RunsOn n start limit fault)
 halted_part n limit start left read met w s first before now c d e Reader lacks way has none not_met written (lacking, more) =
     let o = s.world.memory.device.output in
     unread_part n limit start left read met (w ++ o) (with_output s []) first now c e Reader (way_delivered n limit start left read met w s way)

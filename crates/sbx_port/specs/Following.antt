@@ -3,7 +3,8 @@ use Rattle.std.specs.Prelude.{ℕ, ◌≡◌, ◌≤◌, Bool, true, false, List
 use Rattle.v8_board.specs.Board.{Device}
 use Rattle.v8_board.specs.Seen.{State, turned}
 
--- what stands in the first board's input past the bytes that are known: a mark and more, or nothing where the end was met
+-- what stands in the first board's input past the bytes that are known: a mark and more, or nothing where the end was
+-- met
 abbrev pub left : Bool → ℕ → List ℕ → List ℕ
 left true x l = []
 left false x l = x ∷ l
@@ -16,7 +17,8 @@ beyond false j = j
 -- the same bytes come next in both; the second has put `w` out before what the first holds
 abbrev pub Follows : Bool → ℕ → List ℕ → List ℕ → List ℕ → Device → Device → Type 0
 Follows met x l j w d e =
-    (c : List ℕ) × (d.input ≡ c ++ left met x l) × (e.input ≡ c ++ beyond met j) × (d.ended ≡ e.ended) × (e.output ≡ w ++ d.output) × (d.stopped ≡ e.stopped)
+    (c : List ℕ) × (d.input ≡ c ++ left met x l) × (e.input ≡ c ++ beyond met j) × (d.ended ≡ e.ended)
+    × (e.output ≡ w ++ d.output) × (d.stopped ≡ e.stopped)
 
 -- the mark has not been read
 abbrev pub Fine : Bool → List ℕ → Device → Type 0

@@ -5,8 +5,8 @@ use Rattle.v8_core.specs.PortFault.TheVariants.{Memory, Reader, Writer}
 use Rattle.sbx_port.specs.declared.mailbox.Mail.{Mail}
 use Rattle.sbx_port.specs.declared.mailbox.Mail.TheVariants.{Waiting, Byte, Ended}
 
--- the input as far as it is known, the byte of output that wasn't taken away, how often it was called, how often it has failed since
--- bytes were carried, and the fault that it answered last
+-- the input as far as it is known, the byte of output that wasn't taken away, how often it was called, how often it has
+-- failed since bytes were carried, and the fault that it answered last
 pub record Held : Type 0 where
   pub input : List ℕ
   pub output : List ℕ
@@ -14,8 +14,8 @@ pub record Held : Type 0 where
   pub failed : ℕ
   pub fault : PortFault
 
--- What stands in the input for all that isn't known yet. It is no byte that anyone has read: a port that waits fails, and a turn that
--- fails changes nothing.
+-- What stands in the input for all that isn't known yet. It is no byte that anyone has read: a port that waits fails,
+-- and a turn that fails changes nothing.
 abbrev pub mark : ℕ
 mark = 0
 

@@ -17,9 +17,11 @@ IsAll None read = Unit {0}
 IsAll (Some bytes) read = bytes ≡ read
 
 -- The bytes that were read, whether their end was met, and those that were written; and this holds of them.
-abbrev pub Streamed : Option (List ℕ) → Option (List ℕ) → Option (List ℕ) → Option (List ℕ) → (List ℕ → Bool → List ℕ → Type 0) → Type 0
+abbrev pub Streamed : Option (List ℕ) → Option (List ℕ) → Option (List ℕ) → Option (List ℕ) →
+    (List ℕ → Bool → List ℕ → Type 0) → Type 0
 Streamed reader reader_now writer writer_now P =
-    (read : List ℕ) × (met : Bool) × (written : List ℕ) × P read met written × AreBytes read × Consumes reader reader_now read × (met ≡ true → IsAll reader read) × Appends writer writer_now written
+    (read : List ℕ) × (met : Bool) × (written : List ℕ) × P read met written × AreBytes read
+    × Consumes reader reader_now read × (met ≡ true → IsAll reader read) × Appends writer writer_now written
 
 -- ---- runs of a board
 
@@ -32,11 +34,12 @@ pub record StandsBeside (n : ℕ) (written : List ℕ) (s t : State n) : Type 0 
   pub counts : s.counts ≡ t.counts
   pub output : t.world.memory.device.output ≡ written
 
--- From this start the run is one on every input that begins with the bytes read, or on these alone where their end was met: this board
--- stands beside its end, and what was written is its output.
+-- From this start the run is one on every input that begins with the bytes read, or on these alone where their end was
+-- met: this board stands beside its end, and what was written is its output.
 abbrev pub RunsAs : (n : ℕ) → State n → ℕ → State n → List ℕ → Bool → List ℕ → Type 0
 RunsAs n start limit now read met written =
-    (j : List ℕ) → (end : State n) × IsRun n limit (with_input start (read ++ beyond met j)) end × StandsBeside n written now end
+    (j : List ℕ) → (end : State n) × IsRun n limit (with_input start (read ++ beyond met j)) end
+    × StandsBeside n written now end
 
 -- what a fault says: a reader's, that the input's end wasn't met; a writer's, that there is more to be written
 abbrev pub Says : StreamFault → Bool → List ℕ → Type 0
@@ -63,7 +66,8 @@ pub record IsSlice (n left : ℕ) (s : State n) (told : ℕ) (t : State n) : Typ
   pub within : told ≤ left
   pub all : ending_of n t.world ≡ None → turns.count ≡ told
 
--- what was written where a stream failed: all that was put out, before a byte that is lacking was read; or nothing of it
+-- what was written where a stream failed: all that was put out, before a byte that is lacking was read; or nothing of
+-- it
 abbrev pub IsHalted : StreamFault → Bool → Option (List ℕ) → Option (List ℕ) → List ℕ → Type 0
 IsHalted Reader lacks before now output = (lacks ≡ true) × Appends before now output
 IsHalted Writer lacks before now output = (output ≢ []) × Appends before now []

@@ -1,5 +1,6 @@
 //! Runs of a board over a reader and a writer.
-ghost use Rattle.std.specs.Prelude.{◌≡◌, ◌≢◌, ◌<◌, ◌≤◌, ◌+◌, ◌^◌, ◌∷◌, ℕ, [], true, false, IfErr, IfOk, None, OnErr, OnOk};
+ghost use Rattle.std.specs.Prelude.{◌≡◌, ◌≢◌, ◌<◌, ◌≤◌, ◌+◌, ◌^◌, ◌∷◌, ℕ, [], true, false, IfErr, IfOk, None, OnErr};
+ghost use Rattle.std.specs.Prelude.{OnOk};
 ghost use Rattle.std.specs.Io.KnownBytes.{Appends, Consumes};
 ghost use Rattle.v8_board.specs.Seen.{ending_of};
 ghost use Rattle.sbx_port.specs.Following.{Fine, with_input, with_output};
@@ -22,8 +23,8 @@ pub enum StreamFault {
     Writer,
 }
 
-/// What a slice of a run came to: its turns, or as many as were allowed where the machine has ended, and whether the next one lacks a
-/// byte of input.
+/// What a slice of a run came to: its turns, or as many as were allowed where the machine has ended, and whether the
+/// next one lacks a byte of input.
 #[derive(Clone, Copy)]
 struct Slice {
     turns: u64,
@@ -58,8 +59,8 @@ fn empty<const N: usize>(board: &mut Board<N, Mailbox>)
     }
 }
 
-/// How many turns a slice may have of those that are left: so few that the board's count tells, where they are cut short, how many were
-/// made.
+/// How many turns a slice may have of those that are left: so few that the board's count tells, where they are cut
+/// short, how many were made.
 fn most(left: u64, counted: u64) -> u64
     ensures some { 0 < left → 0 < result }
     ensures within { result ≤ left }
@@ -76,7 +77,8 @@ fn count<const N: usize>(board: &Board<N, Mailbox>) -> u64
     board.outcome().turns
 }
 
-/// A slice of a run, of at most so many turns: it ends early with the machine, and where the port can't do what the next turn asks.
+/// A slice of a run, of at most so many turns: it ends early with the machine, and where the port can't do what the
+/// next turn asks.
 fn advance<const N: usize>(board: &mut Board<N, Mailbox>, left: u64) -> Slice
     requires served { board.old.failed ≡ 0 }
     requires empty { board.old.state.world.memory.device.output ≡ [] }
@@ -100,13 +102,15 @@ fn advance<const N: usize>(board: &mut Board<N, Mailbox>, left: u64) -> Slice
     }
 }
 
-/// Reads a byte for a board that waits for one, after what it has put out was written: true where the input has ended. It is one read of
-/// one byte; whatever its error, it isn't tried again.
+/// Reads a byte for a board that waits for one, after what it has put out was written: true where the input has ended.
+/// It is one read of one byte; whatever its error, it isn't tried again.
 fn feed<const N: usize, R: Read>(
     board: &mut Board<N, Mailbox>,
     reader: &mut R,
 ) -> Result<bool, StreamFault>
-    ensures fed { IfOk result (λ ended. IsFed N ended (with_output board.old.state []) board.new.state (R.remaining reader.old) (R.remaining reader.new)) }
+    ensures fed { IfOk result
+        (λ ended. IsFed N ended (with_output board.old.state []) board.new.state (R.remaining reader.old)
+        (R.remaining reader.new)) }
     ensures served { OnOk result (board.new.failed ≡ 0) }
     ensures nothing { OnErr result (Consumes (R.remaining reader.old) (R.remaining reader.new) []) }
     ensures fault { IfErr result (λ fault. fault ≡ StreamFault.Reader) }
@@ -130,7 +134,8 @@ fn deliver<const N: usize, W: Write>(
     board: &Board<N, Mailbox>,
     writer: &mut W,
 ) -> Result<(), StreamFault>
-    ensures written { OnOk result (Appends (W.contents writer.old) (W.contents writer.new) board.now.state.world.memory.device.output) }
+    ensures written { OnOk result
+        (Appends (W.contents writer.old) (W.contents writer.new) board.now.state.world.memory.device.output) }
     ensures nothing { OnErr result (Appends (W.contents writer.old) (W.contents writer.new) []) }
     ensures held { OnErr result (board.now.state.world.memory.device.output ≢ []) }
     ensures fault { IfErr result (λ fault. fault ≡ StreamFault.Writer) }
@@ -144,8 +149,8 @@ fn deliver<const N: usize, W: Write>(
     }
 }
 
-/// Writes what a board has put out, and then reads a byte, if one is lacking. Tells whether the input's end is known: an input that has
-/// ended isn't asked again.
+/// Writes what a board has put out, and then reads a byte, if one is lacking. Tells whether the input's end is known:
+/// an input that has ended isn't asked again.
 #[tactic(auto, using(crate::proofs::Tracked::consumes_nothing))]
 fn exchange<const N: usize, R: Read, W: Write>(
     board: &mut Board<N, Mailbox>,
@@ -155,12 +160,19 @@ fn exchange<const N: usize, R: Read, W: Write>(
     writer: &mut W,
 ) -> Result<bool, StreamFault>
     requires served { lacks ≡ false → board.old.state.world.memory.device.output ≡ [] → board.old.failed ≡ 0 }
-    ensures fed { IfOk result (λ now_met. lacks ≡ true → IsFed N now_met (with_output board.old.state []) board.new.state (R.remaining reader.old) (R.remaining reader.new)) }
-    ensures kept { IfOk result (λ now_met. lacks ≡ false → (now_met ≡ met) × (board.new.state ≡ with_output board.old.state []) × Consumes (R.remaining reader.old) (R.remaining reader.new) []) }
+    ensures fed { IfOk result (λ now_met. lacks ≡ true →
+        IsFed N now_met (with_output board.old.state []) board.new.state (R.remaining reader.old)
+        (R.remaining reader.new)) }
+    ensures kept { IfOk result (λ now_met. lacks ≡ false →
+        (now_met ≡ met) × (board.new.state ≡ with_output board.old.state [])
+        × Consumes (R.remaining reader.old) (R.remaining reader.new) []) }
     ensures served { OnOk result (board.new.failed ≡ 0) }
-    ensures written { OnOk result (Appends (W.contents writer.old) (W.contents writer.new) board.old.state.world.memory.device.output) }
+    ensures written { OnOk result
+        (Appends (W.contents writer.old) (W.contents writer.new) board.old.state.world.memory.device.output) }
     ensures read { OnErr result (Consumes (R.remaining reader.old) (R.remaining reader.new) []) }
-    ensures halted { IfErr result (λ fault. IsHalted fault lacks (W.contents writer.old) (W.contents writer.new) board.old.state.world.memory.device.output) }
+    ensures halted { IfErr result
+        (λ fault. IsHalted fault lacks (W.contents writer.old)
+        (W.contents writer.new) board.old.state.world.memory.device.output) }
 {
     deliver(board, writer)?;
     if lacks {
@@ -182,10 +194,10 @@ fn look<const N: usize>(board: &Board<N, Mailbox>, met: bool) -> Result<(), Stre
     Ok(())
 }
 
-/// Runs a board to an end, but at most so many turns, over a reader and a writer: a byte is read where the program asks for one and none
-/// is known, and a byte that it puts out is written before the next one is put out or one is read, and at latest some thousands of turns
-/// later. Nothing is flushed. On a fault what was written stays written, and the board is of no further use. Nothing grows with the
-/// input or the output.
+/// Runs a board to an end, but at most so many turns, over a reader and a writer: a byte is read where the program asks
+/// for one and none is known, and a byte that it puts out is written before the next one is put out or one is read, and
+/// at latest some thousands of turns later. Nothing is flushed. On a fault what was written stays written, and the
+/// board is of no further use. Nothing grows with the input or the output.
 pub fn carry<const N: usize, R: Read, W: Write>(
     board: &mut Board<N, Mailbox>,
     limit: u64,
@@ -195,9 +207,12 @@ pub fn carry<const N: usize, R: Read, W: Write>(
     requires waiting { board.old.state.world.memory.device.input ≡ unknown }
     requires empty { board.old.state.world.memory.device.output ≡ [] }
     requires served { board.old.failed ≡ 0 }
-    ensures whole { OnOk result (Streamed (R.remaining reader.old) (R.remaining reader.new) (W.contents writer.old) (W.contents writer.new)
+    ensures whole { OnOk result
+        (Streamed (R.remaining reader.old) (R.remaining reader.new) (W.contents writer.old) (W.contents writer.new)
         (RunsAs N board.old.state limit board.new.state)) }
-    ensures part { IfErr result (λ fault. Streamed (R.remaining reader.old) (R.remaining reader.new) (W.contents writer.old) (W.contents writer.new)
+    ensures part { IfErr result
+        (λ fault. Streamed (R.remaining reader.old) (R.remaining reader.new) (W.contents writer.old)
+        (W.contents writer.new)
         (RunsOn N board.old.state limit fault)) }
 {
     let mut left = limit;

@@ -23,8 +23,9 @@ fn tells_byte(byte: u8)
     ensures { AreBytes (byte ∷ unknown) }
 {}
 
-/// A port that holds at most one byte of input and one of output. It fails where the input isn't known yet, and where the byte of
-/// output before wasn't taken away. Contracts see, behind a byte that isn't known yet, a mark that stands for all that may come.
+/// A port that holds at most one byte of input and one of output. It fails where the input isn't known yet, and where
+/// the byte of output before wasn't taken away. Contracts see, behind a byte that isn't known yet, a mark that stands
+/// for all that may come.
 #[derive(Drop)]
 pub struct Mailbox {
     mail: Mail,
@@ -39,7 +40,14 @@ impl Model for Mailbox {
 
     ghost Value = { Held };
 
-    ghost view = { λ m. record { input = input_of m.mail; output = output_of m.slot; calls = m.calls; failed = m.failures; fault = m.fault } };
+    ghost view = { λ m. record {
+      input = input_of m.mail;
+      output = output_of m.slot;
+      calls = m.calls;
+      failed =
+          m.failures;
+      fault = m.fault;
+    } };
 
     ghost invariant = { λ m. IsWhy m.failures m.fault m.mail m.slot };
 }

@@ -7,7 +7,8 @@ ghost use Rattle.sbx_put.specs.Fronts.{WroteSome};
 
 use std::io::{self, ErrorKind, Write};
 
-/// Writes all bytes. Where the writer fails, or takes none of them, it has the first ones; it isn't tried again, whatever its error.
+/// Writes all bytes. Where the writer fails, or takes none of them, it has the first ones; it isn't tried again,
+/// whatever its error.
 pub fn put_all<W: Write>(out: &mut W, bytes: &[u8]) -> io::Result<()>
     ensures whole { OnOk result (Appends (W.contents out.old) (W.contents out.new) bytes.now) }
     ensures part { OnErr result (WroteSome (W.contents out.old) (W.contents out.new) bytes.now) }
@@ -22,7 +23,8 @@ pub fn put_all<W: Write>(out: &mut W, bytes: &[u8]) -> io::Result<()>
     Ok(())
 }
 
-/// Writes all bytes, through to the end. Where the writer fails it has the first ones: all of them, where it fails to flush.
+/// Writes all bytes, through to the end. Where the writer fails it has the first ones: all of them, where it fails to
+/// flush.
 pub fn put_through<W: Write>(out: &mut W, bytes: &[u8]) -> io::Result<()>
     ensures whole { OnOk result (Appends (W.contents out.old) (W.contents out.new) bytes.now) }
     ensures part { OnErr result (WroteSome (W.contents out.old) (W.contents out.new) bytes.now) }

@@ -15,7 +15,8 @@ signed-sum x y p q l h =
     let cz = signed-word (sum x y false) (omega arith) in
     grind (arith, ints)
 
-pub signed-difference : (x y : ℕ) → x < 2 ^ 32 → y < 2 ^ 32 → negsuc 2147483647 ≤ℤ (signed x -ℤ signed y) → (signed x -ℤ signed y) ≤ℤ pos 2147483647 → signed (difference x y false) ≡ signed x -ℤ signed y
+pub signed-difference : (x y : ℕ) → x < 2 ^ 32 → y < 2 ^ 32 → negsuc 2147483647 ≤ℤ (signed x -ℤ signed y) → (signed x -ℤ signed y) ≤ℤ pos 2147483647 →
+    signed (difference x y false) ≡ signed x -ℤ signed y
 signed-difference x y p q l h =
     let cx = signed-word x p in
     let cy = signed-word y q in

@@ -12,16 +12,20 @@ use Rattle.v8_alu.specs.Word.{sign_extend}
 use Rattle.v8_alu.specs.declared.TaggedOp.TheVariants.{TaggedAdd, TaggedSub}
 use Rattle.v8_alu.specs.Results.{signed, is_signed_word, is_tagged, low_word, signed_product, sum, sum_codes, difference, difference_codes, shifted_left, shifted_right, shifted_right_signed}
 use Rattle.v8_alu.specs.declared.Op.{Op}
-use Rattle.v8_alu.specs.declared.Op.TheVariants.{Add, AddCc, Addx, AddxCc, Sub, SubCc, Subx, SubxCc, And, AndCc, Andn, AndnCc, Or, OrCc, Orn, OrnCc, Xor, XorCc, Xnor, XnorCc, Sll, Srl, Sra, Umul, UmulCc, Smul, SmulCc, TaddCc, TsubCc, MulsCc}
+use Rattle.v8_alu.specs.declared.Op.TheVariants.{Add, AddCc, Addx, AddxCc, Sub, SubCc, Subx, SubxCc, And, AndCc, Andn, AndnCc, Or, OrCc, Orn, OrnCc, Xor, XorCc}
+use Rattle.v8_alu.specs.declared.Op.TheVariants.{Xnor, XnorCc, Sll, Srl, Sra, Umul, UmulCc, Smul, SmulCc, TaddCc, TsubCc, MulsCc}
 use Rattle.sbx_image.specs.Range.{Range}
 use Rattle.sbx_range.specs.Laws.{is_some, DivisionsHaveResults, LoadsStayIn, TaggedOperationsHaveResults, QuotientsStayIn, ResultsStayAligned, TaggedResultsStayIn, WrittenYStaysIn}
 use Rattle.sbx_range.specs.Ranges.{InInterval, InRange, IsAligned, is_within, all, both_natural, fit, is_natural, is_single, is_zero, known, range}
-use Rattle.sbx_range.specs.Rows.{differences_fit, excludes_zero, sums_fit, least_product, greatest_product, count_of, divides_naturals, range_add, range_and, range_andn, range_divide, range_or, range_sll, range_smul, range_sra, range_srl, range_sub, range_umul, range_xor, least_alignment, product_alignment}
+use Rattle.sbx_range.specs.Rows.{differences_fit, excludes_zero, sums_fit, least_product, greatest_product, count_of, divides_naturals, range_add, range_and}
+use Rattle.sbx_range.specs.Rows.{range_andn, range_divide, range_or, range_sll, range_smul, range_sra, range_srl, range_sub, range_umul, range_xor}
+use Rattle.sbx_range.specs.Rows.{least_alignment, product_alignment}
 use Rattle.sbx_range.specs.Table.{is_computed, range_of, range_of_written_y, range_of_y, row_of}
 use Rattle.sbx_range.proofs.Words.{both_true, by_test, in_all, in_known, is_zero-word, signed-natural, signed-word, single-word}
 use Rattle.sbx_range.proofs.Additions.{difference-fits, in_range_add, in_range_sub, sum-fits}
 use Rattle.sbx_range.proofs.Divided.{in_range_divide}
-use Rattle.sbx_range.proofs.Multiples.{aligned-and, aligned-and_right, aligned-difference, aligned-fewer, aligned-known, aligned-or, aligned-sll, aligned-sll_any, aligned-smul, aligned-sra, aligned-srl, aligned-sum, aligned-umul, aligned-xor}
+use Rattle.sbx_range.proofs.Multiples.{aligned-and, aligned-and_right, aligned-difference, aligned-fewer, aligned-known, aligned-or, aligned-sll}
+use Rattle.sbx_range.proofs.Multiples.{aligned-sll_any, aligned-smul, aligned-sra, aligned-srl, aligned-sum, aligned-umul, aligned-xor}
 use Rattle.sbx_range.proofs.Sound.{computed-same, tagged-value}
 
 -- every word is a multiple of 1
@@ -54,12 +58,14 @@ of_max j k w h g = elim (cases_lt j k) [
 of_add : (a b : Range) (x y : ℕ) → x < 2 ^ 32 → y < 2 ^ 32 → IsAligned a.alignment x → IsAligned b.alignment y → IsAligned (range_add a b).alignment (sum x y false)
 unfolding range_add
 of_add a b x y p q h g =
-    of_fit (a.lo +ℤ b.lo) (a.hi +ℤ b.hi) (least_alignment a b) (sum x y false) (aligned-sum (least_alignment a b) x y p q (of_min_left a.alignment b.alignment x h) (of_min_right a.alignment b.alignment y g))
+    of_fit (a.lo +ℤ b.lo) (a.hi +ℤ b.hi) (least_alignment a b) (sum x y false)
+    (aligned-sum (least_alignment a b) x y p q (of_min_left a.alignment b.alignment x h) (of_min_right a.alignment b.alignment y g))
 
 of_sub : (a b : Range) (x y : ℕ) → x < 2 ^ 32 → y < 2 ^ 32 → IsAligned a.alignment x → IsAligned b.alignment y → IsAligned (range_sub a b).alignment (difference x y false)
 unfolding range_sub
 of_sub a b x y p q h g =
-    of_fit (a.lo -ℤ b.hi) (a.hi -ℤ b.lo) (least_alignment a b) (difference x y false) (aligned-difference (least_alignment a b) x y p q (of_min_left a.alignment b.alignment x h) (of_min_right a.alignment b.alignment y g))
+    of_fit (a.lo -ℤ b.hi) (a.hi -ℤ b.lo) (least_alignment a b) (difference x y false)
+    (aligned-difference (least_alignment a b) x y p q (of_min_left a.alignment b.alignment x h) (of_min_right a.alignment b.alignment y g))
 
 of_or : (a b : Range) (x y : ℕ) → x < 2 ^ 32 → y < 2 ^ 32 → InInterval a x → InInterval b y → IsAligned a.alignment x → IsAligned b.alignment y → IsAligned (range_or a b).alignment (bit_or x y)
 unfolding range_or
@@ -133,7 +139,8 @@ unfolding range_divide
 of_divide ys a b w = either (divides_naturals ys a b) _ _ w (any-word w) (any-word w)
 
 -- the row of an operation has its results' alignment
-of_row : (op : Op) (a b : Range) (x y : ℕ) (icc : Icc) (high : ℕ) → x < 2 ^ 32 → y < 2 ^ 32 → InInterval a x → InInterval b y → IsAligned a.alignment x → IsAligned b.alignment y → IsAligned (row_of op a b).alignment (outcome op x y icc high).value
+of_row : (op : Op) (a b : Range) (x y : ℕ) (icc : Icc) (high : ℕ) → x < 2 ^ 32 → y < 2 ^ 32 → InInterval a x → InInterval b y → IsAligned a.alignment x →
+    IsAligned b.alignment y → IsAligned (row_of op a b).alignment (outcome op x y icc high).value
 unfolding row_of outcome
 of_row Add a b x y icc high p q s u h g = of_add a b x y p q h g
 of_row AddCc a b x y icc high p q s u h g = of_add a b x y p q h g
@@ -166,7 +173,8 @@ of_row Xnor a b x y icc high p q s u h g = any-word _
 of_row XnorCc a b x y icc high p q s u h g = any-word _
 of_row MulsCc a b x y icc high p q s u h g = any-word _
 
-pub of_range_of : (op : Op) (a b : Range) (x y : ℕ) (icc : Icc) (high : ℕ) → x < 2 ^ 32 → y < 2 ^ 32 → InInterval a x → InInterval b y → IsAligned a.alignment x → IsAligned b.alignment y → IsAligned (range_of op a b).alignment (outcome op x y icc high).value
+pub of_range_of : (op : Op) (a b : Range) (x y : ℕ) (icc : Icc) (high : ℕ) → x < 2 ^ 32 → y < 2 ^ 32 → InInterval a x → InInterval b y →
+    IsAligned a.alignment x → IsAligned b.alignment y → IsAligned (range_of op a b).alignment (outcome op x y icc high).value
 unfolding range_of
 of_range_of op a b x y icc high p q s u h g =
     by_test (is_computed op && (is_single a && is_single b)) (λ r. IsAligned r.alignment (outcome op x y icc high).value) _ _
@@ -285,13 +293,15 @@ divisions_have_results op b x y icc high q u t = ap (λ (z : Bool). if z then No
 sign-byte : (n : ℕ) → n < 2 ^ 8 → (negsuc 127 ≤ℤ signed (sign_extend 8 n)) × (signed (sign_extend 8 n) ≤ℤ pos 127)
 sign-byte n h = elim (cases_lt n 128) [
   | inl small ↦ (let e : sign_extend 8 n ≡ n = grind (arith, nat_tests) in let r = signed-natural n (omega arith) in (rw (e, r) (omega (arith, ints)), rw (e, r) (omega (arith, ints))))
-  | inr large ↦ (let e : sign_extend 8 n ≡ n + (2 ^ 32 - 2 ^ 8) = grind (arith, nat_tests) in let w = signed-word (n + (2 ^ 32 - 2 ^ 8)) (omega arith) in (rw e (grind (arith, ints)), rw e (grind (arith, ints))))
+  | inr large ↦ (let e : sign_extend 8 n ≡ n + (2 ^ 32 - 2 ^ 8) = grind (arith, nat_tests) in let w = signed-word (n + (2 ^ 32 - 2 ^ 8)) (omega arith) in
+      (rw e (grind (arith, ints)), rw e (grind (arith, ints))))
 ]
 
 sign-half : (n : ℕ) → n < 2 ^ 16 → (negsuc 32767 ≤ℤ signed (sign_extend 16 n)) × (signed (sign_extend 16 n) ≤ℤ pos 32767)
 sign-half n h = elim (cases_lt n 32768) [
   | inl small ↦ (let e : sign_extend 16 n ≡ n = grind (arith, nat_tests) in let r = signed-natural n (omega arith) in (rw (e, r) (omega (arith, ints)), rw (e, r) (omega (arith, ints))))
-  | inr large ↦ (let e : sign_extend 16 n ≡ n + (2 ^ 32 - 2 ^ 16) = grind (arith, nat_tests) in let w = signed-word (n + (2 ^ 32 - 2 ^ 16)) (omega arith) in (rw e (grind (arith, ints)), rw e (grind (arith, ints))))
+  | inr large ↦ (let e : sign_extend 16 n ≡ n + (2 ^ 32 - 2 ^ 16) = grind (arith, nat_tests) in let w = signed-word (n + (2 ^ 32 - 2 ^ 16)) (omega arith) in
+      (rw e (grind (arith, ints)), rw e (grind (arith, ints))))
 ]
 
 -- a word from 0 up to a bound

@@ -44,7 +44,8 @@ inexact (pos n) h = inr (grind (arith, ints, nat_tests))
 inexact (negsuc n) h = inl (grind (arith, ints, nat_tests))
 
 -- a difference of two words that is no signed word has the wrong sign
-less-says-at : (x y : ℕ) (n fits : Bool) → x < 2 ^ 32 → y < 2 ^ 32 → nat_le (2 ^ 31) (difference x y false) ≡ n → is_signed_word (signed x -ℤ signed y -ℤ pos 0) ≡ fits → differ n (not fits) ≡ true → signed x <ℤ signed y
+less-says-at : (x y : ℕ) (n fits : Bool) → x < 2 ^ 32 → y < 2 ^ 32 → nat_le (2 ^ 31) (difference x y false) ≡ n →
+    is_signed_word (signed x -ℤ signed y -ℤ pos 0) ≡ fits → differ n (not fits) ≡ true → signed x <ℤ signed y
 less-says-at x y true true p q e f h =
     let z = is_signed_word-says (signed x -ℤ signed y -ℤ pos 0) f in
     let low = z.0 in let high = z.1 in
@@ -64,7 +65,8 @@ less-says-at x y false false p q e f h =
 pub less-says : (x y : ℕ) → x < 2 ^ 32 → y < 2 ^ 32 → holds Less (difference_codes x y false) ≡ true → signed x <ℤ signed y
 less-says x y p q h = less-says-at x y _ _ p q refl refl h
 
-less-denies-at : (x y : ℕ) (n fits : Bool) → x < 2 ^ 32 → y < 2 ^ 32 → nat_le (2 ^ 31) (difference x y false) ≡ n → is_signed_word (signed x -ℤ signed y -ℤ pos 0) ≡ fits → differ n (not fits) ≡ false → signed y ≤ℤ signed x
+less-denies-at : (x y : ℕ) (n fits : Bool) → x < 2 ^ 32 → y < 2 ^ 32 → nat_le (2 ^ 31) (difference x y false) ≡ n →
+    is_signed_word (signed x -ℤ signed y -ℤ pos 0) ≡ fits → differ n (not fits) ≡ false → signed y ≤ℤ signed x
 less-denies-at x y true false p q e f h =
     let z = inexact (signed x -ℤ signed y -ℤ pos 0) f in
     let cx = signed-word x p in

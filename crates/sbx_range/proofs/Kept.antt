@@ -9,13 +9,15 @@ use Rattle.std.proofs.lemmas.Int.{ints, clamps, by_lt_z}
 use Rattle.v8_alu.specs.Conditions.{holds}
 use Rattle.v8_alu.specs.Icc.{Icc}
 use Rattle.v8_alu.specs.Cond.{Cond}
-use Rattle.v8_alu.specs.Cond.TheVariants.{Never, Equal, LessOrEqual, Less, LessOrEqualUnsigned, CarrySet, Negative, OverflowSet, Always, NotEqual, Greater, GreaterOrEqual, GreaterUnsigned, CarryClear, Positive, OverflowClear}
+use Rattle.v8_alu.specs.Cond.TheVariants.{Never, Equal, LessOrEqual, Less, LessOrEqualUnsigned, CarrySet, Negative, OverflowSet, Always, NotEqual, Greater}
+use Rattle.v8_alu.specs.Cond.TheVariants.{GreaterOrEqual, GreaterUnsigned, CarryClear, Positive, OverflowClear}
 use Rattle.v8_alu.specs.Results.{signed, codes, difference_codes}
 use Rattle.sbx_image.specs.Range.{Range}
 use Rattle.sbx_range.specs.declared.refining.Pair.{Pair}
 use Rattle.sbx_range.specs.Laws.{HasSigns, IsRange, KeepsBoth, OneEdgeIsLeft, RefinementKeepsPairs, RefinementKeepsWords, WordsStayIn, is_some}
 use Rattle.sbx_range.specs.Ranges.{InInterval, IsAligned, both_natural, is_empty, is_natural, is_single, known, range}
-use Rattle.sbx_range.specs.Refining.{above_unsigned, below, below_unsigned, both_of, common, from_zero, left_below, lowered, narrowed, narrowed_by_value, opposite, pair, raised, refine, refine_by_value, right_below, some_pair, some_range, turned, without}
+use Rattle.sbx_range.specs.Refining.{above_unsigned, below, below_unsigned, both_of, common, from_zero, left_below, lowered, narrowed, narrowed_by_value}
+use Rattle.sbx_range.specs.Refining.{opposite, pair, raised, refine, refine_by_value, right_below, some_pair, some_range, turned, without}
 use Rattle.sbx_range.proofs.Words.{both_true, by_test, in_known, natural-word, signed-natural, signed-written, written-below}
 use Rattle.sbx_range.proofs.Multiples.{aligned-known}
 use Rattle.sbx_range.proofs.Alignments.{of_max, wider, wider_ends}
@@ -142,7 +144,8 @@ gu-says x y p q h =
     apart-le : (x y : ℕ) → y ≤ x → x ≢ y → y + 1 ≤ x
     apart-le x y le apart = elim (cases_lt y x) [ inl h ↦ omega arith | inr h ↦ absurd (apart (omega arith)) ]
 
-pub keeps-narrowed : (cond : Cond) (a b : Range) (x y : ℕ) → x < 2 ^ 32 → y < 2 ^ 32 → InInterval a x → InInterval b y → holds cond (difference_codes x y false) ≡ true → KeepsBoth (narrowed cond a b) x y
+pub keeps-narrowed : (cond : Cond) (a b : Range) (x y : ℕ) → x < 2 ^ 32 → y < 2 ^ 32 → InInterval a x → InInterval b y →
+    holds cond (difference_codes x y false) ≡ true → KeepsBoth (narrowed cond a b) x y
 unfolding narrowed
 keeps-narrowed Equal a b x y p q s u h = keeps-equal a b x y s u (zero-says x y p q h)
 keeps-narrowed NotEqual a b x y p q s u h = keeps-unequal a b x y p q s u (zero-denies x y p q (not-true _ h))
@@ -200,7 +203,8 @@ above_unsigned-aligned d a b x y h g =
     elim_pair (both_natural a b) (λ r. AreMultiples r x y) (turned (below d b a)) (pair a b)
     (λ _. turned-aligned (below d b a) x y (below-aligned d b a y x g h)) (λ _. record { left = h; right = g })
 
-narrowed-aligned : (cond : Cond) (a b : Range) (x y : ℕ) → x < 2 ^ 32 → y < 2 ^ 32 → holds cond (difference_codes x y false) ≡ true → IsAligned a.alignment x → IsAligned b.alignment y → AreMultiples (narrowed cond a b) x y
+narrowed-aligned : (cond : Cond) (a b : Range) (x y : ℕ) → x < 2 ^ 32 → y < 2 ^ 32 → holds cond (difference_codes x y false) ≡ true → IsAligned a.alignment x →
+    IsAligned b.alignment y → AreMultiples (narrowed cond a b) x y
 unfolding narrowed
 narrowed-aligned Equal a b x y p q t h g = equal-aligned a b x y (zero-says x y p q t) h g
 narrowed-aligned NotEqual a b x y p q t h g = record { left = without-aligned a b x h; right = without-aligned b a y g }
@@ -364,7 +368,9 @@ value-edge cond a r =
     let signs : HasSigns (codes (cast_unsigned w32 a.lo) false false) (cast_unsigned w32 a.lo) = record { zero = refl; negative = refl } in
     left-edge _ _ (holds cond (codes (cast_unsigned w32 a.lo) false false))
     (λ t. some-is Range _ _ (some-word (narrowed_by_value cond a) (cast_unsigned w32 a.lo) (keeps-value cond a (cast_unsigned w32 a.lo) _ i.1 i.0 signs t)))
-    (λ t. some-is Range _ _ (some-word (narrowed_by_value (opposite cond) a) (cast_unsigned w32 a.lo) (keeps-value (opposite cond) a (cast_unsigned w32 a.lo) _ i.1 i.0 signs (holds-opposite cond _ ∙ t))))
+    (λ t. some-is Range _ _
+    (some-word (narrowed_by_value (opposite cond) a) (cast_unsigned w32 a.lo)
+    (keeps-value (opposite cond) a (cast_unsigned w32 a.lo) _ i.1 i.0 signs (holds-opposite cond _ ∙ t))))
 
 pub one_edge_is_left : OneEdgeIsLeft
 one_edge_is_left = record { denies = holds-opposite; compared = compared-edge; by_value = value-edge }

@@ -7,7 +7,8 @@ use Rattle.v8_alu.specs.Outcomes.{outcome, complement, tagged_of}
 use Rattle.v8_alu.specs.Results.{high_word, signed_product, step_y}
 use Rattle.v8_alu.specs.declared.AluOut.{AluOut}
 use Rattle.v8_alu.specs.declared.Op.{Op}
-use Rattle.v8_alu.specs.declared.Op.TheVariants.{Add, AddCc, Addx, AddxCc, Sub, SubCc, Subx, SubxCc, And, AndCc, Andn, AndnCc, Or, OrCc, Orn, OrnCc, Xor, XorCc, Xnor, XnorCc, Sll, Srl, Sra, Umul, UmulCc, Smul, SmulCc, TaddCc, TsubCc, MulsCc}
+use Rattle.v8_alu.specs.declared.Op.TheVariants.{Add, AddCc, Addx, AddxCc, Sub, SubCc, Subx, SubxCc, And, AndCc, Andn, AndnCc, Or, OrCc, Orn, OrnCc, Xor, XorCc}
+use Rattle.v8_alu.specs.declared.Op.TheVariants.{Xnor, XnorCc, Sll, Srl, Sra, Umul, UmulCc, Smul, SmulCc, TaddCc, TsubCc, MulsCc}
 use Rattle.sbx_image.specs.Range.{Range}
 use Rattle.sbx_range.specs.Laws.{ResultsStayIn, SumsAreExact}
 use Rattle.sbx_range.specs.Ranges.{InInterval, known, is_single, word_of}
@@ -94,7 +95,8 @@ value-same SubxCc x y icc high h = absurd (cc)
 value-same MulsCc x y icc high h = absurd (cc)
 
 -- the computed word of two known words is the result
-pub computed-same : (op : Op) (a b : Range) (x y : ℕ) (icc : Icc) (high : ℕ) → x < 2 ^ 32 → y < 2 ^ 32 → InInterval a x → InInterval b y → is_computed op ≡ true → is_single a ≡ true → is_single b ≡ true
+pub computed-same : (op : Op) (a b : Range) (x y : ℕ) (icc : Icc) (high : ℕ) → x < 2 ^ 32 → y < 2 ^ 32 → InInterval a x → InInterval b y →
+    is_computed op ≡ true → is_single a ≡ true → is_single b ≡ true
     → (outcome op (word_of a) (word_of b) no_codes 0).value ≡ (outcome op x y icc high).value
 computed-same op a b x y icc high p q s u c t v =
     ap (λ n. (outcome op n (word_of b) no_codes 0).value) (single-word a x p t s)

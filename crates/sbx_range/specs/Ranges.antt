@@ -1,7 +1,8 @@
 -- Ranges: sets of words that lie between two signed numbers and are multiples of a power of two.
 -- The ends are whole numbers and nothing says that they are signed words, or that the lower one is not above the other:
 -- so every definition here is total.
-use Rattle.std.specs.Prelude.{ℕ, ◌%◌, ◌^◌, ◌≡◌, Bool, not, ◌&&◌, ◌==◌, ℤ, pos, negsuc, ◌≤ℤ◌, int_lt, nat_le, if◌then◌else◌}
+use Rattle.std.specs.Prelude.{ℕ, ◌%◌, ◌^◌, ◌≡◌, Bool, not, ◌&&◌, ◌==◌, ℤ, pos, negsuc, ◌≤ℤ◌, int_lt, nat_le}
+use Rattle.std.specs.Prelude.{if◌then◌else◌}
 use Rattle.std.specs.Int.{cast_unsigned, w32}
 use Rattle.std.specs.Ordering.{int_eq}
 use Rattle.v8_alu.specs.Results.{signed, is_signed_word}
@@ -60,7 +61,8 @@ both_natural a b = is_natural a.lo && is_natural b.lo
 
 -- whether one range lies within another
 abbrev pub is_within : Range → Range → Bool
-is_within inner outer = not (int_lt inner.lo outer.lo) && not (int_lt outer.hi inner.hi) && nat_le outer.alignment inner.alignment
+is_within inner outer =
+    not (int_lt inner.lo outer.lo) && not (int_lt outer.hi inner.hi) && nat_le outer.alignment inner.alignment
 
 abbrev pub is_empty : Range → Bool
 is_empty r = int_lt r.hi r.lo

@@ -4,7 +4,9 @@ use Rattle.std.specs.Prelude.{ℕ, ℤ, pos, negsuc, ◌+ℤ◌, ◌-ℤ◌, Opt
 use Rattle.std.specs.Int.{int_max, int_min}
 use Rattle.std.specs.Ordering.{int_eq}
 use Rattle.v8_alu.specs.Cond.{Cond}
-use Rattle.v8_alu.specs.Cond.TheVariants.{Never, Equal, LessOrEqual, Less, LessOrEqualUnsigned, CarrySet, Negative, OverflowSet, Always, NotEqual, Greater, GreaterOrEqual, GreaterUnsigned, CarryClear, Positive, OverflowClear}
+use Rattle.v8_alu.specs.Cond.TheVariants.{Never, Equal, LessOrEqual, Less, LessOrEqualUnsigned, CarrySet, Negative}
+use Rattle.v8_alu.specs.Cond.TheVariants.{OverflowSet, Always, NotEqual, Greater, GreaterOrEqual, GreaterUnsigned}
+use Rattle.v8_alu.specs.Cond.TheVariants.{CarryClear, Positive, OverflowClear}
 use Rattle.sbx_image.specs.Range.{Range}
 use Rattle.sbx_range.specs.declared.refining.Pair.{Pair}
 use Rattle.sbx_range.specs.Ranges.{range, known, is_single, is_natural, both_natural, is_empty}

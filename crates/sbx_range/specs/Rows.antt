@@ -1,5 +1,6 @@
 -- The table of ranges, a row a definition: what an operation makes of the ranges a and b of its operands.
-use Rattle.std.specs.Prelude.{ℕ, ◌+◌, ◌-◌, ◌%◌, ◌^◌, Bool, ◌&&◌, ◌||◌, ◌==◌, ℤ, pos, negsuc, ◌+ℤ◌, ◌-ℤ◌, ◌*ℤ◌, int_lt, int_div, min, max, if◌then◌else◌}
+use Rattle.std.specs.Prelude.{ℕ, ◌+◌, ◌-◌, ◌%◌, ◌^◌, Bool, ◌&&◌, ◌||◌, ◌==◌, ℤ, pos, negsuc, ◌+ℤ◌, ◌-ℤ◌, ◌*ℤ◌, int_lt}
+use Rattle.std.specs.Prelude.{int_div, min, max, if◌then◌else◌}
 use Rattle.std.specs.Int.{int_div_euclid, int_max, int_min, w32, leading_zeros}
 use Rattle.v8_alu.specs.Results.{is_signed_word}
 use Rattle.sbx_image.specs.Range.{Range}
@@ -76,7 +77,8 @@ count_of b = word_of b % 32
 
 unfoldable pub range_sll : Range → Range → Range
 range_sll a b =
-    if is_single b then fit (a.lo *ℤ pos (2 ^ count_of b)) (a.hi *ℤ pos (2 ^ count_of b)) (min 3 (a.alignment + count_of b))
+    if is_single b then fit (a.lo *ℤ pos (2 ^ count_of b)) (a.hi *ℤ pos (2 ^ count_of b))
+    (min 3 (a.alignment + count_of b))
     else all a.alignment
 
 -- a number divided by 2 ^ k, rounded down
@@ -126,7 +128,8 @@ range_umul a b =
     if both_natural a b then fit (a.lo *ℤ b.lo) (a.hi *ℤ b.hi) (product_alignment a b)
     else all (product_alignment a b)
 
--- Y is 0, the dividend's word is not negative, and the divisor is positive; of its ends both, since a range may be empty
+-- Y is 0, the dividend's word is not negative, and the divisor is positive; of its ends both, since a range may be
+-- empty
 abbrev pub divides_naturals : Range → Range → Range → Bool
 divides_naturals y a b = (is_zero y && is_natural a.lo) && (int_lt (pos 0) b.lo && int_lt (pos 0) b.hi)
 

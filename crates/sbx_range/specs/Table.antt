@@ -3,12 +3,15 @@ use Rattle.std.specs.Prelude.{Bool, true, false, ◌&&◌, nat_le, if◌then◌e
 use Rattle.v8_alu.specs.Icc.{Icc}
 use Rattle.v8_alu.specs.Outcomes.{outcome}
 use Rattle.v8_alu.specs.declared.Op.{Op}
-use Rattle.v8_alu.specs.declared.Op.TheVariants.{Add, AddCc, Sub, SubCc, And, AndCc, Andn, AndnCc, Or, OrCc, Orn, OrnCc, Xor, XorCc, Xnor, XnorCc, Sll, Srl, Sra, Umul, UmulCc, Smul, SmulCc, TaddCc, TsubCc, MulsCc}
+use Rattle.v8_alu.specs.declared.Op.TheVariants.{Add, AddCc, Sub, SubCc, And, AndCc, Andn, AndnCc, Or, OrCc, Orn, OrnCc}
+use Rattle.v8_alu.specs.declared.Op.TheVariants.{Xor, XorCc, Xnor, XnorCc, Sll, Srl, Sra, Umul, UmulCc, Smul, SmulCc}
+use Rattle.v8_alu.specs.declared.Op.TheVariants.{TaddCc, TsubCc, MulsCc}
 use Rattle.v8_alu.specs.declared.TaggedOp.{TaggedOp}
 use Rattle.v8_alu.specs.declared.TaggedOp.TheVariants.{TaggedAdd, TaggedSub}
 use Rattle.sbx_image.specs.Range.{Range}
 use Rattle.sbx_range.specs.Ranges.{all, is_single, word_of, known}
-use Rattle.sbx_range.specs.Rows.{least_alignment, sums_fit, differences_fit, range_add, range_sub, range_or, range_xor, range_and, range_andn, range_sll, range_srl, range_sra, range_smul, range_umul}
+use Rattle.sbx_range.specs.Rows.{least_alignment, sums_fit, differences_fit, range_add, range_sub, range_or, range_xor}
+use Rattle.sbx_range.specs.Rows.{range_and, range_andn, range_sll, range_srl, range_sra, range_smul, range_umul}
 
 -- the operations whose result is computed where both operands are known words
 abbrev pub is_computed : Op → Bool
@@ -61,7 +64,8 @@ row_of _ a b = all 0
 abbrev pub no_codes : Icc
 no_codes = record { n = false; z = false; v = false; c = false }
 
--- what an operation leaves in its destination: the known word that the result table gives, whatever codes and Y are, else its row
+-- what an operation leaves in its destination: the known word that the result table gives, whatever codes and Y are,
+-- else its row
 unfoldable pub range_of : Op → Range → Range → Range
 range_of op a b =
     if is_computed op && (is_single a && is_single b) then known (outcome op (word_of a) (word_of b) no_codes 0).value

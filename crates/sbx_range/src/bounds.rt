@@ -2,7 +2,8 @@
 ghost use Rattle.std.specs.Prelude.{◌≡◌, ◌<◌, ◌^◌};
 ghost use Rattle.v8_alu.specs.Results.{is_signed_word};
 ghost use Rattle.sbx_range.specs.Rows.{greatest_alignment, least_alignment};
-ghost use Rattle.sbx_range.specs.Ranges.{alignment_of, all, fit, is_natural, is_single, is_within, is_zero, known, word_of};
+ghost use Rattle.sbx_range.specs.Ranges.{alignment_of, all, fit, is_natural, is_single, is_within, is_zero, known};
+ghost use Rattle.sbx_range.specs.Ranges.{word_of};
 
 use sbx_image::Range;
 

@@ -1,8 +1,11 @@
 //! Laws of ranges. Each is the contract of a function that does nothing.
-ghost use Rattle.sbx_range.specs.Laws.{DivisionsHaveResults, LoadsStayIn, OneEdgeIsLeft, OnesAreLeast, QuotientsStayIn, RefinementKeepsPairs, RefinementKeepsWords, ResultsStayAligned, ResultsStayIn, SumsAreExact, TaggedOperationsHaveResults, TaggedResultsStayIn, WordsStayIn, WrittenYStaysIn};
+ghost use Rattle.sbx_range.specs.Laws.{DivisionsHaveResults, LoadsStayIn, OneEdgeIsLeft, OnesAreLeast, QuotientsStayIn};
+ghost use Rattle.sbx_range.specs.Laws.{RefinementKeepsPairs, RefinementKeepsWords, ResultsStayAligned, ResultsStayIn};
+ghost use Rattle.sbx_range.specs.Laws.{SumsAreExact, TaggedOperationsHaveResults, TaggedResultsStayIn, WordsStayIn};
+ghost use Rattle.sbx_range.specs.Laws.{WrittenYStaysIn};
 
-/// Of words in the intervals of two ranges, each operation's value lies in the interval of its range, and Y in that of its
-/// own, whatever the condition codes are. Alignments don't matter.
+/// Of words in the intervals of two ranges, each operation's value lies in the interval of its range, and Y in that of
+/// its own, whatever the condition codes are. Alignments don't matter.
 pub fn results_stay_in()
     ensures { ResultsStayIn }
 {}
@@ -42,8 +45,8 @@ pub fn loads_stay_in()
     ensures { LoadsStayIn }
 {}
 
-/// A known word lies in its range, a word of two ranges in what they share, and a word of a range in each range that this
-/// one lies in.
+/// A known word lies in its range, a word of two ranges in what they share, and a word of a range in each range that
+/// this one lies in.
 pub fn words_stay_in()
     ensures { WordsStayIn }
 {}
@@ -58,8 +61,8 @@ pub fn ones_are_least()
     ensures { OnesAreLeast }
 {}
 
-/// Refinement loses no pair of words for which the condition holds of the codes of the first less the second: the answer is
-/// there, and each word lies in its side, with its alignment.
+/// Refinement loses no pair of words for which the condition holds of the codes of the first less the second: the
+/// answer is there, and each word lies in its side, with its alignment.
 pub fn refinement_keeps_pairs()
     ensures { RefinementKeepsPairs }
 {}
@@ -69,8 +72,8 @@ pub fn refinement_keeps_words()
     ensures { RefinementKeepsWords }
 {}
 
-/// The opposite of a condition holds exactly where it doesn't; of the two one at least is possible, of ranges that aren't
-/// empty.
+/// The opposite of a condition holds exactly where it doesn't; of the two one at least is possible, of ranges that
+/// aren't empty.
 pub fn one_edge_is_left()
     ensures { OneEdgeIsLeft }
 {}

@@ -1,4 +1,5 @@
-//! Ranges of words: what each operation makes of the ranges of its operands, and what a condition says of two ranges that were compared.
+//! Ranges of words: what each operation makes of the ranges of its operands, and what a condition says of two ranges
+//! that were compared.
 #![tactic(auto)]
 
 mod bounds;

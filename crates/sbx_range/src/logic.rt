@@ -54,7 +54,8 @@ pub fn range_or(a: Range, b: Range) -> Range
     }
 }
 
-/// XOR: where no number is negative, from 0 to all ones below the first power of two above both; with the lesser alignment.
+/// XOR: where no number is negative, from 0 to all ones below the first power of two above both; with the lesser
+/// alignment.
 #[tactic(auto, unfolding(crate::specs::Rows::range_xor))]
 pub fn range_xor(a: Range, b: Range) -> Range
     ensures { result ≡ range_xor a b }

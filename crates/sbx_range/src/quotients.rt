@@ -26,8 +26,8 @@ fn quotient(a: i32, b: i32) -> i32
     a / b
 }
 
-/// UDIV and SDIV of `a` below Y, by `b`: where Y is 0, `a` is never negative and `b` positive, from the lower end by the
-/// upper to the upper end by the lower, rounded down; else all words.
+/// UDIV and SDIV of `a` below Y, by `b`: where Y is 0, `a` is never negative and `b` positive, from the lower end by
+/// the upper to the upper end by the lower, rounded down; else all words.
 #[tactic(auto, unfolding(crate::specs::Rows::range_divide))]
 pub fn range_divide(y: Range, a: Range, b: Range) -> Range
     ensures { result ≡ range_divide y a b }

@@ -2,7 +2,9 @@
 ghost use Rattle.std.specs.Prelude.{◌≡◌, ◌≤◌, pos, negsuc, ◌+ℤ◌, ◌-ℤ◌, ◌≤ℤ◌, if◌then◌else◌};
 ghost use Rattle.std.specs.Int.{int_max, int_min};
 ghost use Rattle.sbx_range.specs.Ranges.{range};
-ghost use Rattle.sbx_range.specs.Refining.{above_unsigned, below, below_unsigned, both_of, common, from_zero, left_below, lowered, narrowed, narrowed_by_value, pair, raised, refine, refine_by_value, right_below, some_pair, some_range, turned, without};
+ghost use Rattle.sbx_range.specs.Refining.{above_unsigned, below, below_unsigned, both_of, common, from_zero};
+ghost use Rattle.sbx_range.specs.Refining.{left_below, lowered, narrowed, narrowed_by_value, pair, raised, refine};
+ghost use Rattle.sbx_range.specs.Refining.{refine_by_value, right_below, some_pair, some_range, turned, without};
 
 use crate::bounds::{greatest_alignment, is_natural, is_single, known};
 use sbx_image::Range;

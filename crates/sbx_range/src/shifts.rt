@@ -82,7 +82,8 @@ fn right_else(a: Range) -> Range
     }
 }
 
-/// SRL by a known count: the ends divided, or where the operand can be negative, all words with so many zero bits in front.
+/// SRL by a known count: the ends divided, or where the operand can be negative, all words with so many zero bits in
+/// front.
 #[tactic(auto, unfolding(crate::specs::Rows::range_srl))]
 pub fn range_srl(a: Range, b: Range) -> Range
     ensures { result ≡ range_srl a b }

@@ -1,6 +1,7 @@
 //! Ranges of sums, differences and products.
 ghost use Rattle.std.specs.Prelude.{◌≡◌, ◌+◌, ◌+ℤ◌, ◌-ℤ◌, ◌*ℤ◌, min};
-ghost use Rattle.sbx_range.specs.Rows.{differences_fit, greatest_of, greatest_product, least_of, least_product, range_add, range_smul, range_sub, range_umul, sums_fit};
+ghost use Rattle.sbx_range.specs.Rows.{differences_fit, greatest_of, greatest_product, least_of, least_product};
+ghost use Rattle.sbx_range.specs.Rows.{range_add, range_smul, range_sub, range_umul, sums_fit};
 
 use crate::bounds::{all, fit, is_natural, is_signed_word, least_alignment};
 use sbx_image::Range;

@@ -1,7 +1,8 @@
 //! The table of ranges, by operations of the result table.
 ghost use Rattle.std.specs.Prelude.{◌≡◌};
 ghost use Rattle.sbx_range.specs.Rows.{range_divide};
-ghost use Rattle.sbx_range.specs.Table.{is_computed, no_codes, range_of, range_of_address, range_of_tagged, range_of_written_y, range_of_y, row_of, tagged_fits, writes_y};
+ghost use Rattle.sbx_range.specs.Table.{is_computed, no_codes, range_of, range_of_address, range_of_tagged};
+ghost use Rattle.sbx_range.specs.Table.{range_of_written_y, range_of_y, row_of, tagged_fits, writes_y};
 
 use crate::bounds::{all, is_single, known, least_alignment, word_of};
 use crate::logic::{range_and, range_andn, range_or, range_xor};
@@ -123,8 +124,8 @@ pub fn range_of_tagged(op: TaggedOp, a: Range, b: Range) -> Range
     }
 }
 
-/// Whether TADDccTV or TSUBccTV has a result for all words of these ranges: the low two bits of both are 0, and no sum or
-/// difference overflows.
+/// Whether TADDccTV or TSUBccTV has a result for all words of these ranges: the low two bits of both are 0, and no sum
+/// or difference overflows.
 pub fn tagged_fits(op: TaggedOp, a: Range, b: Range) -> bool
     ensures { result ≡ tagged_fits op a b }
 {

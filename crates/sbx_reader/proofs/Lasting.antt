@@ -10,7 +10,9 @@ use Rattle.sbx_image.specs.Next.{Next}
 use Rattle.sbx_image.specs.Next.TheVariants.{Exactly}
 use Rattle.sbx_image.specs.Parts.{Parts}
 use Rattle.sbx_image.specs.Rules.{◌>>=◌, wants, between, admits, in_order, is_fuel, is_coefficient, is_known, is_version, is_data_length, is_length_behind, Place, code_start}
-use Rattle.sbx_image.specs.Reading.{number_at, number_in, signed_at, bytes_at, items_at, range_at, location_at, cell_at, term_at, block_head_at, block_at, kind_at, counts_at, bounds_at, function_head_at, function_at, services_at, data_length_at, data_count_at, header_at, shape_at, shape_of, shapes_at, regions_at, parts_at, reading}
+use Rattle.sbx_image.specs.Reading.{number_at, number_in, signed_at, bytes_at, items_at, range_at, location_at, cell_at, term_at, block_head_at, block_at}
+use Rattle.sbx_image.specs.Reading.{kind_at, counts_at, bounds_at, function_head_at, function_at, services_at, data_length_at, data_count_at, header_at}
+use Rattle.sbx_image.specs.Reading.{shape_at, shape_of, shapes_at, regions_at, parts_at, reading}
 use Rattle.sbx_image.specs.declared.heads.Header.{Header}
 use Rattle.sbx_image.specs.declared.heads.Shape.{Shape}
 use Rattle.sbx_reader.specs.Fronts.{lasting, told, front}
@@ -38,7 +40,8 @@ failed_lasts grow e = record { ok = λ y p. absurd cc; err = λ d ne p. cc }
 short_lasts : {X : Type 0} (grow : X → X) (long : Result X ImageFault) → Lasts grow (Err fault.Short) long
 short_lasts grow long = record { ok = λ y p. absurd cc; err = λ d ne p. absurd (ne (cc)) }
 
-pub then_lasts : {X Y : Type 0} (gx : X → X) (gy : Y → Y) (r s : Result X ImageFault) (f : X → Result Y ImageFault) → Lasts gx r s → ((x : X) → Lasts gy (f x) (f (gx x))) → Lasts gy (r >>= f) (s >>= f)
+pub then_lasts : {X Y : Type 0} (gx : X → X) (gy : Y → Y) (r s : Result X ImageFault) (f : X → Result Y ImageFault) → Lasts gx r s →
+    ((x : X) → Lasts gy (f x) (f (gx x))) → Lasts gy (r >>= f) (s >>= f)
 then_lasts gx gy (Ok x) s f h k = rw (h.ok x refl) (k x)
 then_lasts {X = X} gx gy (Err d) s f h k = record {
   ok = λ y p. absurd cc;
@@ -159,7 +162,9 @@ module _ (more : List ℕ) where
       then_lasts _ _ _ _ _ (number_in_lasts more w32 0 65536 fault.Limit frame.1) (λ room.
       then_lasts _ _ _ _ _ (number_in_lasts more w64 0 1099511627775 fault.Limit room.1) (λ budget. done_lasts _ _)))
 
-  depth_lasts : (told : Bool) (bytes : List ℕ) → Lasts (grown more) (if told then number_in w16 0 256 fault.Limit bytes else Ok (0, bytes)) (if told then number_in w16 0 256 fault.Limit (bytes ++ more) else Ok (0, bytes ++ more))
+  depth_lasts : (told : Bool) (bytes : List ℕ) →
+      Lasts (grown more) (if told then number_in w16 0 256 fault.Limit bytes else Ok (0, bytes))
+      (if told then number_in w16 0 256 fault.Limit (bytes ++ more) else Ok (0, bytes ++ more))
   depth_lasts true bytes = number_in_lasts more w16 0 256 fault.Limit bytes
   depth_lasts false bytes = done_lasts _ _
 
@@ -191,7 +196,9 @@ module _ (more : List ℕ) where
   unfolding data_length_at
   data_length_lasts bytes = then_lasts _ _ _ _ _ (number_lasts more w32 bytes) (λ count. test_lasts (is_data_length count.0) fault.Limit _ _ (done_lasts _ count))
 
-  data_count_lasts : (one : Bool) (bytes : List ℕ) → Lasts (grown more) (if one then data_length_at bytes else number_in w16 0 8 fault.Limit bytes) (if one then data_length_at (bytes ++ more) else number_in w16 0 8 fault.Limit (bytes ++ more))
+  data_count_lasts : (one : Bool) (bytes : List ℕ) →
+      Lasts (grown more) (if one then data_length_at bytes else number_in w16 0 8 fault.Limit bytes)
+      (if one then data_length_at (bytes ++ more) else number_in w16 0 8 fault.Limit (bytes ++ more))
   data_count_lasts true bytes = data_length_lasts bytes
   data_count_lasts false bytes = number_in_lasts more w16 0 8 fault.Limit bytes
 
@@ -210,7 +217,9 @@ module _ (more : List ℕ) where
       then_lasts _ _ _ _ _ (number_lasts more w32 cursor.1) (λ size. test_lasts (is_length_behind cursor.0 size.0) fault.Limit _ _
       (then_lasts _ _ _ _ _ (number_in_lasts more w16 0 1 fault.Limit size.1) (λ kind. done_lasts _ _)))
 
-  lengths_last : (one : Bool) (n : ℕ) (bytes : List ℕ) → Lasts (grown more) (if one then Ok (shape_of n, bytes) else (items_at shape_at n (0, bytes) >>= λ shapes. Ok (shapes.0, shapes.1.1))) (if one then Ok (shape_of n, bytes ++ more) else (items_at shape_at n (0, bytes ++ more) >>= λ shapes. Ok (shapes.0, shapes.1.1)))
+  lengths_last : (one : Bool) (n : ℕ) (bytes : List ℕ) →
+      Lasts (grown more) (if one then Ok (shape_of n, bytes) else (items_at shape_at n (0, bytes) >>= λ shapes. Ok (shapes.0, shapes.1.1)))
+      (if one then Ok (shape_of n, bytes ++ more) else (items_at shape_at n (0, bytes ++ more) >>= λ shapes. Ok (shapes.0, shapes.1.1)))
   lengths_last true n bytes = done_lasts _ _
   lengths_last false n bytes = then_lasts _ _ _ _ _ (items_last longer_after shape_at shape_lasts n (0, bytes)) (λ shapes. done_lasts _ _)
 
@@ -232,7 +241,10 @@ module _ (more : List ℕ) where
       then_lasts _ _ _ _ _ (shapes_last header.0 header.1) (λ shapes.
       then_lasts _ _ _ _ _ (items_last longer (number_at w32) (number_lasts more w32) header.0.words shapes.1) (λ words.
       then_lasts _ _ _ _ _ (regions_last shapes.0 words.1) (λ regions.
-      then_lasts _ _ _ _ _ (items_last longer_after (function_at header.0.version (code_start + 4 * header.0.words)) (function_lasts header.0.version (code_start + 4 * header.0.words)) header.0.functions ((Exactly code_start, 0), regions.1)) (λ functions. done_lasts _ _)))))
+      then_lasts _ _ _ _ _
+      (items_last longer_after (function_at header.0.version (code_start + 4 * header.0.words))
+      (function_lasts header.0.version (code_start + 4 * header.0.words)) header.0.functions ((Exactly code_start, 0), regions.1))
+      (λ functions. done_lasts _ _)))))
 
   -- ---- the end of the bytes
 

@@ -9,7 +9,9 @@ use Rattle.sbx_image.specs.ImageFault.{ImageFault}
 use Rattle.sbx_image.specs.ImageFault.TheVariants as fault
 use Rattle.sbx_image.specs.Next.{Next}
 use Rattle.sbx_image.specs.Rules.{◌>>=◌, wants, between, admits, in_order, is_fuel, is_coefficient, is_known, is_version, is_data_length, is_length_behind, Place}
-use Rattle.sbx_image.specs.Reading.{number_at, number_in, signed_at, bytes_at, items_at, range_at, location_at, cell_at, term_at, block_head_at, block_at, kind_at, counts_at, bounds_at, function_head_at, services_at, data_length_at, data_count_at, header_at, shape_at, shape_of, shapes_at}
+use Rattle.sbx_image.specs.Reading.{number_at, number_in, signed_at, bytes_at, items_at, range_at, location_at, cell_at, term_at, block_head_at, block_at}
+use Rattle.sbx_image.specs.Reading.{kind_at, counts_at, bounds_at, function_head_at, services_at, data_length_at, data_count_at, header_at, shape_at, shape_of}
+use Rattle.sbx_image.specs.Reading.{shapes_at}
 use Rattle.sbx_image.specs.declared.heads.Header.{Header}
 
 -- So many bytes or more stand in front of the rest.

@@ -1,5 +1,6 @@
 -- Reading on behind a whole item tells what reading from the start tells, whatever comes behind the bytes.
-use Rattle.std.proofs.Common.{◌≡◌, ◌≢◌, ℕ, zero, suc, ◌+◌, ◌-◌, ◌*◌, ◌≤◌, ◌<◌, Bool, true, false, List, [], ◌∷◌, ◌++◌, length, take, drop, Option, None, Result, Ok, Err, refl, sym, subst, ◌∙◌, arith, inl, inr}
+use Rattle.std.proofs.Common.{◌≡◌, ◌≢◌, ℕ, zero, suc, ◌+◌, ◌-◌, ◌*◌, ◌≤◌, ◌<◌, Bool, true, false, List, [], ◌∷◌, ◌++◌, length, take, drop, Option, None, Result}
+use Rattle.std.proofs.Common.{Ok, Err, refl, sym, subst, ◌∙◌, arith, inl, inr}
 use Rattle.std.specs.Prelude.{◌==◌}
 use Rattle.std.specs.Int.{w32, byte_len, from_be_bytes}
 use Rattle.std.proofs.lemmas.Bool.{cases_lt, lt-ltb, le-ltb, ne_eqb, eqb-false}
@@ -85,7 +86,8 @@ block_then : (version end left total n : ℕ) (next : Next) (bytes : List ℕ)
     → rest_of (Blocks version end left next total (suc n)) bytes ≡ (block_item end next bytes >>= λ x. rest_of (Blocks version end left x.0 total n) x.1)
 unfolding rest_of items_at block_item
 block_then version end left total n next bytes = cases (block_at end (next, bytes)) where
-  cases : (r : Result (Block × (Next × List ℕ)) ImageFault) → ((r >>= λ first. items_at (block_at end) n first.1 >>= joined first.0) >>= λ read. functions_end version end left (read.1.0, total) read.1.1)
+  cases : (r : Result (Block × (Next × List ℕ)) ImageFault) →
+      ((r >>= λ first. items_at (block_at end) n first.1 >>= joined first.0) >>= λ read. functions_end version end left (read.1.0, total) read.1.1)
       ≡ ((r >>= placed) >>= λ x. items_at (block_at end) n (x.0, x.1) >>= λ read. functions_end version end left (read.1.0, total) read.1.1)
   cases (Ok b) = then_then (items_at (block_at end) n b.1) (joined b.0) (λ read. functions_end version end left (read.1.0, total) read.1.1)
   cases (Err e) = refl
@@ -136,13 +138,16 @@ then_3 : {P R B F Z : Type 0} (p : Result P ImageFault) (r : P → Result R Imag
 then_3 (Ok y) r b made k = then_2 (r y) (b y) (made y) k
 then_3 (Err e) r b made k = refl
 
-then_4 : {H P R B F Z : Type 0} (h : Result H ImageFault) (p : H → Result P ImageFault) (r : H → P → Result R ImageFault) (b : H → P → R → Result B ImageFault) (made : H → P → R → B → F) (k : F → Result Z ImageFault)
+then_4 : {H P R B F Z : Type 0} (h : Result H ImageFault) (p : H → Result P ImageFault) (r : H → P → Result R ImageFault) (b : H → P → R →
+    Result B ImageFault) (made : H → P → R → B → F) (k : F → Result Z ImageFault)
     → ((h >>= λ x. p x >>= λ y. r x y >>= λ z. b x y z >>= λ w. Ok (made x y z w)) >>= k) ≡ (h >>= λ x. p x >>= λ y. r x y >>= λ z. b x y z >>= λ w. k (made x y z w))
 then_4 (Ok x) p r b made k = then_3 (p x) (r x) (b x) (made x) k
 then_4 (Err e) p r b made k = refl
 
-then_5 : {G H P R B F Z : Type 0} (g : Result G ImageFault) (h : G → Result H ImageFault) (p : G → H → Result P ImageFault) (r : G → H → P → Result R ImageFault) (b : G → H → P → R → Result B ImageFault) (made : G → H → P → R → B → F) (k : F → Result Z ImageFault)
-    → ((g >>= λ v. h v >>= λ x. p v x >>= λ y. r v x y >>= λ z. b v x y z >>= λ w. Ok (made v x y z w)) >>= k) ≡ (g >>= λ v. h v >>= λ x. p v x >>= λ y. r v x y >>= λ z. b v x y z >>= λ w. k (made v x y z w))
+then_5 : {G H P R B F Z : Type 0} (g : Result G ImageFault) (h : G → Result H ImageFault) (p : G → H → Result P ImageFault) (r : G → H → P →
+    Result R ImageFault) (b : G → H → P → R → Result B ImageFault) (made : G → H → P → R → B → F) (k : F → Result Z ImageFault)
+    → ((g >>= λ v. h v >>= λ x. p v x >>= λ y. r v x y >>= λ z. b v x y z >>= λ w. Ok (made v x y z w)) >>= k) ≡
+    (g >>= λ v. h v >>= λ x. p v x >>= λ y. r v x y >>= λ z. b v x y z >>= λ w. k (made v x y z w))
 then_5 (Ok v) h p r b made k = then_4 (h v) (p v) (r v) (b v) (made v) k
 then_5 (Err e) h p r b made k = refl
 
@@ -167,15 +172,33 @@ function_item version end place bytes = do
 -- head and ranges first, and then as many blocks as the head says
 function_then : (version end left total : ℕ) (next : Next) (bytes : List ℕ)
     → rest_of (Functions version end (suc left) next total) bytes
-    ≡ (function_head_at version end (next, total) bytes >>= λ h. items_at range_at h.0.params h.1 >>= λ p. items_at range_at h.0.results p.1 >>= λ r. rest_of (Blocks version end left (Exactly h.0.entry) (total + h.0.blocks) h.0.blocks) r.1)
+    ≡ (function_head_at version end (next, total) bytes >>= λ h. items_at range_at h.0.params h.1 >>= λ p. items_at range_at h.0.results p.1 >>= λ r. rest_of
+    (Blocks version end left (Exactly h.0.entry) (total + h.0.blocks) h.0.blocks) r.1)
 unfolding rest_of function_at
 function_then version end left total next bytes = functions_then version end left (next, total) bytes ∙
     then_4 {H = FunctionHead × List ℕ} {P = List Range × List ℕ} {R = List Range × List ℕ} {B = List Block × (Next × List ℕ)} {F = Function × (Place × List ℕ)}
-    (function_head_at version end (next, total) bytes) (λ x. items_at range_at x.0.params x.1) (λ x y. items_at range_at x.0.results y.1) (λ x y z. items_at (block_at end) x.0.blocks (Exactly x.0.entry, z.1))
-    (λ x y z w. (record { kind = x.0.kind; params = y.0; results = z.0; entry = x.0.entry; frame = x.0.frame; stack_room = x.0.stack_room; budget = x.0.budget; depth = x.0.depth; blocks = w.0 }, ((w.1.0, total + x.0.blocks), w.1.1)))
+    (function_head_at version end (next, total) bytes) (λ x. items_at range_at x.0.params x.1) (λ x y. items_at range_at x.0.results y.1)
+    (λ x y z. items_at (block_at end) x.0.blocks (Exactly x.0.entry, z.1))
+    (λ x y z w. (
+      record {
+        kind = x.0.kind;
+        params = y.0;
+        results = z.0;
+        entry = x.0.entry;
+        frame = x.0.frame;
+        stack_room = x.0.stack_room;
+        budget =
+            x.0.budget;
+        depth = x.0.depth;
+        blocks = w.0;
+      },
+      ((w.1.0, total + x.0.blocks), w.1.1),
+    ))
     (λ x. functions_end version end left x.1.0 x.1.1)
 
-pub function_reads : (version end left total : ℕ) (next : Next) → Reads (Functions version end (suc left) next total) (λ h. Blocks version end left (Exactly h.entry) (total + h.blocks) h.blocks) (function_item version end (next, total))
+pub function_reads : (version end left total : ℕ) (next : Next) →
+    Reads (Functions version end (suc left) next total) (λ h. Blocks version end left (Exactly h.entry) (total + h.blocks) h.blocks)
+    (function_item version end (next, total))
 unfolding function_item
 function_reads version end left total next = record {
   same = λ bytes. function_then version end left total next bytes ∙ sym
@@ -235,11 +258,13 @@ closed (Err e) = refl
 
 front_then : (bytes : List ℕ)
     → rest_of Front bytes
-    ≡ (header_at bytes >>= λ h. shapes_at h.0 h.1 >>= λ s. items_at (number_at w32) h.0.words s.1 >>= λ w. regions_at s.0 w.1 >>= λ d. rest_of (Functions h.0.version (code_start + 4 * h.0.words) h.0.functions (Exactly code_start) 0) d.1)
+    ≡ (header_at bytes >>= λ h. shapes_at h.0 h.1 >>= λ s. items_at (number_at w32) h.0.words s.1 >>= λ w. regions_at s.0 w.1 >>= λ d. rest_of
+    (Functions h.0.version (code_start + 4 * h.0.words) h.0.functions (Exactly code_start) 0) d.1)
 unfolding rest_of reading parts_at functions_end
 front_then bytes = closed (parts_at bytes) ∙
     then_5 {G = Header × List ℕ} {H = List Shape × List ℕ} {P = List ℕ × List ℕ} {R = List Region × List ℕ} {B = List Function × (Place × List ℕ)} {F = Parts × List ℕ}
-    (header_at bytes) (λ v. shapes_at v.0 v.1) (λ v x. items_at (number_at w32) v.0.words x.1) (λ v x y. regions_at x.0 y.1) (λ v x y z. items_at (function_at v.0.version (code_start + 4 * v.0.words)) v.0.functions ((Exactly code_start, 0), z.1))
+    (header_at bytes) (λ v. shapes_at v.0 v.1) (λ v x. items_at (number_at w32) v.0.words x.1) (λ v x y. regions_at x.0 y.1)
+    (λ v x y z. items_at (function_at v.0.version (code_start + 4 * v.0.words)) v.0.functions ((Exactly code_start, 0), z.1))
     (λ v x y z w. (record { version = v.0.version; services = v.0.services; words = y.0; regions = z.0; stack_pages = v.0.stack_pages; functions = w.0 }, w.1.1))
     (λ x. wants (length x.1 == 0) fault.Trailing)
 
@@ -285,7 +310,8 @@ regions_lack (s ∷ shapes) bytes lt =
 
 -- So they are so many bytes.
 body_then : (n : ℕ) (shapes : List Shape) (version end left : ℕ) (bytes : List ℕ)
-    → (items_at (number_at w32) n bytes >>= λ w. regions_at shapes w.1 >>= λ d. rest_of (Functions version end left (Exactly code_start) 0) d.1) ≡ rest_of (Body (4 * n + shape_bytes shapes) version end left) bytes
+    → (items_at (number_at w32) n bytes >>= λ w. regions_at shapes w.1 >>= λ d. rest_of (Functions version end left (Exactly code_start) 0) d.1) ≡
+    rest_of (Body (4 * n + shape_bytes shapes) version end left) bytes
 unfolding rest_of
 body_then n shapes version end left bytes =
     elim (cases_lt (length bytes) (4 * n + shape_bytes shapes)) [
@@ -333,7 +359,8 @@ front_reads = record {
       then_leaves 0 rest_at rest_at header.1 _ _ (shapes_leave header.0 header.1) (λ shapes. done_leaves rest_at _));
 }
 
-pub front_ok : (bytes : List ℕ) (h : Header) (behind : List ℕ) (shapes : List Shape) (rest : List ℕ) → header_at bytes ≡ Ok (h, behind) → shapes_at h behind ≡ Ok (shapes, rest) → front_item bytes ≡ Ok ((h, shapes), rest)
+pub front_ok : (bytes : List ℕ) (h : Header) (behind : List ℕ) (shapes : List Shape) (rest : List ℕ) → header_at bytes ≡ Ok (h, behind) →
+    shapes_at h behind ≡ Ok (shapes, rest) → front_item bytes ≡ Ok ((h, shapes), rest)
 unfolding front_item
 front_ok bytes h behind shapes rest e s = rw (e, s) refl
 
@@ -358,7 +385,8 @@ body_reads count version end left some = record {
 pub body_lacks : (count version end left : ℕ) (bytes : List ℕ) → 0 < count → length bytes < count → IsWhole (Body count version end left) bytes (Err fault.Short)
 body_lacks count version end left bytes some lt = whole_err _ _ _ (body_reads count version end left some) bytes fault.Short (λ _. rw (lt-ltb _ _ lt) refl)
 
-pub body_whole : (count version end left : ℕ) (bytes : List ℕ) → 0 < count → count ≤ length bytes → IsWhole (Body count version end left) bytes (Ok (Functions version end left (Exactly code_start) 0, count))
+pub body_whole : (count version end left : ℕ) (bytes : List ℕ) → 0 < count → count ≤ length bytes →
+    IsWhole (Body count version end left) bytes (Ok (Functions version end left (Exactly code_start) 0, count))
 body_whole count version end left bytes some le =
     whole_ok _ _ _ (body_reads count version end left some) bytes (take count bytes) (drop count bytes) count (rw (le-ltb _ _ le) refl) (omega (arith, le, length-drop count bytes))
 
@@ -394,7 +422,8 @@ pub sliced : (at : ℕ) (bytes : List ℕ) → at ≤ length bytes → take (len
 sliced at bytes le = take_all (length bytes - at) (drop at bytes) (omega (arith, le, length-drop at bytes))
 
 -- no item is whole
-pub item_lacks : (stage : Stage) (at : ℕ) (bytes : List ℕ) (item : Option (Stage × ℕ)) → GoesOn stage at bytes → item ≡ None → IsItem stage (take (length bytes - at) (drop at bytes)) (Ok item) → IsResumed bytes (Ok (stage, at))
+pub item_lacks : (stage : Stage) (at : ℕ) (bytes : List ℕ) (item : Option (Stage × ℕ)) → GoesOn stage at bytes → item ≡ None →
+    IsItem stage (take (length bytes - at) (drop at bytes)) (Ok item) → IsResumed bytes (Ok (stage, at))
 item_lacks stage at bytes item p none q =
     let lacks : lasting_of (rest_of stage (drop at bytes)) ≡ Ok tt = subst (λ (z : List ℕ). lasting_of (rest_of stage z) ≡ Ok tt) (sliced at bytes p.0)
     (subst (λ (i : Option (Stage × ℕ)). IsItem stage (take (length bytes - at) (drop at bytes)) (Ok i)) none q) in

@@ -9,8 +9,8 @@ use sbx_image::{Image, ImageFault, parse};
 use std::alloc::Global;
 use std::marker::Model;
 
-/// What was fed so far: the pieces joined or, after a fault, the fault alone. Contracts see that. Beside them stand how many of
-/// the bytes were read, up to a whole item, and what comes next.
+/// What was fed so far: the pieces joined or, after a fault, the fault alone. Contracts see that. Beside them stand how
+/// many of the bytes were read, up to a whole item, and what comes next.
 #[derive(Drop)]
 pub struct ImageReader {
     alloc: Global,
@@ -75,11 +75,11 @@ impl ImageReader {
         Err(fault)
     }
 
-    /// Joins the next piece, which may have any length. A fault is told by the piece that brings the last byte of the first
-    /// bad field: it is the fault of the pieces joined, which further bytes can't mend, so never `Short`; or it is `Memory`
-    /// where memory was refused. After a fault this call and `finish` tell that fault again. A piece costs time by its own
-    /// length and at most one item more, which is read again: a header with the regions' lengths and kinds, a function's head
-    /// with its ranges, or a block.
+    /// Joins the next piece, which may have any length. A fault is told by the piece that brings the last byte of the
+    /// first bad field: it is the fault of the pieces joined, which further bytes can't mend, so never `Short`; or it
+    /// is `Memory` where memory was refused. After a fault this call and `finish` tell that fault again. A piece costs
+    /// time by its own length and at most one item more, which is read again: a header with the regions' lengths and
+    /// kinds, a function's head with its ranges, or a block.
     pub fn feed(&mut self, piece: &[u8]) -> Result<(), ImageFault>
         ensures { IsFed self.old piece.now result self.new }
     {
@@ -99,8 +99,8 @@ impl ImageReader {
         }
     }
 
-    /// The image that all pieces joined spell, or their fault, as `parse` has it of bytes; after a fault that one. It reads
-    /// them from the first one.
+    /// The image that all pieces joined spell, or their fault, as `parse` has it of bytes; after a fault that one. It
+    /// reads them from the first one.
     pub fn finish(self) -> Result<Image, ImageFault>
         ensures { IsFinished self result }
     {

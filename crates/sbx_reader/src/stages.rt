@@ -9,8 +9,8 @@ use sbx_image::{
 use std::alloc::Global;
 use v8_map::CODE_START;
 
-/// What comes next. `version` is the image's, `end` the address behind the code, `left` how many functions come behind the one
-/// that is read, and `total` how many blocks the functions have up to that one.
+/// What comes next. `version` is the image's, `end` the address behind the code, `left` how many functions come behind
+/// the one that is read, and `total` how many blocks the functions have up to that one.
 #[derive(Clone, Copy)]
 pub enum Stage {
     /// Header, and the regions' lengths and kinds.
@@ -86,7 +86,8 @@ fn function_item(
     Ok((stage, read_of(bytes, rest)))
 }
 
-/// The item that comes next, as the stage behind it and its length in bytes. A fault is the item's, `Short` where it isn't whole.
+/// The item that comes next, as the stage behind it and its length in bytes. A fault is the item's, `Short` where it
+/// isn't whole.
 fn whole_item(alloc: Global, stage: Stage, bytes: &[u8]) -> Result<(Stage, usize), ImageFault>
     ensures { IsWhole stage bytes.now result }
 {

@@ -8,7 +8,8 @@ use Rattle.sbx_rules.specs.Operations.{is_call, is_framed, is_framed_return, is_
 use Rattle.sbx_rules.specs.Places.{ends_run, op_at, op_before}
 use Rattle.sbx_rules.specs.Rules.{enters_well, has_bad_shape, is_entry, same_test, suits}
 use Rattle.sbx_reasons.specs.declared.shapes.Part.{Part}
-use Rattle.sbx_reasons.specs.declared.shapes.Part.TheVariants.{Entry, Save, Restore, Kind, InSlot, NoSlot, BehindSlot, BehindExit}
+use Rattle.sbx_reasons.specs.declared.shapes.Part.TheVariants.{Entry, Save, Restore, Kind, InSlot, NoSlot, BehindSlot}
+use Rattle.sbx_reasons.specs.declared.shapes.Part.TheVariants.{BehindExit}
 
 module _ (parts : Parts) (f b i : ℕ) where
   abbrev pub op : Operation

@@ -1,4 +1,5 @@
--- What of a tagged operation that traps isn't shown, part by part: the conjuncts of `tagged_fits`, of operands that are defined.
+-- What of a tagged operation that traps isn't shown, part by part: the conjuncts of `tagged_fits`, of operands that are
+-- defined.
 use Rattle.std.specs.Prelude.{◌≡◌, not, Bool, true, false, nat_le, Option, Some, None}
 use Rattle.v8_alu.specs.declared.TaggedOp.{TaggedOp}
 use Rattle.v8_alu.specs.declared.TaggedOp.TheVariants.{TaggedAdd, TaggedSub}

@@ -40,7 +40,9 @@ impl Display for Address {
 
 /// The addresses that an operand can have, where both of its parts are defined.
 fn address_of(state: &State, operand: &MemoryOperand) -> Option<Range>
-    ensures { result ≡ address_of (register_entry (known state.now) operand.now.rs1) (operand_entry (known state.now) operand.now.operand2) }
+    ensures { result ≡
+        address_of (register_entry (known state.now) operand.now.rs1)
+        (operand_entry (known state.now) operand.now.operand2) }
 {
     match (
         state.register_entry(operand.rs1),

@@ -141,8 +141,8 @@ fn push_way(
     }
 }
 
-/// Pushes which operands of a tagged operation that traps aren't shown to be multiples of 4 on each way on which it runs,
-/// and the results that there may be, where one is no word; and what mends it.
+/// Pushes which operands of a tagged operation that traps aren't shown to be multiples of 4 on each way on which it
+/// runs, and the results that there may be, where one is no word; and what mends it.
 pub(crate) fn push_tagged(out: &mut String, sight: &Sight) -> Result<(), AllocError> {
     if let Operation::TaggedTrap(op, fields) = &sight.spot.operation {
         push_way(out, sight.courses.first, *op, fields, &sight.first)?;

@@ -51,8 +51,8 @@ impl Read for Reader<'_> {
     }
 }
 
-/// Keeps what is written, up to `most` bytes a call, and fails at call `fails`, counted from 1, flushes among the calls. Its
-/// room is its own, so that no refused growth is its. It knows whether it was flushed behind the last write.
+/// Keeps what is written, up to `most` bytes a call, and fails at call `fails`, counted from 1, flushes among the
+/// calls. Its room is its own, so that no refused growth is its. It knows whether it was flushed behind the last write.
 #[derive(Clone, Copy)]
 struct Writer {
     kept: [u8; 1024],
@@ -195,8 +195,8 @@ struct Told {
     err: Writer,
 }
 
-/// How a job ends. The streams are `dyn` here and below, so that the machines of the counts of windows are compiled once and not for each
-/// reader and writer.
+/// How a job ends. The streams are `dyn` here and below, so that the machines of the counts of windows are compiled
+/// once and not for each reader and writer.
 fn ended_on(
     alloc: Global,
     job: &Job<'_>,
@@ -262,7 +262,8 @@ fn answer_of(alloc: Global, job: &Job<'_>, file: &[u8], fails: [usize; 3]) -> To
     }
 }
 
-/// The calls of the file, the input and the output that fail (0: none), and the status, the output and the line that a job has to end with.
+/// The calls of the file, the input and the output that fail (0: none), and the status, the output and the line that a
+/// job has to end with.
 type End = ([usize; 3], u8, &'static [u8], &'static [u8]);
 
 /// Whether a job on a file ends as it has to; where it is done, what it put out has to be flushed.
@@ -276,8 +277,8 @@ fn is_ended(alloc: Global, job: &Job<'_>, file: &[u8], end: End) -> bool {
         && told.err.has(err)
 }
 
-/// A job on a file has each of these ends. They are handed over as a slice, and stand apart from the job: a table of jobs that is gone
-/// through in a test takes far longer to check.
+/// A job on a file has each of these ends. They are handed over as a slice, and stand apart from the job: a table of
+/// jobs that is gone through in a test takes far longer to check.
 fn has_ends<R: Abort>(rt: &R, alloc: Global, job: &Job<'_>, file: &[u8], ends: &[End]) {
     for end in ends {
         let [file_fails, input_fails, out_fails] = end.0;
@@ -425,8 +426,8 @@ fn refuses_what_is_longer(rt: HostRuntime) {
     passes(&rt, "a param 5 to 4", is_range_refused(rt.alloc()));
 }
 
-/// Bytes of the sample that are replaced from a place on, the line that tells of it, and how many bytes the sample has up to the end of
-/// its bad field.
+/// Bytes of the sample that are replaced from a place on, the line that tells of it, and how many bytes the sample has
+/// up to the end of its bad field.
 type Change = (usize, &'static [u8], &'static [u8], usize);
 
 /// Samples that are no image.

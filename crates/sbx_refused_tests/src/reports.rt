@@ -144,8 +144,8 @@ fn watch(
     watch_windows(alloc, windows, image, b"", limit, sheet, count)
 }
 
-/// Whether the turns of an image's run on no input are told. Where memory was refused, they are asked for once more, and counted anew;
-/// the sheet takes all, so there is no other fault.
+/// Whether the turns of an image's run on no input are told. Where memory was refused, they are asked for once more,
+/// and counted anew; the sheet takes all, so there is no other fault.
 fn is_watched(
     alloc: Global,
     windows: u32,
@@ -167,8 +167,8 @@ fn is_watched(
     }
 }
 
-/// Whether the turns of an image's run are told as those of HELLO have to be, and flushed; they are too few to say how far the run has
-/// come.
+/// Whether the turns of an image's run are told as those of HELLO have to be, and flushed; they are too few to say how
+/// far the run has come.
 fn are_turns_told(alloc: Global, image: &Image) -> bool {
     let mut sheet = Sheet::new(usize::MAX);
     let mut count = Count(0);
@@ -183,7 +183,8 @@ fn turns_are_told(rt: HostRuntime) {
     passes(&rt, "the turns", holds(rt.alloc(), HELLO, Asked::Turns));
 }
 
-/// Whether 524,289 turns of an image's run have as many lines or more, none longer than 100 columns, and say twice how far they have come.
+/// Whether 524,289 turns of an image's run have as many lines or more, none longer than 100 columns, and say twice how
+/// far they have come.
 fn has_lines_that_fit(alloc: Global, image: &Image) -> bool {
     let mut sheet = Sheet::new(usize::MAX);
     let mut count = Count(0);
@@ -221,7 +222,8 @@ fn is_so(alloc: Global, image: &Image, asked: Asked) -> bool {
     }
 }
 
-/// Whether it is so of the image of these bytes. All questions go through here, since what owns an image takes long to check.
+/// Whether it is so of the image of these bytes. All questions go through here, since what owns an image takes long to
+/// check.
 fn holds(alloc: Global, bytes: &[u8], asked: Asked) -> bool {
     match image_of(alloc, bytes) {
         Some(image) => is_so(alloc, &image, asked),

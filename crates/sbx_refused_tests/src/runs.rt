@@ -1,5 +1,5 @@
-//! Runs of an image that is accepted. At a want of memory each call is asked once more, and then has to give what it gives with ample
-//! memory; any other fault fails the test.
+//! Runs of an image that is accepted. At a want of memory each call is asked once more, and then has to give what it
+//! gives with ample memory; any other fault fails the test.
 use crate::images::{HELLO, image_of};
 use crate::passing::passes;
 use crate::sheet::Sheet;
@@ -97,7 +97,8 @@ fn finish_once(alloc: Global, accepted: &Accepted) -> Result<Finished, RunFault>
     run_accepted::<32>(alloc, accepted, b"")
 }
 
-/// Whether the run of an accepted image on 32 windows is as it has to be. Where memory is refused, it is asked for once more.
+/// Whether the run of an accepted image on 32 windows is as it has to be. Where memory is refused, it is asked for once
+/// more.
 fn is_run(alloc: Global, accepted: &Accepted) -> bool {
     is_well(match finish_once(alloc, accepted) {
         Err(RunFault::Memory(_)) => finish_once(alloc, accepted),
@@ -115,7 +116,8 @@ fn finish_on_four(alloc: Global, accepted: &Accepted) -> Option<Result<Finished,
     run_windows(alloc, 4, accepted, b"")
 }
 
-/// Whether the run of an accepted image on four windows is as it has to be. Where memory is refused, it is asked for once more.
+/// Whether the run of an accepted image on four windows is as it has to be. Where memory is refused, it is asked for
+/// once more.
 fn is_run_on_four(alloc: Global, accepted: &Accepted) -> bool {
     let run = match finish_on_four(alloc, accepted) {
         Some(Err(RunFault::Memory(_))) => finish_on_four(alloc, accepted),
@@ -150,7 +152,8 @@ fn are_finished(answers: &[Finished]) -> bool {
     }
 }
 
-/// Whether the runs of an image on one board are as they have to be. Where memory is refused, they are asked for once more.
+/// Whether the runs of an image on one board are as they have to be. Where memory is refused, they are asked for once
+/// more.
 fn are_run(alloc: Global, image: &Accepted) -> bool {
     let runs = match batch_once(alloc, image) {
         Err(RunFault::Memory(_)) => batch_once(alloc, image),
@@ -185,8 +188,8 @@ fn trace_once(
     trace::<8, Sheet>(alloc, image, b"", limit, sheet)
 }
 
-/// What a trace to a writer of so many bytes has left there, and whether it was told as a failed writer. Where memory is refused, it is
-/// asked for once more.
+/// What a trace to a writer of so many bytes has left there, and whether it was told as a failed writer. Where memory
+/// is refused, it is asked for once more.
 fn traced(alloc: Global, image: &Image, limit: u64, most: usize) -> (Sheet, bool) {
     let mut sheet = Sheet::new(most);
     let mut done = trace_once(alloc, image, limit, &mut sheet);

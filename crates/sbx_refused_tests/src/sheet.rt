@@ -1,8 +1,9 @@
 //! A writer that counts what it takes.
 use std::io::{self, Write};
 
-/// Takes so many bytes, one a call, and then fails. Keeps the first of them, and counts lines and the columns of the longest, and knows
-/// whether it was flushed behind the last write. Its room is its own, so that no refused growth is its.
+/// Takes so many bytes, one a call, and then fails. Keeps the first of them, and counts lines and the columns of the
+/// longest, and knows whether it was flushed behind the last write. Its room is its own, so that no refused growth is
+/// its.
 #[derive(Clone, Copy)]
 pub(crate) struct Sheet {
     kept: [u8; 4096],

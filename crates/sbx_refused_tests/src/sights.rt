@@ -1,4 +1,5 @@
-//! What is known at words of whole images, worked out by hand. Where a growth of memory is refused, a call is made once more.
+//! What is known at words of whole images, worked out by hand. Where a growth of memory is refused, a call is made once
+//! more.
 ghost use Rattle.std.specs.Prelude.{IfOk};
 ghost use Rattle.sbx_inspect.specs.Sights.{IsSeen};
 
@@ -14,9 +15,9 @@ use sbx_known::{Course, Going};
 use std::alloc::{AllocError, Global};
 use std::process::Abort;
 
-/// `save %sp,-96,%sp; mov 1000,%l0; loop: ta 1; cmp %o0,-1; be done; nop; ta 2; deccc %l0; bne loop; nop; done: mov 0,%o0; ta 0`,
-/// budget 16,030. The loop begins with %l0 from 1 to 1,000 and 16 times %l0 and 4 turns, the block after its first branch with
-/// %o0 from 0 to 255 too and 8 turns less, the last block with 4.
+/// `save %sp,-96,%sp; mov 1000,%l0; loop: ta 1; cmp %o0,-1; be done; nop; ta 2; deccc %l0; bne loop; nop; done: mov
+/// 0,%o0; ta 0`, budget 16,030. The loop begins with %l0 from 1 to 1,000 and 16 times %l0 and 4 turns, the block after
+/// its first branch with %o0 from 0 to 255 too and 8 turns less, the last block with 4.
 const ECHO: [u8; 203] = [
     83, 66, 88, 56, 0, 1, 0, 7, 0, 0, 0, 12, 0, 0, 0, 0, 0, 1, 0, 1, 157, 227, 191, 160, 160, 16,
     35, 232, 145, 208, 32, 1, 128, 162, 63, 255, 2, 128, 0, 6, 1, 0, 0, 0, 145, 208, 32, 2, 160,
@@ -28,8 +29,9 @@ const ECHO: [u8; 203] = [
     4, 0, 40, 0, 0, 0, 0, 0, 0, 0, 0, 0, 0, 0, 4,
 ];
 
-/// `f0: save %sp,-96,%sp; call f1; nop; ta 0`, `f1: save %sp,-96,%sp; call f2; nop; mov 41,%l0; ret; restore %l0,1,%o0` with the
-/// result 42, and `f2: save %sp,-96,%sp; mov 33,%o0; ta 2; ret; restore`. Budgets are 57, 54 more, and 30 more; rooms 96, 192, 288.
+/// `f0: save %sp,-96,%sp; call f1; nop; ta 0`, `f1: save %sp,-96,%sp; call f2; nop; mov 41,%l0; ret; restore %l0,1,%o0`
+/// with the result 42, and `f2: save %sp,-96,%sp; mov 33,%o0; ta 2; ret; restore`. Budgets are 57, 54 more, and 30
+/// more; rooms 96, 192, 288.
 const CHAIN: [u8; 215] = [
     83, 66, 88, 56, 0, 1, 0, 7, 0, 0, 0, 15, 0, 0, 0, 0, 0, 1, 0, 3, 157, 227, 191, 160, 64, 0, 0,
     3, 1, 0, 0, 0, 145, 208, 32, 0, 157, 227, 191, 160, 64, 0, 0, 5, 1, 0, 0, 0, 160, 16, 32, 41,
@@ -176,7 +178,8 @@ fn has_first_room(image: &Image, sight: &Sight) -> bool
 enum Asked<'a> {
     /// Whether it is a row's.
     Known(&'a Row),
-    /// Whether it has the fuel of the echo's last branch: 16 times %l0 less 4, the loop's that and 8 more, the last block's 4.
+    /// Whether it has the fuel of the echo's last branch: 16 times %l0 less 4, the loop's that and 8 more, the last
+    /// block's 4.
     Fuel,
     /// Whether it has the room of the chain's first call.
     FirstRoom,
@@ -235,7 +238,8 @@ fn is_so_at(alloc: Global, image: &Image, place: (u16, u32), asked: Asked<'_>) -
     }
 }
 
-/// Whether it is so in the image of these bytes. All questions go through here, since what owns an image or a sight takes long to check.
+/// Whether it is so in the image of these bytes. All questions go through here, since what owns an image or a sight
+/// takes long to check.
 fn holds(alloc: Global, bytes: &[u8], place: (u16, u32), asked: Asked<'_>) -> bool {
     match image_of(alloc, bytes) {
         Some(image) => is_so_at(alloc, &image, place, asked),

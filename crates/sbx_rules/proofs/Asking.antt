@@ -68,7 +68,9 @@ module _ (parts : Parts) where
   none_told address told f cause h =
       let lies = h.lies in
       none_to parts f h.block (suc h.word)
-      (λ j other less fault. told f (address_of parts f h.block j) other (subst (λ n. address_of parts f h.block j ≤ n) (sym lies) (lies_up_to parts f h.block j h.word less)) (fault_told parts f h.block j other (earlier_place parts f h.block j h.word (omega arith) h.place) fault))
+      (λ j other less fault. told f (address_of parts f h.block j) other
+      (subst (λ n. address_of parts f h.block j ≤ n) (sym lies) (lies_up_to parts f h.block j h.word less))
+      (fault_told parts f h.block j other (earlier_place parts f h.block j h.word (omega arith) h.place) fault))
       h.word cause (omega arith) h.holds
 
   pub checked : ((f address : ℕ) (cause : Cause) → BreaksAsked parts f address cause → ⊥) → Checked parts

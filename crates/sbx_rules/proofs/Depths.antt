@@ -65,7 +65,9 @@ without_depth_holds = refl
 
 pub without_depth : IsFirst (adding_of 0 0) (refusal 0 0x40000 TooDeep)
 unfolding words_in address_of
-without_depth = told_first (adding_of 0 0) (refusal 0 0x40000 TooDeep) 0 0 (record { function = omega arith; block = omega arith; word = omega arith }) refl without_depth_holds without_depth_before without_depth_here
+without_depth =
+    told_first (adding_of 0 0) (refusal 0 0x40000 TooDeep) 0 0
+    (record { function = omega arith; block = omega arith; word = omega arith }) refl without_depth_holds without_depth_before without_depth_here
 
 with_depth_0_0_quiet : quiet_below (adding_of 1 0) 0 0 0 21 ≡ true
 unfolding quiet_below computed
@@ -129,7 +131,14 @@ with_depth_1_0_quiet = refl
 
 with_depth_1_0_lasts : Lasts (adding_of 1 0) 1 0 0
 unfolding computed
-with_depth_1_0_lasts = record { edges = (tt, tt); end = λ e start s. let c0 = s 8 (range (pos 0) (pos 254) 0) refl in omega (arith, ints); entry = λ e start s. let c0 = s 8 (range (pos 0) (pos 254) 0) refl in omega (arith, ints); terms = refl }
+with_depth_1_0_lasts =
+    record {
+      edges = (tt, tt);
+      end = λ e start s. let c0 = s 8 (range (pos 0) (pos 254) 0) refl in omega (arith, ints);
+      entry = λ e start s. let c0 =
+          s 8 (range (pos 0) (pos 254) 0) refl in omega (arith, ints);
+      terms = refl;
+    }
 
 with_depth_1_1_quiet : quiet_below (adding_of 1 0) 1 0 1 21 ≡ true
 unfolding quiet_below computed
@@ -137,7 +146,14 @@ with_depth_1_1_quiet = refl
 
 with_depth_1_1_lasts : Lasts (adding_of 1 0) 1 0 1
 unfolding computed
-with_depth_1_1_lasts = record { edges = (tt, tt); end = λ e start s. let c0 = s 8 (range (pos 0) (pos 254) 0) refl in omega (arith, ints); entry = λ e start s. let c0 = s 8 (range (pos 0) (pos 254) 0) refl in omega (arith, ints); terms = refl }
+with_depth_1_1_lasts =
+    record {
+      edges = (tt, tt);
+      end = λ e start s. let c0 = s 8 (range (pos 0) (pos 254) 0) refl in omega (arith, ints);
+      entry = λ e start s. let c0 =
+          s 8 (range (pos 0) (pos 254) 0) refl in omega (arith, ints);
+      terms = refl;
+    }
 
 with_depth_none : (f b i : ℕ) → IsPlace (adding_of 1 0) f b i → (cause : Cause) → Holds (adding_of 1 0) f b i cause → ⊥
 unfolding words_in address_of
@@ -223,7 +239,9 @@ leaf_too_deep_holds = refl
 
 pub leaf_too_deep : IsFirst (adding_of 1 1) (refusal 0 0x40008 TooDeep)
 unfolding words_in address_of
-leaf_too_deep = told_first (adding_of 1 1) (refusal 0 0x40008 TooDeep) 0 2 (record { function = omega arith; block = omega arith; word = omega arith }) refl leaf_too_deep_holds leaf_too_deep_before leaf_too_deep_here
+leaf_too_deep =
+    told_first (adding_of 1 1) (refusal 0 0x40008 TooDeep) 0 2
+    (record { function = omega arith; block = omega arith; word = omega arith }) refl leaf_too_deep_holds leaf_too_deep_before leaf_too_deep_here
 
 asks_none : (version : ℕ) (lacks : Bool) → (version ≡ 3 → ⊥) → (version == 3 && lacks) ≡ true → ⊥
 asks_none version lacks other h = other (grind (arith, nat_tests))

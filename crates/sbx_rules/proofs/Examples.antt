@@ -57,7 +57,14 @@ echo_1_0_quiet = refl
 
 echo_1_0_lasts : Lasts echo 0 1 0
 unfolding computed
-echo_1_0_lasts = record { edges = (tt, tt); end = λ e start s. let c0 = s 16 (range (pos 1) (pos 1000) 0) refl in omega (arith, ints); entry = λ e start s. let c0 = s 16 (range (pos 1) (pos 1000) 0) refl in omega (arith, ints); terms = refl }
+echo_1_0_lasts =
+    record {
+      edges = (tt, tt);
+      end = λ e start s. let c0 = s 16 (range (pos 1) (pos 1000) 0) refl in omega (arith, ints);
+      entry = λ e start s. let c0 =
+          s 16 (range (pos 1) (pos 1000) 0) refl in omega (arith, ints);
+      terms = refl;
+    }
 
 echo_1_1_quiet : quiet_below echo 0 1 1 21 ≡ true
 unfolding quiet_below computed
@@ -65,7 +72,14 @@ echo_1_1_quiet = refl
 
 echo_1_1_lasts : Lasts echo 0 1 1
 unfolding computed
-echo_1_1_lasts = record { edges = (tt, tt); end = λ e start s. let c0 = s 16 (range (pos 1) (pos 1000) 0) refl in omega (arith, ints); entry = λ e start s. let c0 = s 16 (range (pos 1) (pos 1000) 0) refl in omega (arith, ints); terms = refl }
+echo_1_1_lasts =
+    record {
+      edges = (tt, tt);
+      end = λ e start s. let c0 = s 16 (range (pos 1) (pos 1000) 0) refl in omega (arith, ints);
+      entry = λ e start s. let c0 =
+          s 16 (range (pos 1) (pos 1000) 0) refl in omega (arith, ints);
+      terms = refl;
+    }
 
 echo_1_2_quiet : quiet_below echo 0 1 2 21 ≡ true
 unfolding quiet_below computed
@@ -73,7 +87,14 @@ echo_1_2_quiet = refl
 
 echo_1_2_lasts : Lasts echo 0 1 2
 unfolding computed
-echo_1_2_lasts = record { edges = (tt, tt); end = λ e start s. let c0 = s 16 (range (pos 1) (pos 1000) 0) refl in omega (arith, ints); entry = λ e start s. let c0 = s 16 (range (pos 1) (pos 1000) 0) refl in omega (arith, ints); terms = refl }
+echo_1_2_lasts =
+    record {
+      edges = (tt, tt);
+      end = λ e start s. let c0 = s 16 (range (pos 1) (pos 1000) 0) refl in omega (arith, ints);
+      entry = λ e start s. let c0 =
+          s 16 (range (pos 1) (pos 1000) 0) refl in omega (arith, ints);
+      terms = refl;
+    }
 
 echo_1_3_quiet : quiet_below echo 0 1 3 21 ≡ true
 unfolding quiet_below computed
@@ -81,7 +102,19 @@ echo_1_3_quiet = refl
 
 echo_1_3_lasts : Lasts echo 0 1 3
 unfolding computed
-echo_1_3_lasts = record { edges = (λ start others s o. let c0 = s 16 (range (pos 1) (pos 1000) 0) refl in omega (arith, ints), (λ start others s o. let c0 = s 16 (range (pos 1) (pos 1000) 0) refl in omega (arith, ints), tt)); end = λ e start s. let c0 = s 16 (range (pos 1) (pos 1000) 0) refl in omega (arith, ints); entry = λ e start s. let c0 = s 16 (range (pos 1) (pos 1000) 0) refl in omega (arith, ints); terms = refl }
+echo_1_3_lasts =
+    record {
+      edges = (
+        λ start others s o. let c0 = s 16 (range (pos 1) (pos 1000) 0) refl in
+            omega (arith, ints),
+        (λ start others s o. let c0 = s 16 (range (pos 1) (pos 1000) 0) refl in omega (arith, ints), tt),
+      );
+      end = λ e start s. let c0 =
+          s 16 (range (pos 1) (pos 1000) 0) refl in omega (arith, ints);
+      entry = λ e start s. let c0 = s 16 (range (pos 1) (pos 1000) 0) refl in
+          omega (arith, ints);
+      terms = refl;
+    }
 
 echo_2_0_quiet : quiet_below echo 0 2 0 21 ≡ true
 unfolding quiet_below computed
@@ -89,7 +122,14 @@ echo_2_0_quiet = refl
 
 echo_2_0_lasts : Lasts echo 0 2 0
 unfolding computed
-echo_2_0_lasts = record { edges = (tt, tt); end = λ e start s. let c0 = s 16 (range (pos 1) (pos 1000) 0) refl in omega (arith, ints); entry = λ e start s. let c0 = s 16 (range (pos 1) (pos 1000) 0) refl in omega (arith, ints); terms = refl }
+echo_2_0_lasts =
+    record {
+      edges = (tt, tt);
+      end = λ e start s. let c0 = s 16 (range (pos 1) (pos 1000) 0) refl in omega (arith, ints);
+      entry = λ e start s. let c0 =
+          s 16 (range (pos 1) (pos 1000) 0) refl in omega (arith, ints);
+      terms = refl;
+    }
 
 echo_2_1_quiet : quiet_below echo 0 2 1 21 ≡ true
 unfolding quiet_below computed
@@ -97,7 +137,14 @@ echo_2_1_quiet = refl
 
 echo_2_1_lasts : Lasts echo 0 2 1
 unfolding computed
-echo_2_1_lasts = record { edges = (tt, tt); end = λ e start s. let c0 = s 16 (range (pos 1) (pos 1000) 0) refl in omega (arith, ints); entry = λ e start s. let c0 = s 16 (range (pos 1) (pos 1000) 0) refl in omega (arith, ints); terms = refl }
+echo_2_1_lasts =
+    record {
+      edges = (tt, tt);
+      end = λ e start s. let c0 = s 16 (range (pos 1) (pos 1000) 0) refl in omega (arith, ints);
+      entry = λ e start s. let c0 =
+          s 16 (range (pos 1) (pos 1000) 0) refl in omega (arith, ints);
+      terms = refl;
+    }
 
 echo_2_2_quiet : quiet_below echo 0 2 2 21 ≡ true
 unfolding quiet_below computed
@@ -105,7 +152,14 @@ echo_2_2_quiet = refl
 
 echo_2_2_lasts : Lasts echo 0 2 2
 unfolding computed
-echo_2_2_lasts = record { edges = (tt, tt); end = λ e start s. let c0 = s 16 (range (pos 1) (pos 1000) 0) refl in omega (arith, ints); entry = λ e start s. let c0 = s 16 (range (pos 1) (pos 1000) 0) refl in omega (arith, ints); terms = refl }
+echo_2_2_lasts =
+    record {
+      edges = (tt, tt);
+      end = λ e start s. let c0 = s 16 (range (pos 1) (pos 1000) 0) refl in omega (arith, ints);
+      entry = λ e start s. let c0 =
+          s 16 (range (pos 1) (pos 1000) 0) refl in omega (arith, ints);
+      terms = refl;
+    }
 
 echo_2_3_quiet : quiet_below echo 0 2 3 21 ≡ true
 unfolding quiet_below computed
@@ -113,7 +167,19 @@ echo_2_3_quiet = refl
 
 echo_2_3_lasts : Lasts echo 0 2 3
 unfolding computed
-echo_2_3_lasts = record { edges = (λ start others s o. let c0 = s 16 (range (pos 1) (pos 1000) 0) refl in omega (arith, ints), (λ start others s o. let c0 = s 16 (range (pos 1) (pos 1000) 0) refl in omega (arith, ints), tt)); end = λ e start s. let c0 = s 16 (range (pos 1) (pos 1000) 0) refl in omega (arith, ints); entry = λ e start s. let c0 = s 16 (range (pos 1) (pos 1000) 0) refl in omega (arith, ints); terms = refl }
+echo_2_3_lasts =
+    record {
+      edges = (
+        λ start others s o. let c0 = s 16 (range (pos 1) (pos 1000) 0) refl in
+            omega (arith, ints),
+        (λ start others s o. let c0 = s 16 (range (pos 1) (pos 1000) 0) refl in omega (arith, ints), tt),
+      );
+      end = λ e start s. let c0 =
+          s 16 (range (pos 1) (pos 1000) 0) refl in omega (arith, ints);
+      entry = λ e start s. let c0 = s 16 (range (pos 1) (pos 1000) 0) refl in
+          omega (arith, ints);
+      terms = refl;
+    }
 
 echo_3_0_quiet : quiet_below echo 0 3 0 21 ≡ true
 unfolding quiet_below computed
@@ -219,7 +285,14 @@ adding_1_0_quiet = refl
 
 adding_1_0_lasts : Lasts (adding (pos 254) (pos 255) 39) 1 0 0
 unfolding computed
-adding_1_0_lasts = record { edges = (tt, tt); end = λ e start s. let c0 = s 8 (range (pos 0) (pos 254) 0) refl in omega (arith, ints); entry = λ e start s. let c0 = s 8 (range (pos 0) (pos 254) 0) refl in omega (arith, ints); terms = refl }
+adding_1_0_lasts =
+    record {
+      edges = (tt, tt);
+      end = λ e start s. let c0 = s 8 (range (pos 0) (pos 254) 0) refl in omega (arith, ints);
+      entry = λ e start s. let c0 =
+          s 8 (range (pos 0) (pos 254) 0) refl in omega (arith, ints);
+      terms = refl;
+    }
 
 adding_1_1_quiet : quiet_below (adding (pos 254) (pos 255) 39) 1 0 1 21 ≡ true
 unfolding quiet_below computed
@@ -227,7 +300,14 @@ adding_1_1_quiet = refl
 
 adding_1_1_lasts : Lasts (adding (pos 254) (pos 255) 39) 1 0 1
 unfolding computed
-adding_1_1_lasts = record { edges = (tt, tt); end = λ e start s. let c0 = s 8 (range (pos 0) (pos 254) 0) refl in omega (arith, ints); entry = λ e start s. let c0 = s 8 (range (pos 0) (pos 254) 0) refl in omega (arith, ints); terms = refl }
+adding_1_1_lasts =
+    record {
+      edges = (tt, tt);
+      end = λ e start s. let c0 = s 8 (range (pos 0) (pos 254) 0) refl in omega (arith, ints);
+      entry = λ e start s. let c0 =
+          s 8 (range (pos 0) (pos 254) 0) refl in omega (arith, ints);
+      terms = refl;
+    }
 
 adding_none : (f b i : ℕ) → IsPlace (adding (pos 254) (pos 255) 39) f b i → (cause : Cause) → Holds (adding (pos 254) (pos 255) 39) f b i cause → ⊥
 unfolding words_in
@@ -303,7 +383,8 @@ short_of_fuel_0_6_quiet : quiet_below (adding (pos 254) (pos 255) 38) 0 0 6 14 �
 unfolding quiet_below computed
 short_of_fuel_0_6_quiet = refl
 
-short_of_fuel_before : (f b i : ℕ) → IsPlace (adding (pos 254) (pos 255) 38) f b i → address_of (adding (pos 254) (pos 255) 38) f b i < 0x40018 → (cause : Cause) → Holds (adding (pos 254) (pos 255) 38) f b i cause → ⊥
+short_of_fuel_before : (f b i : ℕ) → IsPlace (adding (pos 254) (pos 255) 38) f b i → address_of (adding (pos 254) (pos 255) 38) f b i < 0x40018 →
+    (cause : Cause) → Holds (adding (pos 254) (pos 255) 38) f b i cause → ⊥
 unfolding words_in address_of
 short_of_fuel_before zero zero zero p less cause h = no_rule (adding (pos 254) (pos 255) 38) 0 0 0 short_of_fuel_0_0_quiet short_of_fuel_0_0_lasts cause h
 short_of_fuel_before zero zero (suc zero) p less cause h = no_rule (adding (pos 254) (pos 255) 38) 0 0 1 short_of_fuel_0_1_quiet short_of_fuel_0_1_lasts cause h
@@ -320,7 +401,8 @@ short_of_fuel_before (suc zero) zero (suc (suc i)) p less cause h = let q = p.wo
 short_of_fuel_before (suc zero) (suc b) i p less cause h = let q = p.block in omega arith
 short_of_fuel_before (suc (suc f)) b i p less cause h = let q = p.function in omega arith
 
-short_of_fuel_here : (f b i : ℕ) → IsPlace (adding (pos 254) (pos 255) 38) f b i → 0x40018 ≡ address_of (adding (pos 254) (pos 255) 38) f b i → (cause : Cause) → number_of cause < 14 → Holds (adding (pos 254) (pos 255) 38) f b i cause → ⊥
+short_of_fuel_here : (f b i : ℕ) → IsPlace (adding (pos 254) (pos 255) 38) f b i → 0x40018 ≡ address_of (adding (pos 254) (pos 255) 38) f b i →
+    (cause : Cause) → number_of cause < 14 → Holds (adding (pos 254) (pos 255) 38) f b i cause → ⊥
 unfolding words_in address_of
 short_of_fuel_here zero zero zero p at cause fewer h = omega arith
 short_of_fuel_here zero zero (suc zero) p at cause fewer h = omega arith
@@ -373,7 +455,8 @@ param_unkept_0_3_quiet : quiet_below (adding (pos 31) (pos 255) 39) 0 0 3 13 ≡
 unfolding quiet_below computed
 param_unkept_0_3_quiet = refl
 
-param_unkept_before : (f b i : ℕ) → IsPlace (adding (pos 31) (pos 255) 39) f b i → address_of (adding (pos 31) (pos 255) 39) f b i < 0x4000C → (cause : Cause) → Holds (adding (pos 31) (pos 255) 39) f b i cause → ⊥
+param_unkept_before : (f b i : ℕ) → IsPlace (adding (pos 31) (pos 255) 39) f b i → address_of (adding (pos 31) (pos 255) 39) f b i < 0x4000C → (cause : Cause) →
+    Holds (adding (pos 31) (pos 255) 39) f b i cause → ⊥
 unfolding words_in address_of
 param_unkept_before zero zero zero p less cause h = no_rule (adding (pos 31) (pos 255) 39) 0 0 0 param_unkept_0_0_quiet param_unkept_0_0_lasts cause h
 param_unkept_before zero zero (suc zero) p less cause h = no_rule (adding (pos 31) (pos 255) 39) 0 0 1 param_unkept_0_1_quiet param_unkept_0_1_lasts cause h
@@ -390,7 +473,8 @@ param_unkept_before (suc zero) zero (suc (suc i)) p less cause h = let q = p.wor
 param_unkept_before (suc zero) (suc b) i p less cause h = let q = p.block in omega arith
 param_unkept_before (suc (suc f)) b i p less cause h = let q = p.function in omega arith
 
-param_unkept_here : (f b i : ℕ) → IsPlace (adding (pos 31) (pos 255) 39) f b i → 0x4000C ≡ address_of (adding (pos 31) (pos 255) 39) f b i → (cause : Cause) → number_of cause < 13 → Holds (adding (pos 31) (pos 255) 39) f b i cause → ⊥
+param_unkept_here : (f b i : ℕ) → IsPlace (adding (pos 31) (pos 255) 39) f b i → 0x4000C ≡ address_of (adding (pos 31) (pos 255) 39) f b i → (cause : Cause) →
+    number_of cause < 13 → Holds (adding (pos 31) (pos 255) 39) f b i cause → ⊥
 unfolding words_in address_of
 param_unkept_here zero zero zero p at cause fewer h = omega arith
 param_unkept_here zero zero (suc zero) p at cause fewer h = omega arith
@@ -413,7 +497,9 @@ param_unkept_holds = inr (inl refl)
 
 pub param_unkept : IsFirst (adding (pos 31) (pos 255) 39) (refusal 0 0x4000C UnkeptCells)
 unfolding words_in address_of
-param_unkept = told_first (adding (pos 31) (pos 255) 39) (refusal 0 0x4000C UnkeptCells) 0 3 (record { function = omega arith; block = omega arith; word = omega arith }) refl param_unkept_holds param_unkept_before param_unkept_here
+param_unkept =
+    told_first (adding (pos 31) (pos 255) 39) (refusal 0 0x4000C UnkeptCells) 0 3
+    (record { function = omega arith; block = omega arith; word = omega arith }) refl param_unkept_holds param_unkept_before param_unkept_here
 
 result_unkept_0_0_quiet : quiet_below (adding (pos 254) (pos 254) 39) 0 0 0 21 ≡ true
 unfolding quiet_below computed
@@ -477,7 +563,14 @@ result_unkept_1_0_quiet = refl
 
 result_unkept_1_0_lasts : Lasts (adding (pos 254) (pos 254) 39) 1 0 0
 unfolding computed
-result_unkept_1_0_lasts = record { edges = (tt, tt); end = λ e start s. let c0 = s 8 (range (pos 0) (pos 254) 0) refl in omega (arith, ints); entry = λ e start s. let c0 = s 8 (range (pos 0) (pos 254) 0) refl in omega (arith, ints); terms = refl }
+result_unkept_1_0_lasts =
+    record {
+      edges = (tt, tt);
+      end = λ e start s. let c0 = s 8 (range (pos 0) (pos 254) 0) refl in omega (arith, ints);
+      entry = λ e start s. let c0 =
+          s 8 (range (pos 0) (pos 254) 0) refl in omega (arith, ints);
+      terms = refl;
+    }
 
 result_unkept_1_1_quiet : quiet_below (adding (pos 254) (pos 254) 39) 1 0 1 17 ≡ true
 unfolding quiet_below computed
@@ -485,9 +578,17 @@ result_unkept_1_1_quiet = refl
 
 result_unkept_1_1_lasts : Lasts (adding (pos 254) (pos 254) 39) 1 0 1
 unfolding computed
-result_unkept_1_1_lasts = record { edges = (tt, tt); end = λ e start s. let c0 = s 8 (range (pos 0) (pos 254) 0) refl in omega (arith, ints); entry = λ e start s. let c0 = s 8 (range (pos 0) (pos 254) 0) refl in omega (arith, ints); terms = refl }
+result_unkept_1_1_lasts =
+    record {
+      edges = (tt, tt);
+      end = λ e start s. let c0 = s 8 (range (pos 0) (pos 254) 0) refl in omega (arith, ints);
+      entry = λ e start s. let c0 =
+          s 8 (range (pos 0) (pos 254) 0) refl in omega (arith, ints);
+      terms = refl;
+    }
 
-result_unkept_before : (f b i : ℕ) → IsPlace (adding (pos 254) (pos 254) 39) f b i → address_of (adding (pos 254) (pos 254) 39) f b i < 0x40020 → (cause : Cause) → Holds (adding (pos 254) (pos 254) 39) f b i cause → ⊥
+result_unkept_before : (f b i : ℕ) → IsPlace (adding (pos 254) (pos 254) 39) f b i → address_of (adding (pos 254) (pos 254) 39) f b i < 0x40020 →
+    (cause : Cause) → Holds (adding (pos 254) (pos 254) 39) f b i cause → ⊥
 unfolding words_in address_of
 result_unkept_before zero zero zero p less cause h = no_rule (adding (pos 254) (pos 254) 39) 0 0 0 result_unkept_0_0_quiet result_unkept_0_0_lasts cause h
 result_unkept_before zero zero (suc zero) p less cause h = no_rule (adding (pos 254) (pos 254) 39) 0 0 1 result_unkept_0_1_quiet result_unkept_0_1_lasts cause h
@@ -504,7 +605,8 @@ result_unkept_before (suc zero) zero (suc (suc i)) p less cause h = let q = p.wo
 result_unkept_before (suc zero) (suc b) i p less cause h = let q = p.block in omega arith
 result_unkept_before (suc (suc f)) b i p less cause h = let q = p.function in omega arith
 
-result_unkept_here : (f b i : ℕ) → IsPlace (adding (pos 254) (pos 254) 39) f b i → 0x40020 ≡ address_of (adding (pos 254) (pos 254) 39) f b i → (cause : Cause) → number_of cause < 17 → Holds (adding (pos 254) (pos 254) 39) f b i cause → ⊥
+result_unkept_here : (f b i : ℕ) → IsPlace (adding (pos 254) (pos 254) 39) f b i → 0x40020 ≡ address_of (adding (pos 254) (pos 254) 39) f b i →
+    (cause : Cause) → number_of cause < 17 → Holds (adding (pos 254) (pos 254) 39) f b i cause → ⊥
 unfolding words_in address_of
 result_unkept_here zero zero zero p at cause fewer h = omega arith
 result_unkept_here zero zero (suc zero) p at cause fewer h = omega arith
@@ -527,7 +629,9 @@ result_unkept_holds = refl
 
 pub result_unkept : IsFirst (adding (pos 254) (pos 254) 39) (refusal 1 0x40020 UnkeptResults)
 unfolding words_in address_of
-result_unkept = told_first (adding (pos 254) (pos 254) 39) (refusal 1 0x40020 UnkeptResults) 0 1 (record { function = omega arith; block = omega arith; word = omega arith }) refl result_unkept_holds result_unkept_before result_unkept_here
+result_unkept =
+    told_first (adding (pos 254) (pos 254) 39) (refusal 1 0x40020 UnkeptResults) 0 1
+    (record { function = omega arith; block = omega arith; word = omega arith }) refl result_unkept_holds result_unkept_before result_unkept_here
 
 stack_pointer_0_0_quiet : quiet_below stray_stack 0 0 0 7 ≡ true
 unfolding quiet_below computed
@@ -557,7 +661,9 @@ stack_pointer_holds = refl
 
 pub stack_pointer : IsFirst stray_stack (refusal 0 0x40000 ReservedRegister)
 unfolding words_in address_of
-stack_pointer = told_first stray_stack (refusal 0 0x40000 ReservedRegister) 0 0 (record { function = omega arith; block = omega arith; word = omega arith }) refl stack_pointer_holds stack_pointer_before stack_pointer_here
+stack_pointer =
+    told_first stray_stack (refusal 0 0x40000 ReservedRegister) 0 0
+    (record { function = omega arith; block = omega arith; word = omega arith }) refl stack_pointer_holds stack_pointer_before stack_pointer_here
 
 fresh_word_0_0_quiet : quiet_below (after_save 0xD003A040 0x01000000 96 no_others) 0 0 0 21 ≡ true
 unfolding quiet_below computed
@@ -571,7 +677,9 @@ fresh_word_0_1_quiet : quiet_below (after_save 0xD003A040 0x01000000 96 no_other
 unfolding quiet_below computed
 fresh_word_0_1_quiet = refl
 
-fresh_word_before : (f b i : ℕ) → IsPlace (after_save 0xD003A040 0x01000000 96 no_others) f b i → address_of (after_save 0xD003A040 0x01000000 96 no_others) f b i < 0x40004 → (cause : Cause) → Holds (after_save 0xD003A040 0x01000000 96 no_others) f b i cause → ⊥
+fresh_word_before : (f b i : ℕ) → IsPlace (after_save 0xD003A040 0x01000000 96 no_others) f b i →
+    address_of (after_save 0xD003A040 0x01000000 96 no_others) f b i < 0x40004 → (cause : Cause) →
+    Holds (after_save 0xD003A040 0x01000000 96 no_others) f b i cause → ⊥
 unfolding words_in address_of
 fresh_word_before zero zero zero p less cause h = no_rule (after_save 0xD003A040 0x01000000 96 no_others) 0 0 0 fresh_word_0_0_quiet fresh_word_0_0_lasts cause h
 fresh_word_before zero zero (suc zero) p less cause h = omega arith
@@ -581,7 +689,9 @@ fresh_word_before zero zero (suc (suc (suc (suc i)))) p less cause h = let q = p
 fresh_word_before zero (suc b) i p less cause h = let q = p.block in omega arith
 fresh_word_before (suc f) b i p less cause h = let q = p.function in omega arith
 
-fresh_word_here : (f b i : ℕ) → IsPlace (after_save 0xD003A040 0x01000000 96 no_others) f b i → 0x40004 ≡ address_of (after_save 0xD003A040 0x01000000 96 no_others) f b i → (cause : Cause) → number_of cause < 6 → Holds (after_save 0xD003A040 0x01000000 96 no_others) f b i cause → ⊥
+fresh_word_here : (f b i : ℕ) → IsPlace (after_save 0xD003A040 0x01000000 96 no_others) f b i →
+    0x40004 ≡ address_of (after_save 0xD003A040 0x01000000 96 no_others) f b i → (cause : Cause) → number_of cause < 6 →
+    Holds (after_save 0xD003A040 0x01000000 96 no_others) f b i cause → ⊥
 unfolding words_in address_of
 fresh_word_here zero zero zero p at cause fewer h = omega arith
 fresh_word_here zero zero (suc zero) p at cause fewer h = no_lesser_rule (after_save 0xD003A040 0x01000000 96 no_others) 0 0 1 6 (omega arith) fresh_word_0_1_quiet cause fewer h
@@ -597,7 +707,8 @@ fresh_word_holds = refl
 
 pub fresh_word : IsFirst (after_save 0xD003A040 0x01000000 96 no_others) (refusal 0 0x40004 UndefinedRead)
 unfolding words_in address_of
-fresh_word = told_first (after_save 0xD003A040 0x01000000 96 no_others) (refusal 0 0x40004 UndefinedRead) 0 1 (record { function = omega arith; block = omega arith; word = omega arith }) refl fresh_word_holds fresh_word_before fresh_word_here
+fresh_word = told_first (after_save 0xD003A040 0x01000000 96 no_others) (refusal 0 0x40004 UndefinedRead) 0 1
+    (record { function = omega arith; block = omega arith; word = omega arith }) refl fresh_word_holds fresh_word_before fresh_word_here
 
 call_of_itself_0_0_quiet : quiet_below (after_save 0x7FFFFFFF 0x01000000 96 no_others) 0 0 0 21 ≡ true
 unfolding quiet_below computed
@@ -611,7 +722,9 @@ call_of_itself_0_1_quiet : quiet_below (after_save 0x7FFFFFFF 0x01000000 96 no_o
 unfolding quiet_below computed
 call_of_itself_0_1_quiet = refl
 
-call_of_itself_before : (f b i : ℕ) → IsPlace (after_save 0x7FFFFFFF 0x01000000 96 no_others) f b i → address_of (after_save 0x7FFFFFFF 0x01000000 96 no_others) f b i < 0x40004 → (cause : Cause) → Holds (after_save 0x7FFFFFFF 0x01000000 96 no_others) f b i cause → ⊥
+call_of_itself_before : (f b i : ℕ) → IsPlace (after_save 0x7FFFFFFF 0x01000000 96 no_others) f b i →
+    address_of (after_save 0x7FFFFFFF 0x01000000 96 no_others) f b i < 0x40004 → (cause : Cause) →
+    Holds (after_save 0x7FFFFFFF 0x01000000 96 no_others) f b i cause → ⊥
 unfolding words_in address_of
 call_of_itself_before zero zero zero p less cause h = no_rule (after_save 0x7FFFFFFF 0x01000000 96 no_others) 0 0 0 call_of_itself_0_0_quiet call_of_itself_0_0_lasts cause h
 call_of_itself_before zero zero (suc zero) p less cause h = omega arith
@@ -621,7 +734,9 @@ call_of_itself_before zero zero (suc (suc (suc (suc i)))) p less cause h = let q
 call_of_itself_before zero (suc b) i p less cause h = let q = p.block in omega arith
 call_of_itself_before (suc f) b i p less cause h = let q = p.function in omega arith
 
-call_of_itself_here : (f b i : ℕ) → IsPlace (after_save 0x7FFFFFFF 0x01000000 96 no_others) f b i → 0x40004 ≡ address_of (after_save 0x7FFFFFFF 0x01000000 96 no_others) f b i → (cause : Cause) → number_of cause < 5 → Holds (after_save 0x7FFFFFFF 0x01000000 96 no_others) f b i cause → ⊥
+call_of_itself_here : (f b i : ℕ) → IsPlace (after_save 0x7FFFFFFF 0x01000000 96 no_others) f b i →
+    0x40004 ≡ address_of (after_save 0x7FFFFFFF 0x01000000 96 no_others) f b i → (cause : Cause) → number_of cause < 5 →
+    Holds (after_save 0x7FFFFFFF 0x01000000 96 no_others) f b i cause → ⊥
 unfolding words_in address_of
 call_of_itself_here zero zero zero p at cause fewer h = omega arith
 call_of_itself_here zero zero (suc zero) p at cause fewer h = no_lesser_rule (after_save 0x7FFFFFFF 0x01000000 96 no_others) 0 0 1 5 (omega arith) call_of_itself_0_1_quiet cause fewer h
@@ -637,7 +752,9 @@ call_of_itself_holds = refl
 
 pub call_of_itself : IsFirst (after_save 0x7FFFFFFF 0x01000000 96 no_others) (refusal 0 0x40004 BadCall)
 unfolding words_in address_of
-call_of_itself = told_first (after_save 0x7FFFFFFF 0x01000000 96 no_others) (refusal 0 0x40004 BadCall) 0 1 (record { function = omega arith; block = omega arith; word = omega arith }) refl call_of_itself_holds call_of_itself_before call_of_itself_here
+call_of_itself =
+    told_first (after_save 0x7FFFFFFF 0x01000000 96 no_others) (refusal 0 0x40004 BadCall) 0 1
+    (record { function = omega arith; block = omega arith; word = omega arith }) refl call_of_itself_holds call_of_itself_before call_of_itself_here
 
 entry_returns_0_0_quiet : quiet_below (after_save 0x81C7E008 0x81E80000 96 no_others) 0 0 0 21 ≡ true
 unfolding quiet_below computed
@@ -655,7 +772,9 @@ entry_returns_0_1_lasts : Lasts (after_save 0x81C7E008 0x81E80000 96 no_others) 
 unfolding computed
 entry_returns_0_1_lasts = record { edges = (tt, tt); end = λ e start s. omega (arith, ints); entry = λ e start s. omega (arith, ints); terms = refl }
 
-entry_returns_before : (f b i : ℕ) → IsPlace (after_save 0x81C7E008 0x81E80000 96 no_others) f b i → address_of (after_save 0x81C7E008 0x81E80000 96 no_others) f b i < 0x40004 → (cause : Cause) → Holds (after_save 0x81C7E008 0x81E80000 96 no_others) f b i cause → ⊥
+entry_returns_before : (f b i : ℕ) → IsPlace (after_save 0x81C7E008 0x81E80000 96 no_others) f b i →
+    address_of (after_save 0x81C7E008 0x81E80000 96 no_others) f b i < 0x40004 → (cause : Cause) →
+    Holds (after_save 0x81C7E008 0x81E80000 96 no_others) f b i cause → ⊥
 unfolding words_in address_of
 entry_returns_before zero zero zero p less cause h = no_rule (after_save 0x81C7E008 0x81E80000 96 no_others) 0 0 0 entry_returns_0_0_quiet entry_returns_0_0_lasts cause h
 entry_returns_before zero zero (suc zero) p less cause h = omega arith
@@ -665,10 +784,13 @@ entry_returns_before zero zero (suc (suc (suc (suc i)))) p less cause h = let q 
 entry_returns_before zero (suc b) i p less cause h = let q = p.block in omega arith
 entry_returns_before (suc f) b i p less cause h = let q = p.function in omega arith
 
-entry_returns_here : (f b i : ℕ) → IsPlace (after_save 0x81C7E008 0x81E80000 96 no_others) f b i → 0x40004 ≡ address_of (after_save 0x81C7E008 0x81E80000 96 no_others) f b i → (cause : Cause) → number_of cause < 18 → Holds (after_save 0x81C7E008 0x81E80000 96 no_others) f b i cause → ⊥
+entry_returns_here : (f b i : ℕ) → IsPlace (after_save 0x81C7E008 0x81E80000 96 no_others) f b i →
+    0x40004 ≡ address_of (after_save 0x81C7E008 0x81E80000 96 no_others) f b i → (cause : Cause) → number_of cause < 18 →
+    Holds (after_save 0x81C7E008 0x81E80000 96 no_others) f b i cause → ⊥
 unfolding words_in address_of
 entry_returns_here zero zero zero p at cause fewer h = omega arith
-entry_returns_here zero zero (suc zero) p at cause fewer h = no_lesser_rule_lasting (after_save 0x81C7E008 0x81E80000 96 no_others) 0 0 1 18 entry_returns_0_1_quiet entry_returns_0_1_lasts cause fewer h
+entry_returns_here zero zero (suc zero) p at cause fewer h =
+    no_lesser_rule_lasting (after_save 0x81C7E008 0x81E80000 96 no_others) 0 0 1 18 entry_returns_0_1_quiet entry_returns_0_1_lasts cause fewer h
 entry_returns_here zero zero (suc (suc zero)) p at cause fewer h = omega arith
 entry_returns_here zero zero (suc (suc (suc zero))) p at cause fewer h = omega arith
 entry_returns_here zero zero (suc (suc (suc (suc i)))) p at cause fewer h = let q = p.word in omega arith
@@ -681,7 +803,9 @@ entry_returns_holds = refl
 
 pub entry_returns : IsFirst (after_save 0x81C7E008 0x81E80000 96 no_others) (refusal 0 0x40004 BadEntry)
 unfolding words_in address_of
-entry_returns = told_first (after_save 0x81C7E008 0x81E80000 96 no_others) (refusal 0 0x40004 BadEntry) 0 1 (record { function = omega arith; block = omega arith; word = omega arith }) refl entry_returns_holds entry_returns_before entry_returns_here
+entry_returns =
+    told_first (after_save 0x81C7E008 0x81E80000 96 no_others) (refusal 0 0x40004 BadEntry) 0 1
+    (record { function = omega arith; block = omega arith; word = omega arith }) refl entry_returns_holds entry_returns_before entry_returns_here
 
 short_of_stack_0_0_quiet : quiet_below (after_save 0x40000002 0x01000000 188 one_other) 0 0 0 21 ≡ true
 unfolding quiet_below computed
@@ -699,7 +823,9 @@ short_of_stack_0_1_lasts : Lasts (after_save 0x40000002 0x01000000 188 one_other
 unfolding computed
 short_of_stack_0_1_lasts = record { edges = (tt, tt); end = λ e start s. omega (arith, ints); entry = λ e start s. omega (arith, ints); terms = refl }
 
-short_of_stack_before : (f b i : ℕ) → IsPlace (after_save 0x40000002 0x01000000 188 one_other) f b i → address_of (after_save 0x40000002 0x01000000 188 one_other) f b i < 0x40004 → (cause : Cause) → Holds (after_save 0x40000002 0x01000000 188 one_other) f b i cause → ⊥
+short_of_stack_before : (f b i : ℕ) → IsPlace (after_save 0x40000002 0x01000000 188 one_other) f b i →
+    address_of (after_save 0x40000002 0x01000000 188 one_other) f b i < 0x40004 → (cause : Cause) →
+    Holds (after_save 0x40000002 0x01000000 188 one_other) f b i cause → ⊥
 unfolding words_in address_of
 short_of_stack_before zero zero zero p less cause h = no_rule (after_save 0x40000002 0x01000000 188 one_other) 0 0 0 short_of_stack_0_0_quiet short_of_stack_0_0_lasts cause h
 short_of_stack_before zero zero (suc zero) p less cause h = omega arith
@@ -711,10 +837,13 @@ short_of_stack_before (suc zero) zero (suc i) p less cause h = let q = p.word in
 short_of_stack_before (suc zero) (suc b) i p less cause h = let q = p.block in omega arith
 short_of_stack_before (suc (suc f)) b i p less cause h = let q = p.function in omega arith
 
-short_of_stack_here : (f b i : ℕ) → IsPlace (after_save 0x40000002 0x01000000 188 one_other) f b i → 0x40004 ≡ address_of (after_save 0x40000002 0x01000000 188 one_other) f b i → (cause : Cause) → number_of cause < 15 → Holds (after_save 0x40000002 0x01000000 188 one_other) f b i cause → ⊥
+short_of_stack_here : (f b i : ℕ) → IsPlace (after_save 0x40000002 0x01000000 188 one_other) f b i →
+    0x40004 ≡ address_of (after_save 0x40000002 0x01000000 188 one_other) f b i → (cause : Cause) → number_of cause < 15 →
+    Holds (after_save 0x40000002 0x01000000 188 one_other) f b i cause → ⊥
 unfolding words_in address_of
 short_of_stack_here zero zero zero p at cause fewer h = omega arith
-short_of_stack_here zero zero (suc zero) p at cause fewer h = no_lesser_rule_lasting (after_save 0x40000002 0x01000000 188 one_other) 0 0 1 15 short_of_stack_0_1_quiet short_of_stack_0_1_lasts cause fewer h
+short_of_stack_here zero zero (suc zero) p at cause fewer h =
+    no_lesser_rule_lasting (after_save 0x40000002 0x01000000 188 one_other) 0 0 1 15 short_of_stack_0_1_quiet short_of_stack_0_1_lasts cause fewer h
 short_of_stack_here zero zero (suc (suc zero)) p at cause fewer h = omega arith
 short_of_stack_here zero zero (suc (suc (suc i))) p at cause fewer h = let q = p.word in omega arith
 short_of_stack_here zero (suc b) i p at cause fewer h = let q = p.block in omega arith
@@ -729,7 +858,9 @@ short_of_stack_holds = refl
 
 pub short_of_stack : IsFirst (after_save 0x40000002 0x01000000 188 one_other) (refusal 0 0x40004 OutOfStack)
 unfolding words_in address_of
-short_of_stack = told_first (after_save 0x40000002 0x01000000 188 one_other) (refusal 0 0x40004 OutOfStack) 0 1 (record { function = omega arith; block = omega arith; word = omega arith }) refl short_of_stack_holds short_of_stack_before short_of_stack_here
+short_of_stack =
+    told_first (after_save 0x40000002 0x01000000 188 one_other) (refusal 0 0x40004 OutOfStack) 0 1
+    (record { function = omega arith; block = omega arith; word = omega arith }) refl short_of_stack_holds short_of_stack_before short_of_stack_here
 
 pub verdicts_are_these : VerdictsAreThese
 verdicts_are_these = record {

@@ -8,7 +8,9 @@ use Rattle.v8_meaning.specs.Admitted.{is_admitted}
 use Rattle.sbx_image.specs.Parts.{Parts}
 use Rattle.want.specs.Wants.{refused}
 use Rattle.sbx_rules.specs.declared.cause.Cause.{Cause}
-use Rattle.sbx_rules.specs.declared.cause.Cause.TheVariants.{NotAnInstruction, NotAdmitted, BadShape, BadBranch, BadCall, UndefinedRead, ReservedRegister, Misaligned, OutOfBounds, ZeroDivisor, TagOverflow, UndeclaredService, UnkeptCells, OutOfFuel, OutOfStack, RunsPastEnd, UnkeptResults, BadEntry, TooDeep, NoMemory}
+use Rattle.sbx_rules.specs.declared.cause.Cause.TheVariants.{NotAnInstruction, NotAdmitted, BadShape, BadBranch, BadCall, UndefinedRead, ReservedRegister}
+use Rattle.sbx_rules.specs.declared.cause.Cause.TheVariants.{Misaligned, OutOfBounds, ZeroDivisor, TagOverflow, UndeclaredService, UnkeptCells, OutOfFuel}
+use Rattle.sbx_rules.specs.declared.cause.Cause.TheVariants.{OutOfStack, RunsPastEnd, UnkeptResults, BadEntry, TooDeep, NoMemory}
 use Rattle.sbx_rules.specs.declared.cause.Refusal.{Refusal}
 use Rattle.sbx_rules.specs.Causes.{number_of}
 use Rattle.sbx_rules.specs.Fuel.{IsEnough, IsPaid, IsWithinBudget}
@@ -16,7 +18,10 @@ use Rattle.sbx_rules.specs.Operations.{access_of, is_call, is_return}
 use Rattle.sbx_rules.specs.Verdicts.{Checked, IsFirst}
 use Rattle.sbx_image.specs.Order.{address_of, block_at, function_at}
 use Rattle.sbx_rules.specs.Places.{IsPlace, callee_at, op_at, service_asked, word_of_place}
-use Rattle.sbx_rules.specs.Rules.{Holds, LacksFuel, branches_badly, ends_here, first, fuel, has_bad_shape, has_outs, is_aligned_access, is_back, is_declared, is_entry, is_later, is_past, is_placed_access, is_undefined, lacks_depth, lacks_room, leaves_to, lists_badly, may_divide_by_zero, may_overflow, misses_cells, misses_params, names_strange, now, reads_undefined, runs_with, touches_reserved, weight}
+use Rattle.sbx_rules.specs.Rules.{Holds, LacksFuel, branches_badly, ends_here, first, fuel, has_bad_shape, has_outs, is_aligned_access, is_back, is_declared}
+use Rattle.sbx_rules.specs.Rules.{is_entry, is_later, is_past, is_placed_access, is_undefined, lacks_depth, lacks_room, leaves_to, lists_badly}
+use Rattle.sbx_rules.specs.Rules.{may_divide_by_zero, may_overflow, misses_cells, misses_params, names_strange, now, reads_undefined, runs_with}
+use Rattle.sbx_rules.specs.Rules.{touches_reserved, weight}
 use Rattle.sbx_rules.specs.Ways.{To, Visit, Way, fuel_at, visits_at}
 
 -- ---- tests
@@ -42,7 +47,8 @@ one_of false false false e (inr (inl h)) = cc
 one_of false false false e (inr (inr h)) = cc
 
 causes : List Cause
-causes = NotAnInstruction ∷ NotAdmitted ∷ BadShape ∷ BadBranch ∷ BadCall ∷ UndefinedRead ∷ ReservedRegister ∷ Misaligned ∷ OutOfBounds ∷ ZeroDivisor ∷ TagOverflow ∷ UndeclaredService ∷ UnkeptCells ∷ OutOfFuel ∷ OutOfStack ∷ RunsPastEnd ∷ UnkeptResults ∷ BadEntry ∷ NoMemory refused ∷ TooDeep ∷ []
+causes = NotAnInstruction ∷ NotAdmitted ∷ BadShape ∷ BadBranch ∷ BadCall ∷ UndefinedRead ∷ ReservedRegister ∷ Misaligned ∷ OutOfBounds ∷ ZeroDivisor
+    ∷ TagOverflow ∷ UndeclaredService ∷ UnkeptCells ∷ OutOfFuel ∷ OutOfStack ∷ RunsPastEnd ∷ UnkeptResults ∷ BadEntry ∷ NoMemory refused ∷ TooDeep ∷ []
 
 and_left : (x y : Bool) → (x && y) ≡ true → x ≡ true
 and_left true y h = refl
@@ -133,7 +139,9 @@ module _ (parts : Parts) (f b i : ℕ) where
 
   not_quiet : (cause : Cause) → test_of cause ≡ false → Holds parts f b i cause → (cause ≡ OutOfFuel) × LacksFuel parts f b i
   unfolding IsCanonical
-  not_quiet NotAnInstruction e h = absurd (undefined_or (is_undefined (meaning (word_of_place parts f b i))) (bit_and (word_of_place parts f b i) (lookup_unused table (word_of_place parts f b i))) e h)
+  not_quiet NotAnInstruction e h =
+      absurd (undefined_or (is_undefined (meaning (word_of_place parts f b i)))
+      (bit_and (word_of_place parts f b i) (lookup_unused table (word_of_place parts f b i))) e h)
   not_quiet NotAdmitted e h = absurd (refute (test_of NotAdmitted) e h)
   not_quiet BadShape e h = absurd (refute (test_of BadShape) e h)
   not_quiet BadBranch e h = absurd (refute (test_of BadBranch) e h)
@@ -145,7 +153,9 @@ module _ (parts : Parts) (f b i : ℕ) where
   not_quiet ZeroDivisor e h = absurd (refute (test_of ZeroDivisor) e h)
   not_quiet TagOverflow e h = absurd (refute (test_of TagOverflow) e h)
   not_quiet UndeclaredService e h = absurd (refute (test_of UndeclaredService) e h)
-  not_quiet UnkeptCells e h = absurd (one_of (list_any (leaves_to parts f b i (misses_cells parts f b i)) (visits_at parts f b i)) (list_any (misses_params parts f b i) (visits_at parts f b i)) ((i == 0) && lists_badly (function_at parts f) b (block_at parts f b)) e h)
+  not_quiet UnkeptCells e h =
+      absurd (one_of (list_any (leaves_to parts f b i (misses_cells parts f b i)) (visits_at parts f b i))
+      (list_any (misses_params parts f b i) (visits_at parts f b i)) ((i == 0) && lists_badly (function_at parts f) b (block_at parts f b)) e h)
   not_quiet OutOfFuel e h = (refl, h)
   not_quiet OutOfStack e h = absurd (refute (test_of OutOfStack) e h)
   not_quiet RunsPastEnd e h = absurd (refute (test_of RunsPastEnd) e h)

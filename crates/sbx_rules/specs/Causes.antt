@@ -2,7 +2,11 @@
 use Rattle.std.specs.Prelude.{ℕ, ◌-◌, ◌^◌, false, true, List, [], ◌++◌, codes}
 use Rattle.std.specs.Fmt.{decimal, digits, format_spec, padded_integral}
 use Rattle.sbx_rules.specs.declared.cause.Cause.{Cause}
-use Rattle.sbx_rules.specs.declared.cause.Cause.TheVariants.{NotAnInstruction, NotAdmitted, BadShape, BadBranch, BadCall, UndefinedRead, ReservedRegister, Misaligned, OutOfBounds, ZeroDivisor, TagOverflow, UndeclaredService, UnkeptCells, OutOfFuel, OutOfStack, RunsPastEnd, UnkeptResults, BadEntry, TooDeep, NoMemory}
+use Rattle.sbx_rules.specs.declared.cause.Cause.TheVariants.{NotAnInstruction, NotAdmitted, BadShape, BadBranch}
+use Rattle.sbx_rules.specs.declared.cause.Cause.TheVariants.{BadCall, UndefinedRead, ReservedRegister, Misaligned}
+use Rattle.sbx_rules.specs.declared.cause.Cause.TheVariants.{OutOfBounds, ZeroDivisor, TagOverflow, UndeclaredService}
+use Rattle.sbx_rules.specs.declared.cause.Cause.TheVariants.{UnkeptCells, OutOfFuel, OutOfStack, RunsPastEnd}
+use Rattle.sbx_rules.specs.declared.cause.Cause.TheVariants.{UnkeptResults, BadEntry, TooDeep, NoMemory}
 use Rattle.sbx_rules.specs.declared.cause.Refusal.{Refusal}
 
 abbrev pub number_of : Cause → ℕ
@@ -55,4 +59,6 @@ abbrev pub eight_digits : ℕ → List ℕ
 eight_digits n = padded_integral (format_spec 32 0 4 8 (2 ^ 64 - 1)) false [] (digits 16 true n)
 
 abbrev pub shown : Refusal → List ℕ
-shown r = codes "refused " ++ (shown_cause r.cause ++ (codes " in function " ++ (decimal r.function ++ (codes " at " ++ eight_digits r.address))))
+shown r = codes "refused "
+    ++ (shown_cause r.cause
+    ++ (codes " in function " ++ (decimal r.function ++ (codes " at " ++ eight_digits r.address))))

@@ -8,14 +8,24 @@ use Rattle.sbx_image.specs.Parts.{Parts}
 use Rattle.sbx_image.specs.Term.{Term}
 use Rattle.sbx_form.specs.Ranges.{range}
 use Rattle.sbx_rules.specs.declared.cause.Cause.{Cause}
-use Rattle.sbx_rules.specs.declared.cause.Cause.TheVariants.{BadCall, UndefinedRead, ReservedRegister, UnkeptCells, OutOfFuel, OutOfStack, UnkeptResults, BadEntry, TooDeep}
+use Rattle.sbx_rules.specs.declared.cause.Cause.TheVariants.{BadCall, UndefinedRead, ReservedRegister, UnkeptCells}
+use Rattle.sbx_rules.specs.declared.cause.Cause.TheVariants.{OutOfFuel, OutOfStack, UnkeptResults, BadEntry, TooDeep}
 use Rattle.sbx_rules.specs.declared.cause.Refusal.{Refusal}
 use Rattle.sbx_rules.specs.Rules.{Holds, is_in_data}
 use Rattle.sbx_rules.specs.Verdicts.{Checked, IsFirst}
 
 -- all services, no data and one page of stack
 abbrev pub image_of : List ℕ → List Function → Parts
-image_of words functions = record { version = 1; services = record { 0 = 7 }; words = words; regions = []; stack_pages = 1; functions = functions }
+image_of words functions =
+    record {
+      version = 1;
+      services = record { 0 = 7 };
+      words = words;
+      regions = [];
+      stack_pages = 1;
+      functions =
+          functions;
+    }
 
 -- a block without cells and terms
 abbrev pub bare_block : ℕ → ℤ → Block
@@ -23,7 +33,19 @@ bare_block address fuel = record { address = address; fuel = fuel; cells = []; t
 
 -- a function of one block without params and results, whose fuel is its budget
 abbrev pub framed : ℕ → ℕ → ℕ → Function
-framed entry room budget = record { kind = Framed; params = []; results = []; entry = entry; frame = 96; stack_room = room; budget = budget; depth = 0; blocks = bare_block entry (pos budget) ∷ [] }
+framed entry room budget =
+    record {
+      kind = Framed;
+      params = [];
+      results = [];
+      entry = entry;
+      frame = 96;
+      stack_room = room;
+      budget =
+          budget;
+      depth = 0;
+      blocks = bare_block entry (pos budget) ∷ [];
+    }
 
 abbrev pub refusal : ℕ → ℕ → Cause → Refusal
 refusal function address cause = record { function = function; address = address; cause = cause }
@@ -42,7 +64,8 @@ sixteen_turns = record { location = 16; coefficient = pos 16 } ∷ []
 
 abbrev pub echo : Parts
 echo = image_of
-    (0x9DE3BFA0 ∷ 0xA01023E8 ∷ 0x91D02001 ∷ 0x80A23FFF ∷ 0x02800006 ∷ 0x01000000 ∷ 0x91D02002 ∷ 0xA0A42001 ∷ 0x12BFFFFA ∷ 0x01000000 ∷ 0x90102000 ∷ 0x91D02000 ∷ [])
+    (0x9DE3BFA0 ∷ 0xA01023E8 ∷ 0x91D02001 ∷ 0x80A23FFF ∷ 0x02800006 ∷ 0x01000000 ∷ 0x91D02002 ∷ 0xA0A42001 ∷ 0x12BFFFFA
+    ∷ 0x01000000 ∷ 0x90102000 ∷ 0x91D02000 ∷ [])
     (record {
       kind = Framed;
       params = [];
@@ -55,7 +78,13 @@ echo = image_of
       blocks =
           bare_block 0x40000 (pos 16030)
           ∷ record { address = 0x40008; fuel = pos 4; cells = cell 16 (pos 1) (pos 1000) ∷ []; terms = sixteen_turns }
-          ∷ record { address = 0x40018; fuel = negsuc 3; cells = cell 8 (pos 0) (pos 255) ∷ cell 16 (pos 1) (pos 1000) ∷ []; terms = sixteen_turns }
+          ∷ record {
+            address = 0x40018;
+            fuel = negsuc 3;
+            cells =
+                cell 8 (pos 0) (pos 255) ∷ cell 16 (pos 1) (pos 1000) ∷ [];
+            terms = sixteen_turns;
+          }
           ∷ bare_block 0x40028 (pos 4)
           ∷ [];
     } ∷ [])
@@ -66,9 +95,21 @@ echo = image_of
 
 abbrev pub adding : ℤ → ℤ → ℕ → Parts
 adding param result budget = image_of
-    (0x9DE3BFA0 ∷ 0x90102020 ∷ 0x40000005 ∷ 0x01000000 ∷ 0x91D02002 ∷ 0x90102000 ∷ 0x91D02000 ∷ 0x81C3E008 ∷ 0x90022001 ∷ [])
+    (0x9DE3BFA0 ∷ 0x90102020 ∷ 0x40000005 ∷ 0x01000000 ∷ 0x91D02002 ∷ 0x90102000 ∷ 0x91D02000 ∷ 0x81C3E008 ∷ 0x90022001
+    ∷ [])
     (framed 0x40000 96 budget
-    ∷ record { kind = Leaf; params = range (pos 0) param 0 ∷ []; results = range (pos 1) result 0 ∷ []; entry = 0x4001C; frame = 0; stack_room = 0; budget = 2; depth = 0; blocks = bare_block 0x4001C (pos 2) ∷ [] }
+    ∷ record {
+      kind = Leaf;
+      params = range (pos 0) param 0 ∷ [];
+      results = range (pos 1) result 0 ∷ [];
+      entry =
+          0x4001C;
+      frame = 0;
+      stack_room = 0;
+      budget = 2;
+      depth = 0;
+      blocks = bare_block 0x4001C (pos 2) ∷ [];
+    }
     ∷ [])
 
 -- the functions with these depths declared
@@ -88,11 +129,23 @@ adding_of caller leaf = deepened (caller ∷ leaf ∷ []) (adding (pos 254) (pos
 -- sethi 0x3C0040,%sp; ba .+0; save, as a leaf without fuel
 abbrev pub stray_stack : Parts
 stray_stack = image_of (0x1D3C0040 ∷ 0x10800000 ∷ 0x9DE3A000 ∷ [])
-    (record { kind = Leaf; params = []; results = []; entry = 0x40000; frame = 0; stack_room = 0; budget = 0; depth = 0; blocks = bare_block 0x40000 (pos 0) ∷ [] } ∷ [])
+    (record {
+      kind = Leaf;
+      params = [];
+      results = [];
+      entry = 0x40000;
+      frame = 0;
+      stack_room = 0;
+      budget = 0;
+      depth =
+          0;
+      blocks = bare_block 0x40000 (pos 0) ∷ [];
+    } ∷ [])
 
 -- save %sp,-96,%sp and three words more
 abbrev pub after_save : ℕ → ℕ → ℕ → List Function → Parts
-after_save second third room others = image_of (0x9DE3BFA0 ∷ second ∷ third ∷ 0x01000000 ∷ []) (framed 0x40000 room 100 ∷ others)
+after_save second third room others =
+    image_of (0x9DE3BFA0 ∷ second ∷ third ∷ 0x01000000 ∷ []) (framed 0x40000 room 100 ∷ others)
 
 abbrev pub no_others : List Function
 no_others = []
@@ -131,7 +184,12 @@ pub record VerdictsAreThese : Type 0 where
 -- ---- data of two regions: a page that is only read, and right behind it eight bytes that may be written
 
 abbrev pub two_regions : Parts
-two_regions = record (image_of [] []) { regions = record { bytes = replicate 4096 0; writable = false } ∷ record { bytes = replicate 8 0; writable = true } ∷ [] }
+two_regions =
+    record (image_of [] []) {
+      regions =
+          record { bytes = replicate 4096 0; writable = false } ∷ record { bytes = replicate 8 0; writable = true }
+          ∷ [];
+    }
 
 -- a load or a store of four bytes from each address of an interval on
 abbrev pub is_admitted_from : ℕ → ℕ → Bool → Bool

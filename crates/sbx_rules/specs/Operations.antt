@@ -1,5 +1,6 @@
 -- What the rules ask of an operation: its kind, the registers that it reads and writes, and the bytes that it reaches.
-use Rattle.std.specs.Prelude.{ℕ, ◌&&◌, ◌||◌, not, Bool, true, false, ◌==◌, nat_lt, nat_le, if◌then◌else◌, List, [], ◌∷◌, ◌++◌, Option, Some, None, ℤ}
+use Rattle.std.specs.Prelude.{ℕ, ◌&&◌, ◌||◌, not, Bool, true, false, ◌==◌, nat_lt, nat_le, if◌then◌else◌, List, [], ◌∷◌}
+use Rattle.std.specs.Prelude.{◌++◌, Option, Some, None, ℤ}
 use Rattle.v8_word.specs.Registers.{call_address, caller_address, frame_pointer, stack_pointer}
 use Rattle.v8_word.specs.declared.Size.{Size}
 use Rattle.v8_word.specs.declared.Size.TheVariants as sizes
@@ -10,7 +11,9 @@ use Rattle.v8_meaning.specs.declared.operation.Exchange.TheVariants as exchanges
 use Rattle.v8_meaning.specs.declared.operation.Loading.TheVariants as loadings
 use Rattle.v8_meaning.specs.declared.operation.MemoryOperand.{MemoryOperand}
 use Rattle.v8_meaning.specs.declared.operation.Operation.{Operation}
-use Rattle.v8_meaning.specs.declared.operation.Operation.TheVariants.{Compute, Divide, TaggedTrap, SetHigh, ReadY, WriteY, Transfer, Save, Restore, Call, BranchOnCondition, JumpAndLink, TrapOnCondition}
+use Rattle.v8_meaning.specs.declared.operation.Operation.TheVariants.{Compute, Divide, TaggedTrap, SetHigh, ReadY}
+use Rattle.v8_meaning.specs.declared.operation.Operation.TheVariants.{WriteY, Transfer, Save, Restore, Call}
+use Rattle.v8_meaning.specs.declared.operation.Operation.TheVariants.{BranchOnCondition, JumpAndLink, TrapOnCondition}
 use Rattle.v8_meaning.specs.declared.operation.Transfer.{Transfer as Moving}
 use Rattle.v8_meaning.specs.declared.operation.Transfer.TheVariants.{Load, Store, Exchange}
 use Rattle.v8_meaning.specs.Admitted.{is_ret}
@@ -73,7 +76,8 @@ moves_word _ = false
 
 -- the offset from %sp of an LD or ST that names %sp or %fp and an immediate, in a framed function
 abbrev pub frame_offset : Function → Moving → MemoryOperand → Option ℤ
-frame_offset function t m = if is_framed function.kind && moves_word t then offset_from_sp function.frame m.rs1 m.operand2 else None
+frame_offset function t m =
+    if is_framed function.kind && moves_word t then offset_from_sp function.frame m.rs1 m.operand2 else None
 
 abbrev pub loads_word : Moving → Bool
 loads_word (Load loadings.Word) = true
@@ -81,7 +85,8 @@ loads_word _ = false
 
 -- the location of the frame word that an LD reads
 abbrev pub frame_word_read : Function → Operation → Option ℕ
-frame_word_read function (Transfer t m) = if is_framed function.kind && loads_word t then frame_word_of function.frame m else None
+frame_word_read function (Transfer t m) =
+    if is_framed function.kind && loads_word t then frame_word_of function.frame m else None
 frame_word_read function _ = None
 
 -- ---- registers read
@@ -175,7 +180,8 @@ reads_y _ = false
 
 -- ---- bytes reached
 
--- so many bytes, at an offset from %sp where it is a frame word's form, else at an address of a range; and whether it writes them
+-- so many bytes, at an offset from %sp where it is a frame word's form, else at an address of a range; and whether it
+-- writes them
 pub record Access : Type 0 where
   pub size : ℕ
   pub writes : Bool

@@ -1,6 +1,7 @@
--- The places of an image's code, by the numbers of function, block and word: what each word asks for, and what begins at an address.
--- Every look-up is total; the numbers in use are below the lengths.
-use Rattle.std.specs.Prelude.{ℕ, zero, suc, ◌-◌, ◌/◌, ◌<◌, Bool, false, ◌==◌, if◌then◌else◌, List, [], ◌∷◌, length, Option, Some, None, slice_index}
+-- The places of an image's code, by the numbers of function, block and word: what each word asks for, and what begins
+-- at an address. Every look-up is total; the numbers in use are below the lengths.
+use Rattle.std.specs.Prelude.{ℕ, zero, suc, ◌-◌, ◌/◌, ◌<◌, Bool, false, ◌==◌, if◌then◌else◌, List, [], ◌∷◌, length}
+use Rattle.std.specs.Prelude.{Option, Some, None, slice_index}
 use Rattle.v8_meaning.specs.declared.operation.Operation.{Operation}
 use Rattle.v8_meaning.specs.declared.operation.Operation.TheVariants.{Call, Nothing, TrapOnCondition}
 use Rattle.v8_meaning.specs.Operands.{target}

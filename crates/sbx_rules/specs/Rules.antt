@@ -1,7 +1,9 @@
--- The rules. Each is one condition on a word of the code: word i of block b of function f. An image in which none holds anywhere
--- is checked. A rule on slots, edges and returns speaks of the ways on which the word runs (`Ways`), so that a slot needs no
--- words of its own; a word that is annulled, or runs on no way, reads, writes and reaches nothing.
-use Rattle.std.specs.Prelude.{◌≡◌, ℕ, zero, suc, ◌+◌, ◌-◌, ◌*◌, ◌%◌, ◌^◌, ◌⊎◌, ◌&&◌, ◌||◌, not, Bool, true, false, IsTrue, ◌==◌, nat_lt, nat_le, if◌then◌else◌, List, [], ◌∷◌, length, Option, Some, None, ℤ, pos, negsuc, ◌+ℤ◌, int_lt, slice_get}
+-- The rules. Each is one condition on a word of the code: word i of block b of function f. An image in which none holds
+-- anywhere is checked. A rule on slots, edges and returns speaks of the ways on which the word runs (`Ways`), so that a
+-- slot needs no words of its own; a word that is annulled, or runs on no way, reads, writes and reaches nothing.
+use Rattle.std.specs.Prelude.{◌≡◌, ℕ, zero, suc, ◌+◌, ◌-◌, ◌*◌, ◌%◌, ◌^◌, ◌⊎◌, ◌&&◌, ◌||◌, not, Bool, true, false}
+use Rattle.std.specs.Prelude.{IsTrue, ◌==◌, nat_lt, nat_le, if◌then◌else◌, List, [], ◌∷◌, length, Option, Some, None, ℤ}
+use Rattle.std.specs.Prelude.{pos, negsuc, ◌+ℤ◌, int_lt, slice_get}
 use Rattle.std.specs.List.{list_any}
 use Rattle.v8_word.specs.Registers.{stack_pointer}
 use Rattle.v8_formats.specs.declared.instr.Instr.{Instr}
@@ -11,7 +13,8 @@ use Rattle.v8_formats.specs.declared.instr.Operand.TheVariants.{Register, Immedi
 use Rattle.v8_formats.specs.Table.{meaning, IsCanonical}
 use Rattle.v8_alu.specs.declared.TaggedOp.{TaggedOp}
 use Rattle.v8_meaning.specs.declared.operation.Operation.{Operation}
-use Rattle.v8_meaning.specs.declared.operation.Operation.TheVariants.{Call, Divide, TaggedTrap, Save, BranchOnCondition, JumpAndLink}
+use Rattle.v8_meaning.specs.declared.operation.Operation.TheVariants.{Call, Divide, TaggedTrap, Save, BranchOnCondition}
+use Rattle.v8_meaning.specs.declared.operation.Operation.TheVariants.{JumpAndLink}
 use Rattle.v8_meaning.specs.Admitted.{is_admitted, is_ret}
 use Rattle.sbx_image.specs.Block.{Block}
 use Rattle.sbx_image.specs.Cell.{Cell}
@@ -31,12 +34,19 @@ use Rattle.sbx_domain.specs.Known.{Known, range_at}
 use Rattle.sbx_domain.specs.Results.{operand_entry, register_entry}
 use Rattle.sbx_domain.specs.Transfer.{transferred}
 use Rattle.sbx_rules.specs.declared.cause.Cause.{Cause}
-use Rattle.sbx_rules.specs.declared.cause.Cause.TheVariants.{NotAnInstruction, NotAdmitted, BadShape, BadBranch, BadCall, UndefinedRead, ReservedRegister, Misaligned, OutOfBounds, ZeroDivisor, TagOverflow, UndeclaredService, UnkeptCells, OutOfFuel, OutOfStack, RunsPastEnd, UnkeptResults, BadEntry, TooDeep, NoMemory}
+use Rattle.sbx_rules.specs.declared.cause.Cause.TheVariants.{NotAnInstruction, NotAdmitted, BadShape, BadBranch}
+use Rattle.sbx_rules.specs.declared.cause.Cause.TheVariants.{BadCall, UndefinedRead, ReservedRegister, Misaligned}
+use Rattle.sbx_rules.specs.declared.cause.Cause.TheVariants.{OutOfBounds, ZeroDivisor, TagOverflow, UndeclaredService}
+use Rattle.sbx_rules.specs.declared.cause.Cause.TheVariants.{UnkeptCells, OutOfFuel, OutOfStack, RunsPastEnd}
+use Rattle.sbx_rules.specs.declared.cause.Cause.TheVariants.{UnkeptResults, BadEntry, TooDeep, NoMemory}
 use Rattle.sbx_rules.specs.Fuel.{IsEnough, IsPaid, IsWithinBudget}
-use Rattle.sbx_rules.specs.Operations.{Access, access_of, frame_word_read, is_call, is_framed, is_framed_return, is_reserved, is_restore, is_return, is_save, is_transfer, is_trap, may_write, reads_codes, reads_of, reads_y, writes_of}
+use Rattle.sbx_rules.specs.Operations.{Access, access_of, frame_word_read, is_call, is_framed, is_framed_return}
+use Rattle.sbx_rules.specs.Operations.{is_reserved, is_restore, is_return, is_save, is_transfer, is_trap, may_write}
+use Rattle.sbx_rules.specs.Operations.{reads_codes, reads_of, reads_y, writes_of}
 use Rattle.sbx_image.specs.Order.{block_at, function_at, words_in}
 use Rattle.sbx_rules.specs.Places.{callee_at, callee_before, ends_run, op_at, op_before, service_asked, word_of_place}
-use Rattle.sbx_rules.specs.Ways.{Back, Past, To, Visit, Way, after_visit, branch_way, cells_at, fuel_at, names_cell, state_at, visits_at, weight_to}
+use Rattle.sbx_rules.specs.Ways.{Back, Past, To, Visit, Way, after_visit, branch_way, cells_at, fuel_at, names_cell}
+use Rattle.sbx_rules.specs.Ways.{state_at, visits_at, weight_to}
 
 -- ---- words for the rule of shape
 
@@ -57,7 +67,9 @@ is_entry b i = (b == 0) && (i == 0)
 
 -- a framed function begins with its SAVE, and a leaf has no frame
 abbrev pub enters_well : Function → Operation → Bool
-enters_well function op = if is_framed function.kind then is_save_of function.frame op && is_frame_size function.frame else function.frame == 0
+enters_well function op =
+    if is_framed function.kind then is_save_of function.frame op && is_frame_size function.frame
+    else function.frame == 0
 
 -- a leaf returns by `retl` and calls nothing, a framed function returns by `ret`
 abbrev pub suits : Kind → Operation → Bool
@@ -90,7 +102,8 @@ reads_undefined function op d =
     || (reads_codes op && not d.icc) || (reads_y op && not (is_some d.y))
 
 unfoldable pub touches_reserved : Function → Operation → Bool
-touches_reserved function op = list_any is_reserved (reads_of function op) || list_any (λ r. not (may_write function op r)) (writes_of op)
+touches_reserved function op =
+    list_any is_reserved (reads_of function op) || list_any (λ r. not (may_write function op r)) (writes_of op)
 
 abbrev pub needed_alignment : ℕ → ℕ
 needed_alignment size = if size == 8 then 3 else (if size == 4 then 2 else (if size == 2 then 1 else 0))
@@ -115,7 +128,8 @@ is_aligned_access (Some a) = is_aligned_at a.offset a
 abbrev pub is_in_frame : ℕ → ℤ → Bool
 is_in_frame frame offset = not (int_lt offset (pos 64)) && not (int_lt (pos frame) (offset +ℤ pos 4))
 
--- so many bytes from each address of the range lie in one region of the data, the same for all, which may be written if they are written
+-- so many bytes from each address of the range lie in one region of the data, the same for all, which may be written if
+-- they are written
 abbrev pub is_in_data : Parts → ℕ → Bool → Option Range → Bool
 is_in_data parts size writes None = false
 is_in_data parts size writes (Some r) = holds parts.regions r.lo (r.hi +ℤ pos size) writes
@@ -166,7 +180,9 @@ has_outs l (r ∷ rs) d = has_range (range_at d l) r && has_outs (suc l) rs d
 
 -- the locations that a function can write
 abbrev pub is_writable : Function → ℕ → Bool
-is_writable function l = not (is_reserved l) && (nat_lt l 16 || (is_framed function.kind && (nat_lt l 32 || nat_le (64 + 4 * (l - 32) + 4) function.frame)))
+is_writable function l =
+    not (is_reserved l)
+    && (nat_lt l 16 || (is_framed function.kind && (nat_lt l 32 || nat_le (64 + 4 * (l - 32) + 4) function.frame)))
 
 -- a first block lists no cells, another block lists cells that the function can write
 abbrev pub lists_badly : Function → ℕ → Block → Bool
@@ -229,16 +245,18 @@ module _ (parts : Parts) (f b i : ℕ) where
 
   -- V1: the word is undefined or has a set unused bit.
   abbrev pub IsNoInstruction : Type 0
-  IsNoInstruction = IsTrue (is_undefined (meaning (word_of_place parts f b i))) ⊎ (IsCanonical (word_of_place parts f b i) → ⊥)
+  IsNoInstruction = IsTrue (is_undefined (meaning (word_of_place parts f b i)))
+      ⊎ (IsCanonical (word_of_place parts f b i) → ⊥)
 
   -- V2: sandboxed code may not ask for the operation.
   abbrev pub IsNotAdmitted : Type 0
   IsNotAdmitted = IsTrue (not (is_admitted op))
 
-  -- V3: a framed function's first word isn't `save %sp,-F,%sp`, F its frame, a multiple of 8 from 64 to 4,096, or a leaf's frame
-  -- isn't 0; a SAVE elsewhere; a RESTORE elsewhere than in the slot of `ret`, or another word there; `ret` or a CALL in a leaf,
-  -- `retl` in a framed function; a transfer or a trap in a slot; a slot that isn't in its transfer's block (told at the transfer);
-  -- and a word of the same block after a slot, but a CALL's, or after `ta 0` (told at the slot, at the `ta 0`).
+  -- V3: a framed function's first word isn't `save %sp,-F,%sp`, F its frame, a multiple of 8 from 64 to 4,096, or a
+  -- leaf's frame isn't 0; a SAVE elsewhere; a RESTORE elsewhere than in the slot of `ret`, or another word there; `ret`
+  -- or a CALL in a leaf, `retl` in a framed function; a transfer or a trap in a slot; a slot that isn't in its
+  -- transfer's block (told at the transfer); and a word of the same block after a slot, but a CALL's, or after `ta 0`
+  -- (told at the slot, at the `ta 0`).
   abbrev pub has_bad_shape : Bool
   has_bad_shape =
       (is_entry b i && not (enters_well function op))
@@ -273,8 +291,8 @@ module _ (parts : Parts) (f b i : ℕ) where
   abbrev pub ReadsUndefined : Type 0
   ReadsUndefined = IsTrue (runs_with (reads_undefined function op) visits)
 
-  -- V7: %sp, %fp, %o7 or %i7 is read or written but by its own forms; a leaf writes a local or an in; RESTORE writes another
-  -- register than %g0 and %o0 to %o5.
+  -- V7: %sp, %fp, %o7 or %i7 is read or written but by its own forms; a leaf writes a local or an in; RESTORE writes
+  -- another register than %g0 and %o0 to %o5.
   abbrev pub TouchesReserved : Type 0
   TouchesReserved = IsTrue (runs_with (λ d. touches_reserved function op) visits)
 
@@ -282,8 +300,8 @@ module _ (parts : Parts) (f b i : ℕ) where
   abbrev pub MayBeMisaligned : Type 0
   MayBeMisaligned = IsTrue (runs_with (λ d. not (is_aligned_access (access_of function op d))) visits)
 
-  -- V9: an access isn't shown to lie in one region of the image's data, of a store one that may be written, or, by %sp or %fp and an
-  -- immediate, in the frame's words.
+  -- V9: an access isn't shown to lie in one region of the image's data, of a store one that may be written, or, by %sp
+  -- or %fp and an immediate, in the frame's words.
   abbrev pub MayBeOutside : Type 0
   MayBeOutside = IsTrue (runs_with (λ d. not (is_placed_access parts function.frame (access_of function op d))) visits)
 
@@ -299,8 +317,8 @@ module _ (parts : Parts) (f b i : ℕ) where
   abbrev pub AsksUndeclared : Type 0
   AsksUndeclared = IsTrue (not (is_declared parts.services (service_asked op)))
 
-  -- V13: on an edge a cell of the target is undefined or outside its range; at a CALL, after its slot, a param is; a first block
-  -- lists cells, or a cell names a location that the function can't write (told at the block's first word).
+  -- V13: on an edge a cell of the target is undefined or outside its range; at a CALL, after its slot, a param is; a
+  -- first block lists cells, or a cell names a location that the function can't write (told at the block's first word).
   abbrev pub misses_cells : Visit → ℕ → Bool
   misses_cells v t = not (has_cells (now v) (cells_at parts f t))
 
@@ -316,11 +334,12 @@ module _ (parts : Parts) (f b i : ℕ) where
   misses_params v = not (has_cells (transferred function.frame op v.known) (params_of (callee_before parts f b i)))
 
   abbrev pub BreaksCells : Type 0
-  BreaksCells = IsTrue (list_any (leaves_to misses_cells) visits) ⊎ (IsTrue (list_any misses_params visits) ⊎ IsTrue ((i == 0) && lists_badly function b (block_at parts f b)))
+  BreaksCells = IsTrue (list_any (leaves_to misses_cells) visits)
+      ⊎ (IsTrue (list_any misses_params visits) ⊎ IsTrue ((i == 0) && lists_badly function b (block_at parts f b)))
 
-  -- V14: on an edge the block's fuel is less than the weight so far and the target's fuel; at `ta 0` or a return it is less than
-  -- the weight so far; the budget is less than the first block's fuel (told at the entry); or a term names no cell of its block
-  -- (told at its first word). Each for some numbers of the block's ranges.
+  -- V14: on an edge the block's fuel is less than the weight so far and the target's fuel; at `ta 0` or a return it is
+  -- less than the weight so far; the budget is less than the first block's fuel (told at the entry); or a term names no
+  -- cell of its block (told at its first word). Each for some numbers of the block's ranges.
   abbrev pub fuel : Form
   fuel = fuel_at parts f b
 
@@ -353,15 +372,17 @@ module _ (parts : Parts) (f b i : ℕ) where
       ⊎ (IsTrue (is_entry b i) × (IsWithinBudget first fuel function.budget → ⊥))
       ⊎ IsTrue ((i == 0) && names_strange)
 
-  -- V15: the stack room is below the frame, or function 0's is above the stack's bytes less 64 (told at the entry); at a CALL it
-  -- is below the frame and the callee's room.
+  -- V15: the stack room is below the frame, or function 0's is above the stack's bytes less 64 (told at the entry); at
+  -- a CALL it is below the frame and the callee's room.
   abbrev pub room_of_callee : Option ℕ → ℕ
   room_of_callee None = 0
   room_of_callee (Some g) = (function_at parts g).stack_room
 
   abbrev pub lacks_room : Bool
   lacks_room =
-      (is_entry b i && (nat_lt function.stack_room function.frame || ((f == 0) && nat_lt (4096 * parts.stack_pages) (function.stack_room + 64))))
+      (is_entry b i
+      && (nat_lt function.stack_room function.frame
+      || ((f == 0) && nat_lt (4096 * parts.stack_pages) (function.stack_room + 64))))
       || (is_call op && nat_lt function.stack_room (function.frame + room_of_callee (callee_at parts f b i)))
 
   abbrev pub LacksRoom : Type 0
@@ -379,8 +400,8 @@ module _ (parts : Parts) (f b i : ℕ) where
   abbrev pub IsBadEntry : Type 0
   IsBadEntry = IsTrue ((f == 0) && ((is_entry b i && not (length function.params == 0)) || is_return op))
 
-  -- V20: a framed function's depth is below 1 (told at its entry), or that of a caller below 1 plus its callee's, a leaf's too (told
-  -- at the CALL). It is asked in version 3 alone.
+  -- V20: a framed function's depth is below 1 (told at its entry), or that of a caller below 1 plus its callee's, a
+  -- leaf's too (told at the CALL). It is asked in version 3 alone.
   abbrev pub calls_deeper : Option ℕ → Bool
   calls_deeper None = false
   calls_deeper (Some g) = nat_lt function.depth ((function_at parts g).depth + 1)

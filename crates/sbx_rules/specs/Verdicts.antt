@@ -23,14 +23,16 @@ pub record Breaks (parts : Parts) (f address : ℕ) (cause : Cause) : Type 0 whe
 abbrev pub Checked : Parts → Type 0
 Checked parts = (f address : ℕ) (cause : Cause) → Breaks parts f address cause → ⊥
 
--- Of what is told of functions, addresses and rules, a refusal names what has the least address, and there the least number.
+-- Of what is told of functions, addresses and rules, a refusal names what has the least address, and there the least
+-- number.
 pub record IsLeast (Told : ℕ → ℕ → Cause → Type 0) (refusal : Refusal) : Type 0 where
   pub told : Told refusal.function refusal.address refusal.cause
   pub no_lesser_address : (f address : ℕ) (cause : Cause) → address < refusal.address → Told f address cause → ⊥
-  pub no_lesser_number : (f : ℕ) (cause : Cause) → number_of cause < number_of refusal.cause → Told f refusal.address cause → ⊥
+  pub no_lesser_number : (f : ℕ) (cause : Cause) → number_of cause < number_of refusal.cause →
+      Told f refusal.address cause → ⊥
 
--- The refusal of an image: of the rules that it breaks, the one of least number at the least address, and the function that
--- holds that address.
+-- The refusal of an image: of the rules that it breaks, the one of least number at the least address, and the function
+-- that holds that address.
 abbrev pub IsFirst : Parts → Refusal → Type 0
 IsFirst parts refusal = IsLeast (Breaks parts) refusal
 
@@ -52,7 +54,8 @@ pub record BreaksAsked (parts : Parts) (f address : ℕ) (cause : Cause) : Type 
 
 -- A verdict is the same with and without asking in order.
 pub record AskingInOrderTellsTheSame : Type 0 where
-  pub checked : (parts : Parts) → ((f address : ℕ) (cause : Cause) → BreaksAsked parts f address cause → ⊥) → Checked parts
+  pub checked : (parts : Parts) → ((f address : ℕ) (cause : Cause) → BreaksAsked parts f address cause → ⊥) →
+      Checked parts
   pub first_asked : (parts : Parts) (refusal : Refusal) → IsFirst parts refusal → IsLeast (BreaksAsked parts) refusal
   pub first : (parts : Parts) (refusal : Refusal) → IsLeast (BreaksAsked parts) refusal → IsFirst parts refusal
 

@@ -1,6 +1,7 @@
 -- What is known before each word, what the words before it weigh, and the ways on which it runs.
 -- The rules that speak of slots, edges and returns all speak of these ways.
-use Rattle.std.specs.Prelude.{ℕ, zero, suc, ◌+◌, ◌&&◌, Bool, true, false, ◌==◌, nat_lt, if◌then◌else◌, List, [], ◌∷◌, ◌++◌, length, Option, Some, None}
+use Rattle.std.specs.Prelude.{ℕ, zero, suc, ◌+◌, ◌&&◌, Bool, true, false, ◌==◌, nat_lt, if◌then◌else◌, List, [], ◌∷◌}
+use Rattle.std.specs.Prelude.{◌++◌, length, Option, Some, None}
 use Rattle.std.specs.List.{list_any}
 use Rattle.v8_formats.specs.declared.instr.Branch.{Branch}
 use Rattle.v8_meaning.specs.declared.operation.Operation.{Operation}
@@ -43,9 +44,11 @@ after_call parts (Some g) d = called (function_at parts g).results d
 
 -- after a word; a call has its effect after its slot
 abbrev pub after_word : Parts → ℕ → ℕ → ℕ → Known → Known
-after_word parts f b i d = after_call parts (callee_before parts f b i) (transferred (function_at parts f).frame (op_at parts f b i) d)
+after_word parts f b i d =
+    after_call parts (callee_before parts f b i) (transferred (function_at parts f).frame (op_at parts f b i) d)
 
--- What is known before word i of a block, where control comes to it by the words before: a function of the annotations alone.
+-- What is known before word i of a block, where control comes to it by the words before: a function of the annotations
+-- alone.
 unfoldable pub state_at : Parts → ℕ → ℕ → ℕ → Known
 state_at parts f b zero = started (cells_at parts f b)
 state_at parts f b (suc i) = after_word parts f b i (state_at parts f b i)
@@ -78,7 +81,8 @@ counted cells (t ∷ ts) = if names_cell cells t.location then form_term t ∷ c
 
 -- the fuel with which a block begins, over the numbers of its cells
 unfoldable pub fuel_at : Parts → ℕ → ℕ → Form
-fuel_at parts f b = record { constant = (block_at parts f b).fuel; terms = counted (cells_at parts f b) (block_at parts f b).terms }
+fuel_at parts f b =
+    record { constant = (block_at parts f b).fuel; terms = counted (cells_at parts f b) (block_at parts f b).terms }
 
 -- ---- where control goes
 
@@ -100,10 +104,12 @@ pub data Way : Type 0 where
 -- on from word i of a block, where it ends the run or not
 abbrev pub falls_to : Bool → ℕ → ℕ → ℕ → ℕ → Way
 falls_to true words blocks b i = Over
-falls_to false words blocks b i = if nat_lt (i + 1) words then Next else (if nat_lt (b + 1) blocks then To (b + 1) else Past)
+falls_to false words blocks b i =
+    if nat_lt (i + 1) words then Next else (if nat_lt (b + 1) blocks then To (b + 1) else Past)
 
 unfoldable pub falls : Parts → ℕ → ℕ → ℕ → Way
-falls parts f b i = falls_to (ends_run (op_at parts f b i)) (words_in parts f b) (length (function_at parts f).blocks) b i
+falls parts f b i =
+    falls_to (ends_run (op_at parts f b i)) (words_in parts f b) (length (function_at parts f).blocks) b i
 
 abbrev pub way_to : Option ℕ → Way
 way_to None = Astray
@@ -111,7 +117,8 @@ way_to (Some b) = To b
 
 -- where a branch at word i of a block goes
 unfoldable pub branch_way : Parts → ℕ → ℕ → ℕ → ℕ → Way
-branch_way parts f b i displacement = way_to (find_block 0 (target (address_of parts f b i) displacement) (function_at parts f).blocks)
+branch_way parts f b i displacement =
+    way_to (find_block 0 (target (address_of parts f b i) displacement) (function_at parts f).blocks)
 
 -- ---- the ways on which a word runs
 
@@ -129,8 +136,8 @@ visit_if (Some d) way annulled = record { known = d; way = way; annulled = annul
 abbrev pub plain_visit : Known → Way → List Visit
 plain_visit d way = record { known = d; way = way; annulled = false } ∷ []
 
--- A branch refines what is known before it for each of its two edges; its slot then runs on each. `ba` has the taken edge alone,
--- and its annul bit annuls the slot there; that of the others annuls the slot where the branch isn't taken.
+-- A branch refines what is known before it for each of its two edges; its slot then runs on each. `ba` has the taken
+-- edge alone, and its annul bit annuls the slot there; that of the others annuls the slot where the branch isn't taken.
 abbrev pub taken_visit : Branch → Way → Known → List Visit
 taken_visit c way d = visit_if (refined c.cond d) way (c.annul && is_always c.cond)
 
@@ -139,14 +146,16 @@ untaken_visit c way d = if is_always c.cond then [] else visit_if (refined (oppo
 
 -- the ways of the word after a word: `here` is known before the one, `there` before the other
 abbrev pub visits_after : Parts → ℕ → ℕ → ℕ → Operation → Known → Known → List Visit
-visits_after parts f b i (BranchOnCondition c) here there = taken_visit c (branch_way parts f b i c.displacement) here ++ untaken_visit c (falls parts f b (suc i)) here
+visits_after parts f b i (BranchOnCondition c) here there =
+    taken_visit c (branch_way parts f b i c.displacement) here ++ untaken_visit c (falls parts f b (suc i)) here
 visits_after parts f b i (JumpAndLink j) here there = plain_visit there Back
 visits_after parts f b i _ here there = plain_visit there (falls parts f b (suc i))
 
 -- Each way on which word i of a block runs: one, but in a branch's slot one for each edge that isn't empty.
 unfoldable pub visits_at : Parts → ℕ → ℕ → ℕ → List Visit
 visits_at parts f b zero = plain_visit (state_at parts f b 0) (falls parts f b 0)
-visits_at parts f b (suc i) = visits_after parts f b i (op_at parts f b i) (state_at parts f b i) (state_at parts f b (suc i))
+visits_at parts f b (suc i) =
+    visits_after parts f b i (op_at parts f b i) (state_at parts f b i) (state_at parts f b (suc i))
 
 -- what is known after a word on one of its ways
 abbrev pub after_visit : Parts → ℕ → ℕ → ℕ → Visit → Known

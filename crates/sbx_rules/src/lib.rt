@@ -1,4 +1,5 @@
-//! The verifier's rules as definitions (`specs/Rules.antt`), and what a verdict on an image means (`specs/Verdicts.antt`).
+//! The verifier's rules as definitions (`specs/Rules.antt`), and what a verdict on an image means
+//! (`specs/Verdicts.antt`).
 //!
 //! The only code is the rules' names. The laws are contracts of functions that do nothing.
 #![tactic(auto)]

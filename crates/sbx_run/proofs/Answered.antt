@@ -55,7 +55,9 @@ module _ (parts : Parts) (n : ℕ) (input : List ℕ) (image : IsImage parts) (s
         told = told;
         output = output;
         pages = pages;
-        flat = subst (λ (o : Outcome). IsFlatEnd parts n input f.output.items f.status o) same (subst (λ (w : ℕ). IsFlatEnd parts n input f.output.items w (outcome_of n run.end)) status (subst (λ (o : List ℕ). IsFlatEnd parts n input o e.status (outcome_of n run.end)) same_output e.flat));
+        flat = subst (λ (o : Outcome). IsFlatEnd parts n input f.output.items f.status o) same
+            (subst (λ (w : ℕ). IsFlatEnd parts n input f.output.items w (outcome_of n run.end)) status
+            (subst (λ (o : List ℕ). IsFlatEnd parts n input o e.status (outcome_of n run.end)) same_output e.flat));
         own = subst (KeepsToItsOwn n parts input [] run.start run.end) (ap (λ (o : Outcome). o.turns) same) e.own;
       }
 
@@ -71,7 +73,9 @@ run_of n image parts input limit raw same most run =
 
 -- ---- on a board that was there
 
-module _ (n : ℕ) (parts : Parts) (made start end : BoardState n) (image : IsImage parts) (safe : FlatSafe parts) (bytes : AreBytes made.world.memory.device.input) (loaded : IsStart n parts made start) (state : IsState n start.mmu start.world) (run : IsRun n (budget parts) start end) where
+module _ (n : ℕ) (parts : Parts) (made start end : BoardState n) (image : IsImage parts) (safe : FlatSafe parts)
+    (bytes : AreBytes made.world.memory.device.input) (loaded : IsStart n parts made start) (state : IsState n start.mmu start.world)
+    (run : IsRun n (budget parts) start end) where
   pub board_exits : (o : Outcome) (e : Ending) → o ≡ outcome_of n end → o.ending ≡ e → ((status : ℕ) → e ≡ Exit status → ⊥) → ⊥
   board_exits o e told is other =
       let so = ends n parts made start end image safe bytes loaded state run in
@@ -143,7 +147,8 @@ cut_asks n image parts limit old loaded new same most start kept asks = (
   subst (λ k. CutAsks n k loaded.state new.state old.calls new.calls) most (subst (λ a. CutAsks n limit loaded.state new.state a new.calls) kept asks),
 )
 
-pub stands_on : (n : ℕ) (image parts : Parts) (limit : ℕ) (old start new : BoardState n) → image ≡ parts → limit ≡ budget parts → IsStart n image old start → IsState n start.mmu start.world → IsCutShort n limit start new → GoesOn n limit start new → StandsOn n parts old new
+pub stands_on : (n : ℕ) (image parts : Parts) (limit : ℕ) (old start new : BoardState n) → image ≡ parts → limit ≡ budget parts → IsStart n image old start →
+    IsState n start.mmu start.world → IsCutShort n limit start new → GoesOn n limit start new → StandsOn n parts old new
 stands_on n image parts limit old start new same most loaded state cut goes_on =
     record {
       start = start;

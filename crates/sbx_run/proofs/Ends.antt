@@ -60,7 +60,9 @@ outcome_is n s status e = ap (λ (o : Option Ending). record { ending = ending_o
 
 -- ---- the law
 
-module _ (n : ℕ) (parts : Parts) (made start end : BoardState n) (image : IsImage parts) (safe : FlatSafe parts) (bytes : AreBytes made.world.memory.device.input) (loaded : IsStart n parts made start) (state : IsState n start.mmu start.world) (run : IsRun n (budget parts) start end) where
+module _ (n : ℕ) (parts : Parts) (made start end : BoardState n) (image : IsImage parts) (safe : FlatSafe parts)
+    (bytes : AreBytes made.world.memory.device.input) (loaded : IsStart n parts made start) (state : IsState n start.mmu start.world)
+    (run : IsRun n (budget parts) start end) where
   abbrev input : List ℕ
   input = made.world.memory.device.input
 
@@ -70,7 +72,8 @@ module _ (n : ℕ) (parts : Parts) (made start end : BoardState n) (image : IsIm
   finishes : Finishes n parts input earlier start
   finishes =
       let d = made.world.memory.device in
-      runs_to_its_end n parts input (with_device n parts made start loaded state d) start image safe bytes (is_any n parts made start loaded state d) (loaded_again n parts made start loaded state d start.world.memory.device loaded.device)
+      runs_to_its_end n parts input (with_device n parts made start loaded state d) start image safe bytes (is_any n parts made start loaded state d)
+      (loaded_again n parts made start loaded state d start.world.memory.device loaded.device)
 
   pub ends : ExitsAsFlat n parts input earlier start end
   ends =
@@ -83,7 +86,9 @@ module _ (n : ℕ) (parts : Parts) (made start end : BoardState n) (image : IsIm
       let over : ending_of n f.last ≡ Some (Exit f.status) = ended_as n f.last f.status f.over.stopped in
       let still : ending_of n (after n c.turns start).world ≡ None → ⊥ =
       λ none. some_not_none (ending_of n f.last) (Exit f.status) over (ap (λ (b : BoardState n). ending_of n b.world) (sym c.board_stands) ∙ none) in
-      let last : end ≡ after n c.turns start = same_end n (budget parts) c.turns start end (after n c.turns start) run (record { count = c.turns; running = c.going; is = refl }, refl) (omega arith) still in
+      let last : end ≡ after n c.turns start =
+      same_end n (budget parts) c.turns start end (after n c.turns start) run (record { count = c.turns; running = c.going; is = refl }, refl)
+      (omega arith) still in
       let stands = last ∙ c.board_stands in
       let outcome : outcome_of n end ≡ record { ending = Exit f.status; turns = c.turns; overflows = c.overflows; underflows = c.underflows } =
       ap (outcome_of n) stands ∙ outcome_is n _ f.status over in
@@ -94,7 +99,8 @@ module _ (n : ℕ) (parts : Parts) (made start end : BoardState n) (image : IsIm
         put_out = ap (λ (b : BoardState n). b.world.memory.device.output) stands ∙ f.over.output;
         flat = record {
           path = c.path;
-          behaves = subst (λ (p : List Place). Behaves parts input f.state.output f.status p) (sym a.2) (subst (λ w. Behaves parts input f.state.output w s.2) (sym a.1) (subst (λ (o : List ℕ). Behaves parts input o s.1 s.2) (sym a.0) s.3));
+          behaves = subst (λ (p : List Place). Behaves parts input f.state.output f.status p) (sym a.2)
+              (subst (λ w. Behaves parts input f.state.output w s.2) (sym a.1) (subst (λ (o : List ℕ). Behaves parts input o s.1 s.2) (sym a.0) s.3));
           exits = ap (λ (o : Outcome). o.ending) outcome;
           turns = so_many ∙ sym (ap (λ (t : Traffic). t.turns) c.traffic_is);
           overflows = ap (λ (o : Outcome). o.overflows) outcome ∙ sym (ap (λ (t : Traffic). t.overflows) c.traffic_is);

@@ -11,8 +11,8 @@ use sbx_verify::{Accepted, budget};
 use v8_board::{Board, Port};
 use v8_mmu::PortFault;
 
-/// What a run on a board gave: the exit word, the turns, how often there was no window to save to or to restore from, and which pages
-/// were referenced and modified. The port has what the program put out.
+/// What a run on a board gave: the exit word, the turns, how often there was no window to save to or to restore from,
+/// and which pages were referenced and modified. The port has what the program put out.
 #[derive(Clone, Copy)]
 pub struct Ended {
     pub status: u32,
@@ -22,12 +22,12 @@ pub struct Ended {
     pub pages: PageUse,
 }
 
-/// Loads an accepted image into a board and runs it to its end, on the input that the board's port has to give: whatever the board's
-/// registers, its stack and the image before left. The image exits within its budget, as every run on the flat machine does, and the
-/// board stands where the last turn left it; with so many windows as `run_accepted` says none overflows or underflows. On a fault of
-/// the port it stands after the last whole turn, and `Board::run` goes on with the turns that are left of the budget; the port's count
-/// of failures rose by one, as it does nowhere else. In all, the port is called at most once for each turn made, and
-/// once more where it fails.
+/// Loads an accepted image into a board and runs it to its end, on the input that the board's port has to give:
+/// whatever the board's registers, its stack and the image before left. The image exits within its budget, as every run
+/// on the flat machine does, and the board stands where the last turn left it; with so many windows as `run_accepted`
+/// says none overflows or underflows. On a fault of the port it stands after the last whole turn, and `Board::run` goes
+/// on with the turns that are left of the budget; the port's count of failures rose by one, as it does nowhere else. In
+/// all, the port is called at most once for each turn made, and once more where it fails.
 pub fn run_board<const N: usize, P: Port>(
     board: &mut Board<N, P>,
     accepted: &Accepted,

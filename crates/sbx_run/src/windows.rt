@@ -33,7 +33,8 @@ fn run_within(
     on_windows!(windows, run_on [] (alloc, accepted, input), 4 to 32)
 }
 
-/// Runs an accepted image on an input to its end on so many windows, as `run_accepted` does; None exactly below 4 and above 32.
+/// Runs an accepted image on an input to its end on so many windows, as `run_accepted` does; None exactly below 4 and
+/// above 32.
 pub fn run_windows(
     alloc: Global,
     windows: u32,

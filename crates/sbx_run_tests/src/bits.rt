@@ -40,7 +40,8 @@ fn has_a_verdict(alloc: Global, image: Image) -> bool {
     }
 }
 
-/// The fault of the version with one bit turned. As version 3 the bytes have no region where they told their bytes of data, and no page of stack.
+/// The fault of the version with one bit turned. As version 3 the bytes have no region where they told their bytes of
+/// data, and no page of stack.
 fn fault_of_version(bit: usize) -> ImageFault {
     if bit == 46 {
         ImageFault::Limit
@@ -49,8 +50,8 @@ fn fault_of_version(bit: usize) -> ImageFault {
     }
 }
 
-/// Whether what is read of the bytes with one bit turned is as it has to be: the first eight bytes tell their own fault, but where the
-/// version is 3.
+/// Whether what is read of the bytes with one bit turned is as it has to be: the first eight bytes tell their own
+/// fault, but where the version is 3.
 fn is_told(alloc: Global, bit: usize) -> bool {
     match read(alloc, &turned(bit)) {
         Ok(image) => bit >= 48 && has_a_verdict(alloc, image),

@@ -87,8 +87,8 @@ fn runs_on_one_board(rt: HostRuntime) {
     assert!(rt; images_share(rt.alloc()));
 }
 
-/// The registers of the current window after the chain's run: it is the one below the first function's, whose outs are its ins, with
-/// the places of the trap that ended the run in %l1 and %l2.
+/// The registers of the current window after the chain's run: it is the one below the first function's, whose outs are
+/// its ins, with the places of the trap that ended the run in %l1 and %l2.
 static REGISTERS: [(u8, u32); 4] = [
     (17, 0x0004_0010),
     (18, 0x0004_0014),
@@ -124,7 +124,8 @@ fn has_words(board: &Board<4, SlicePort<'_>>, words: &[(u64, u32)]) -> bool {
     true
 }
 
-/// Whether a board is in supervisor mode with traps disabled in window 2, window 0 is the invalid one, and the rest is as above.
+/// Whether a board is in supervisor mode with traps disabled in window 2, window 0 is the invalid one, and the rest is
+/// as above.
 fn is_left(board: &Board<4, SlicePort<'_>>) -> bool {
     (board.psr(), board.wim()) == (0x82, 1)
         && board.port().output() == b"!".as_slice()
@@ -167,9 +168,9 @@ fn shows_what_a_run_leaves(rt: HostRuntime) {
     assert!(rt; chain_leaves_its_board(rt.alloc()));
 }
 
-/// Words of RAM after a byte of one region was read and stored into the next: the entries of the data's pages, one that may be read
-/// alone and was, one that may be written and was, and none; the first region's bytes and the end of its page; the byte that was
-/// stored.
+/// Words of RAM after a byte of one region was read and stored into the next: the entries of the data's pages, one that
+/// may be read alone and was, one that may be written and was, and none; the first region's bytes and the end of its
+/// page; the byte that was stored.
 static PLACED: [(u64, u32); 7] = [
     (0x2B00, 0x5022),
     (0x2B04, 0x5166),
@@ -229,7 +230,8 @@ static READS: Source = Source {
     links: None,
 };
 
-/// Whether an image that nobody has verified, loaded into a board as it stands, exits after 22 turns, and the board has put this out.
+/// Whether an image that nobody has verified, loaded into a board as it stands, exits after 22 turns, and the board has
+/// put this out.
 fn reads(board: &mut Board<4, SlicePort<'_>>, image: &Image, output: &[u8]) -> bool {
     board.load(image);
     match board.run(100) {
@@ -288,7 +290,8 @@ fn finds_what_is_left(alloc: Global) -> bool {
     }
 }
 
-/// Nothing is cleared between two images on one board but what booting sets. An accepted image can't tell, and any other one can.
+/// Nothing is cleared between two images on one board but what booting sets. An accepted image can't tell, and any
+/// other one can.
 #[test]
 fn what_is_left_can_be_read(rt: HostRuntime) {
     assert!(rt; finds_what_is_left(rt.alloc()));

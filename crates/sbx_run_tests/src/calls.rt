@@ -1,4 +1,5 @@
-//! The calls, for tests that need nothing of what their contracts promise: who makes a call has its whole contract to prove with.
+//! The calls, for tests that need nothing of what their contracts promise: who makes a call has its whole contract to
+//! prove with.
 ghost use Rattle.std.specs.Prelude.{◌≤◌};
 
 use sbx_batch::{Batch, run_batch};

@@ -1,13 +1,15 @@
-//! Images of the greatest sizes, as sources that are made piece by piece: each is accepted, and refused where a turn less is declared.
-//! What a function declares is counted by the weights of the rules: 25 turns for a SAVE or a RESTORE, 3 for an exit, 1 for others.
+//! Images of the greatest sizes, as sources that are made piece by piece: each is accepted, and refused where a turn
+//! less is declared. What a function declares is counted by the weights of the rules: 25 turns for a SAVE or a RESTORE,
+//! 3 for an exit, 1 for others.
 use crate::calls::judged;
 use crate::sources::assembled;
 use crate::verdicts::is_shown;
 use sbx_image::Image;
 use std::alloc::{AllocError, Global};
 
-/// So many pieces: between the strings of one stand its number, room and fuel, its fuel again, and the number of the next one. The last
-/// piece has a frame's room and `turns` more than `last`, and each other one as much more than the piece after it.
+/// So many pieces: between the strings of one stand its number, room and fuel, its fuel again, and the number of the
+/// next one. The last piece has a frame's room and `turns` more than `last`, and each other one as much more than the
+/// piece after it.
 struct Pieces {
     strings: [&'static str; 6],
     count: u32,

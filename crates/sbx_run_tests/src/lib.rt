@@ -1,4 +1,5 @@
-//! Verdicts and runs of images, also over readers and writers that end, fail, and take nothing, against rows that were worked out by hand.
+//! Verdicts and runs of images, also over readers and writers that end, fail, and take nothing, against rows that were
+//! worked out by hand.
 #![tactic(auto)]
 
 #[cfg(test)]

@@ -8,7 +8,8 @@ use std::process::Abort;
 use v8_board::{Board, Ending, Outcome, Port};
 use v8_mmu::PortFault;
 
-/// Whether a port that was given nothing fails, one that was gives its byte once, and one that has ended tells so each time.
+/// Whether a port that was given nothing fails, one that was gives its byte once, and one that has ended tells so each
+/// time.
 fn gives_a_byte(port: &mut Mailbox) -> bool {
     let lacked = port.get() == Err(PortFault::Reader) && port.failures() == 1;
     port.give(0xFF);

@@ -14,9 +14,9 @@ use std::process::Abort;
 use std::test::Fail;
 use v8_word::TrapType;
 
-/// What a source's image gives on an input: its budget, the exit word, the output, the turns where there are windows enough, the
-/// overflows on four windows, how many of them each window more spares, whether the stack's last page is used, and which pages of the
-/// data are, and are written.
+/// What a source's image gives on an input: its budget, the exit word, the output, the turns where there are windows
+/// enough, the overflows on four windows, how many of them each window more spares, whether the stack's last page is
+/// used, and which pages of the data are, and are written.
 #[derive(Clone, Copy)]
 pub(crate) struct Row<'a> {
     pieces: &'static [&'static str],
@@ -92,7 +92,8 @@ static INCREMENTS: Row<'static> = Row {
     ..QUIET
 };
 
-/// A byte of a region that may be read alone is put out, and stored into one that may be written, which is all on the next page.
+/// A byte of a region that may be read alone is put out, and stored into one that may be written, which is all on the
+/// next page.
 const ON_TWO_PAGES: Row<'static> = Row {
     output: b"H",
     pieces: &[TWO_REGIONS, BETWEEN_REGIONS, " stb %o0,[%g2+7]\n", EXITS],
@@ -228,8 +229,8 @@ static LONG: [Row<'static>; 2] = [
 ];
 
 impl Row<'_> {
-    /// The overflows, underflows and turns on so many windows. The first function's SAVE is never undone, so there is an underflow
-    /// less; and each of them takes 24 turns, its trap and the handler's 23.
+    /// The overflows, underflows and turns on so many windows. The first function's SAVE is never undone, so there is
+    /// an underflow less; and each of them takes 24 turns, its trap and the handler's 23.
     fn counts_on(&self, windows: u32) -> (u64, u64, u64) {
         let more = u64::from(windows.saturating_sub(4));
         let overflows = self
@@ -536,8 +537,8 @@ fn raw_runs_agree(rt: HostRuntime) {
     assert!(rt; increments_raw(rt.alloc(), &INCREMENTS));
 }
 
-/// Whether a raw run puts the first byte out, and ends at a store for which there is no right: a protection error at level 3 of a store
-/// to user data, whose address is known (appendix H).
+/// Whether a raw run puts the first byte out, and ends at a store for which there is no right: a protection error at
+/// level 3 of a store to user data, whose address is known (appendix H).
 fn is_trapped(raw: &Raw) -> bool {
     let told = &raw.outcome;
     told.ending == Ending::Trapped(TrapType::DATA_ACCESS_EXCEPTION)

@@ -10,8 +10,8 @@ pub(crate) struct Source {
     pub(crate) links: Option<&'static Links>,
 }
 
-/// Functions `f1` to `f39`, each of which calls the next. The last is written out. Each other one, from a number on, declares the same,
-/// has `slot` with its number between the two in its call's delay slot, and `back` in its return's.
+/// Functions `f1` to `f39`, each of which calls the next. The last is written out. Each other one, from a number on,
+/// declares the same, has `slot` with its number between the two in its call's delay slot, and `back` in its return's.
 pub(crate) struct Links {
     pub(crate) from: u32,
     pub(crate) declared: &'static str,
@@ -271,7 +271,8 @@ pub(crate) const RESULT_LINKS: Links = Links { from: 2, ..LINKS };
 /// Any word.
 const WORDS: &str = ".param -2147483648,2147483647,0\n.result -2147483648,2147483647,0\n";
 
-/// Rounds of a chain; what the first function declares and the count of rounds stand before this. The last word is put out.
+/// Rounds of a chain; what the first function declares and the count of rounds stand before this. The last word is put
+/// out.
 pub(crate) const ROUNDS: &str = " mov 0,%l2
 .block loop
 .cell %l0,1,30000,0

@@ -9,8 +9,8 @@ use sbx_stream::{Accepted, Finished, RunFault, run_stream};
 use std::alloc::Global;
 use std::process::Abort;
 
-/// A source, what a reader and a writer do, and what comes of it. The reader gives the input, and then ends, or is broken; the writer
-/// takes so many bytes, and then takes none, or is broken.
+/// A source, what a reader and a writer do, and what comes of it. The reader gives the input, and then ends, or is
+/// broken; the writer takes so many bytes, and then takes none, or is broken.
 #[derive(Clone, Copy)]
 struct Row<'a> {
     source: &'static str,

@@ -1,8 +1,8 @@
 //! A reader and a writer that count what they are asked.
 use std::io::{self, Read, Write};
 
-/// Gives these bytes, as many as are asked for; then it ends, or fails each time where it is broken. Counts its reads and the bytes
-/// that they asked for.
+/// Gives these bytes, as many as are asked for; then it ends, or fails each time where it is broken. Counts its reads
+/// and the bytes that they asked for.
 #[derive(Clone, Copy)]
 pub(crate) struct Source<'a> {
     pub(crate) left: &'a [u8],
@@ -42,7 +42,8 @@ impl Read for Source<'_> {
     }
 }
 
-/// Takes so many bytes, one a call; then it fails, or takes none. Keeps the first 1,024 of them, and counts its flushes.
+/// Takes so many bytes, one a call; then it fails, or takes none. Keeps the first 1,024 of them, and counts its
+/// flushes.
 #[derive(Clone, Copy)]
 pub(crate) struct Sink {
     kept: [u8; 1024],

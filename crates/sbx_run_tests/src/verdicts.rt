@@ -280,7 +280,8 @@ fn are_told(rt: &impl Abort, alloc: Global, rows: &[Row]) {
     }
 }
 
-// A function that names a table costs the prover by all that stands in it, and more than in proportion: each of these names one.
+// A function that names a table costs the prover by all that stands in it, and more than in proportion: each of these
+// names one.
 
 fn declarations_are_told(rt: &impl Abort, alloc: Global) {
     are_told(rt, alloc, &DECLARATIONS);

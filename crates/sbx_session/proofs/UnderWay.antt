@@ -1,5 +1,6 @@
 -- What each thing that happens to a board leaves of a run in pieces, and what the run says of its output.
-use Rattle.std.proofs.Common.{◌≡◌, ℕ, zero, suc, ◌+◌, ◌-◌, ◌<◌, ◌≤◌, ◌⊎◌, inl, inr, Bool, true, false, List, [], ◌∷◌, ◌++◌, length, Option, None, Some, refl, sym, ap, subst, ◌∙◌, append_assoc, arith, rules}
+use Rattle.std.proofs.Common.{◌≡◌, ℕ, zero, suc, ◌+◌, ◌-◌, ◌<◌, ◌≤◌, ◌⊎◌, inl, inr, Bool, true, false, List, [], ◌∷◌, ◌++◌, length, Option, None, Some, refl}
+use Rattle.std.proofs.Common.{sym, ap, subst, ◌∙◌, append_assoc, arith, rules}
 use Rattle.std.proofs.lemmas.List.{append-nil}
 use Rattle.v8_core.specs.Cpu.{Cpu}
 use Rattle.v8_core.specs.MmuRegs.{MmuRegs}
@@ -314,7 +315,8 @@ module _ (n : ℕ) (parts : Parts) (read written : List ℕ) (left : ℕ) (s : S
         contained = contained_with n (pages_of parts) (contents_of parts) s.mmu s.world [] s.world.memory.device.output goes.contained;
       }
 
-module _ (n : ℕ) (parts : Parts) (read written : List ℕ) (left : ℕ) (met : Bool) (s : State n) (goes : IsUnderWay n parts read written left met s) (waiting : s.world.memory.device.input ≡ unknown) where
+module _ (n : ℕ) (parts : Parts) (read written : List ℕ) (left : ℕ) (met : Bool) (s : State n) (goes : IsUnderWay n parts read written left met s)
+    (waiting : s.world.memory.device.input ≡ unknown) where
   abbrev not_met : met ≡ false
   not_met = no_lack met s.world.memory.device.input goes.known waiting
 

@@ -15,34 +15,39 @@ use Rattle.sbx_session.specs.declared.session.Session.{Session}
 
 -- ---- what is said of the bytes
 
--- On every input that begins with the bytes read, or on these alone where their end was told, what was written are the first bytes of
--- the image's output.
+-- On every input that begins with the bytes read, or on these alone where their end was told, what was written are the
+-- first bytes of the image's output.
 abbrev pub IsFrontOf : Parts → List ℕ → Bool → List ℕ → Type 0
 IsFrontOf parts read met written =
     (j : List ℕ) → AreBytes (beyond met j) →
-    (rest : List ℕ) × (status : ℕ) × (path : List Place) × Behaves parts (read ++ beyond met j) (written ++ rest) status path
+    (rest : List ℕ) × (status : ℕ) × (path : List Place)
+    × Behaves parts (read ++ beyond met j) (written ++ rest) status path
 
 -- On every such input it is all of the output, and this is the exit word.
 abbrev pub IsAllOf : Parts → List ℕ → Bool → List ℕ → ℕ → Type 0
 IsAllOf parts read met written status =
-    (j : List ℕ) → AreBytes (beyond met j) → (path : List Place) × Behaves parts (read ++ beyond met j) written status path
+    (j : List ℕ) → AreBytes (beyond met j) →
+    (path : List Place) × Behaves parts (read ++ beyond met j) written status path
 
 -- ---- where the board stands
 
--- On every such input so many turns from this start lead to a state beside the board's: there these bytes were put out before those that
--- the board holds.
+-- On every such input so many turns from this start lead to a state beside the board's: there these bytes were put out
+-- before those that the board holds.
 abbrev pub Tracks : (n : ℕ) → State n → ℕ → List ℕ → Bool → List ℕ → State n → Type 0
 Tracks n start k read met written now =
-    (j : List ℕ) → (mid : State n) × ((t : Turns n (with_input start (read ++ beyond met j)) mid) × (t.count ≡ k)) × FollowsOn n met mark [] j written now mid
+    (j : List ℕ) → (mid : State n) × ((t : Turns n (with_input start (read ++ beyond met j)) mid) × (t.count ≡ k))
+    × FollowsOn n met mark [] j written now mid
 
 -- and so many turns are left of the limit, while the machine has not ended
 abbrev pub IsOnItsWay : (n limit : ℕ) → State n → ℕ → List ℕ → Bool → List ℕ → State n → Type 0
 IsOnItsWay n limit start left read met written now =
-    (k : ℕ) × Tracks n start k read met written now × (k + left ≤ limit) × (ending_of n now.world ≡ None → k + left ≡ limit)
+    (k : ℕ) × Tracks n start k read met written now × (k + left ≤ limit)
+    × (ending_of n now.world ≡ None → k + left ≡ limit)
 
--- The board was loaded with this image, whatever it held before, has read these bytes of the input since then, and of what it has put
--- out these bytes were written. It contains the image's run.
-pub record IsUnderWay (n : ℕ) (parts : Parts) (read written : List ℕ) (left : ℕ) (met : Bool) (now : State n) : Type 0 where
+-- The board was loaded with this image, whatever it held before, has read these bytes of the input since then, and of
+-- what it has put out these bytes were written. It contains the image's run.
+pub record IsUnderWay (n : ℕ) (parts : Parts) (read written : List ℕ) (left : ℕ) (met : Bool)
+    (now : State n) : Type 0 where
   pub made : State n
   pub start : State n
   pub loaded : IsStart n parts made start

@@ -33,11 +33,13 @@ StandsSo (Ended word) input last room step = Unit {0}
 StandsSo Paused input last room step = Unit {0}
 StandsSo Lost input last room step = Unit {0}
 
--- A step with a piece of the input, into a room: of whatever image the session was a run, which had read and written some bytes, it is one
--- that has read those of the piece behind them, and written those at the front of the room. What was written so far are the first
--- bytes of the image's output on the bytes read so far, however the step ended, and where the run has ended all of it. Behind what was
--- written the room is as it was. That its input has ended it is told behind the last piece alone.
-pub record IsStep (n : ℕ) (old new : Session n) (input : List ℕ) (last : Bool) (before after : List ℕ) (step : Step) : Type 0 where
+-- A step with a piece of the input, into a room: of whatever image the session was a run, which had read and written
+-- some bytes, it is one that has read those of the piece behind them, and written those at the front of the room. What
+-- was written so far are the first bytes of the image's output on the bytes read so far, however the step ended, and
+-- where the run has ended all of it. Behind what was written the room is as it was. That its input has ended it is told
+-- behind the last piece alone.
+pub record IsStep (n : ℕ) (old new : Session n) (input : List ℕ) (last : Bool) (before after : List ℕ)
+    (step : Step) : Type 0 where
   pub read : step.read ≤ length input
   pub written : step.written ≤ length after
   pub behind : drop step.written after ≡ drop step.written before

@@ -7,15 +7,16 @@ ghost use Rattle.sbx_port.specs.Streams.{IsSlice};
 use sbx_port::Mailbox;
 use v8_board::Board;
 
-/// What some turns came to: how many they were, or as many as were allowed where the machine has ended, and whether the next one lacks
-/// a byte of input.
+/// What some turns came to: how many they were, or as many as were allowed where the machine has ended, and whether the
+/// next one lacks a byte of input.
 #[derive(Clone, Copy)]
 pub struct Slice {
     pub turns: u64,
     pub lacks: bool,
 }
 
-/// How many turns may be made of those that are left: so few that the board's count tells, where they are cut short, how many were.
+/// How many turns may be made of those that are left: so few that the board's count tells, where they are cut short,
+/// how many were.
 fn most(left: u64, counted: u64) -> u64
     ensures some { 0 < left → 0 < result }
     ensures within { result ≤ left }

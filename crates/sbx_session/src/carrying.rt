@@ -1,13 +1,14 @@
 //! Bytes between a board's port and the pieces of input and output that a caller has.
-ghost use Rattle.std.specs.Prelude.{◌≡◌, ◌≢◌, ◌<◌, ◌≤◌, ◌+◌, ◌++◌, ◌∷◌, [], drop, length, take, true, false, slice_index, IfSome, IsNone};
+ghost use Rattle.std.specs.Prelude.{◌≡◌, ◌≢◌, ◌<◌, ◌≤◌, ◌+◌, ◌++◌, ◌∷◌, [], drop, length, take, true, false};
+ghost use Rattle.std.specs.Prelude.{slice_index, IfSome, IsNone};
 ghost use Rattle.sbx_port.specs.Following.{with_input, with_output};
 ghost use Rattle.sbx_port.specs.Ports.{unknown};
 
 use sbx_port::Mailbox;
 use v8_board::Board;
 
-/// Takes what a board has put out to the room behind the bytes that were written, and tells how many there are then: None where the
-/// room is full, and then the board keeps it. Failures of its port are counted anew.
+/// Takes what a board has put out to the room behind the bytes that were written, and tells how many there are then:
+/// None where the room is full, and then the board keeps it. Failures of its port are counted anew.
 pub fn deliver<const N: usize>(
     board: &mut Board<N, Mailbox>,
     room: &mut [u8],
@@ -17,7 +18,8 @@ pub fn deliver<const N: usize>(
     ensures taken { IfSome result (λ now. (board.new.state ≡ with_output board.old.state []) × (board.new.failed ≡ 0)) }
     ensures within { IfSome result (λ now. now ≤ length room.new) }
     ensures more { IfSome result (λ now. written ≤ now) }
-    ensures put { IfSome result (λ now. take now room.new ≡ take written room.old ++ board.old.state.world.memory.device.output) }
+    ensures put { IfSome result
+        (λ now. take now room.new ≡ take written room.old ++ board.old.state.world.memory.device.output) }
     ensures behind { IfSome result (λ now. drop now room.new ≡ drop now room.old) }
     ensures kept { IsNone result → (board.new ≡ board.old) × (room.new ≡ room.old) }
     ensures full { IsNone result → (written ≡ length room.old) × (board.old.state.world.memory.device.output ≢ []) }

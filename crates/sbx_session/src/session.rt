@@ -18,8 +18,8 @@ pub enum Stand {
     Full,
     /// As many turns as were allowed are made.
     Paused,
-    /// The board has read what nobody gave it, or has ended otherwise than by an exit. No turn of an accepted image does either. What
-    /// was written so far is the image's all the same.
+    /// The board has read what nobody gave it, or has ended otherwise than by an exit. No turn of an accepted image
+    /// does either. What was written so far is the image's all the same.
     Lost,
 }
 
@@ -40,7 +40,8 @@ pub struct Session<const N: usize> {
 }
 
 impl<const N: usize> Session<N> {
-    ghost use Rattle.std.specs.Prelude.{◌≡◌, ◌<◌, ◌≤◌, ◌-◌, ◌++◌, ℕ, List, [], drop, length, take, true, false, IfOk, IfSome, IsNone, None};
+    ghost use Rattle.std.specs.Prelude.{◌≡◌, ◌<◌, ◌≤◌, ◌-◌, ◌++◌, ℕ, List, [], drop, length, take, true, false, IfOk};
+    ghost use Rattle.std.specs.Prelude.{IfSome, IsNone, None};
     ghost use Rattle.v8_board.specs.Seen.{ending_of};
     ghost use Rattle.sbx_image.specs.Parts.{Parts};
     ghost use Rattle.sbx_port.specs.Ports.{unknown};
@@ -63,8 +64,8 @@ impl<const N: usize> Session<N> {
         })
     }
 
-    /// Begins a run of an accepted image on the board that is there. What the runs before left in registers, Y and the stack stays, and
-    /// no accepted image can tell.
+    /// Begins a run of an accepted image on the board that is there. What the runs before left in registers, Y and the
+    /// stack stays, and no accepted image can tell.
     pub fn restart(&mut self, accepted: &Accepted)
         ensures { IsBegun N accepted.now self.new }
     {
@@ -83,16 +84,20 @@ impl<const N: usize> Session<N> {
         count(&self.board)
     }
 
-    /// Takes what was put out to the room behind the bytes that were written, and tells how many there are then; None where the room is
-    /// full.
+    /// Takes what was put out to the room behind the bytes that were written, and tells how many there are then; None
+    /// where the room is full.
     fn deliver(&mut self, room: &mut [u8], written: usize) -> Option<usize>
         requires { written ≤ length room.old }
-        ensures goes { IfSome result (λ now. (parts : Parts) → (read all : List ℕ) → Goes N parts read (all ++ take written room.old) self.old → Goes N parts read (all ++ take now room.new) self.new) }
+        ensures goes { IfSome result (λ now. (parts : Parts) → (read all : List ℕ) →
+            Goes N parts read (all ++ take written room.old) self.old →
+            Goes N parts read (all ++ take now room.new) self.new) }
         ensures within { IfSome result (λ now. now ≤ length room.new) }
         ensures behind { IfSome result (λ now. drop now room.new ≡ drop now room.old) }
         ensures more { IfSome result (λ now. written ≤ now) }
-        ensures served { IfSome result (λ now. (self.new.board.failed ≡ 0) × (self.new.board.state.world.memory.device.output ≡ [])) }
-        ensures same { IfSome result (λ now. (self.new.left ≡ self.old.left) × (self.new.board.state.world.memory.device.input ≡ self.old.board.state.world.memory.device.input)) }
+        ensures served { IfSome result (λ now. (self.new.board.failed ≡ 0)
+            × (self.new.board.state.world.memory.device.output ≡ [])) }
+        ensures same { IfSome result (λ now. (self.new.left ≡ self.old.left)
+            × (self.new.board.state.world.memory.device.input ≡ self.old.board.state.world.memory.device.input)) }
         ensures kept { IsNone result → (self.new ≡ self.old) × (room.new ≡ room.old) }
         ensures full { IsNone result → written ≡ length room.old }
         ensures met { self.new.met ≡ self.old.met }
@@ -100,16 +105,19 @@ impl<const N: usize> Session<N> {
         deliver(&mut self.board, room, written)
     }
 
-    /// Where a byte is lacking feeds the board the next one of a piece, or the end of the input where the piece is the last one, and tells
-    /// how many bytes of the piece are read then; None where more has to come.
+    /// Where a byte is lacking feeds the board the next one of a piece, or the end of the input where the piece is the
+    /// last one, and tells how many bytes of the piece are read then; None where more has to come.
     fn feed(&mut self, lacks: bool, input: &[u8], read: usize, last: bool) -> Option<usize>
         requires within { read ≤ length input.now }
         requires waits { lacks ≡ true → self.old.board.state.world.memory.device.input ≡ unknown }
         requires empty { self.old.board.state.world.memory.device.output ≡ [] }
         requires served { self.old.board.failed ≡ 0 }
-        ensures goes { IfSome result (λ now. (parts : Parts) → (all written : List ℕ) → Goes N parts (all ++ take read input.now) written self.old → Goes N parts (all ++ take now input.now) written self.new) }
+        ensures goes { IfSome result (λ now. (parts : Parts) → (all written : List ℕ) →
+            Goes N parts (all ++ take read input.now) written self.old →
+            Goes N parts (all ++ take now input.now) written self.new) }
         ensures within { IfSome result (λ now. now ≤ length input.now) }
-        ensures served { IfSome result (λ now. (self.new.board.failed ≡ 0) × (self.new.board.state.world.memory.device.output ≡ [])) }
+        ensures served { IfSome result (λ now. (self.new.board.failed ≡ 0)
+            × (self.new.board.state.world.memory.device.output ≡ [])) }
         ensures same { IfSome result (λ now. self.new.left ≡ self.old.left) }
         ensures met { last ≡ false → self.new.met ≡ self.old.met }
         ensures kept { IsNone result → self.new ≡ self.old }
@@ -142,15 +150,18 @@ impl<const N: usize> Session<N> {
         }
     }
 
-    /// Makes at most so many turns of those that are left; None where the port knows of an end of the input that nobody has told it.
+    /// Makes at most so many turns of those that are left; None where the port knows of an end of the input that nobody
+    /// has told it.
     fn go(&mut self, most: u64) -> Option<Slice>
         requires served { self.old.board.failed ≡ 0 }
         requires empty { self.old.board.state.world.memory.device.output ≡ [] }
         requires going { ending_of N self.old.board.state.world ≡ None }
         requires some { 0 < most }
         requires within { most ≤ self.old.left }
-        ensures goes { IfSome result (λ slice. (parts : Parts) → (read written : List ℕ) → Goes N parts read written self.old → Goes N parts read written self.new) }
-        ensures lacks { IfSome result (λ slice. slice.lacks ≡ true → self.new.board.state.world.memory.device.input ≡ unknown) }
+        ensures goes { IfSome result (λ slice. (parts : Parts) → (read written : List ℕ) →
+            Goes N parts read written self.old → Goes N parts read written self.new) }
+        ensures lacks { IfSome result (λ slice. slice.lacks ≡ true →
+            self.new.board.state.world.memory.device.input ≡ unknown) }
         ensures within { IfSome result (λ slice. slice.turns ≤ most) }
         ensures left { IfSome result (λ slice. self.new.left ≡ self.old.left - slice.turns) }
         ensures met { self.new.met ≡ self.old.met }
@@ -163,8 +174,8 @@ impl<const N: usize> Session<N> {
         Some(slice)
     }
 
-    /// Goes on for at most so many turns, with the next piece of the input, behind which there is nothing where `last` is set, and
-    /// writes to the front of the room.
+    /// Goes on for at most so many turns, with the next piece of the input, behind which there is nothing where `last`
+    /// is set, and writes to the front of the room.
     pub fn step(&mut self, most: u64, input: &[u8], last: bool, room: &mut [u8]) -> Step
         ensures { IsStep N self.old self.new input.now last room.old room.new result }
     {

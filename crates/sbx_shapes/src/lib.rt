@@ -1,4 +1,5 @@
-//! Why a line of a source is told, each cause in a sentence of its own; and of a statement what is wanted at which place.
+//! Why a line of a source is told, each cause in a sentence of its own; and of a statement what is wanted at which
+//! place.
 #![tactic(auto)]
 
 mod reasons;

@@ -228,7 +228,8 @@ fn farther(first: Option<Miss>, second: Miss) -> Option<Miss> {
     }
 }
 
-/// The operands of the first form of that name that they fit, or else the farthest miss; none where no form has that name.
+/// The operands of the first form of that name that they fit, or else the farthest miss; none where no form has that
+/// name.
 pub(crate) fn form_of(
     name: &[u8],
     operands: Operands<'_>,

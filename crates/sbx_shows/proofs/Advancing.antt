@@ -48,8 +48,10 @@ counted_is k less =
     let no : (k == 2 ^ 64 - 1) ≡ false = grind (arith, nat_tests) in
     ap (λ (b : Bool). if b then k else k + 1) no
 
-pub counts_are : (a b c d e f : ℕ) → a ≡ d → b ≡ e → c ≡ f → (let x : Counts = record { turns = a; overflows = b; underflows = c } in let y : Counts = record { turns = d; overflows = e; underflows = f } in x ≡ y)
-counts_are a b c d e f p q r = ap (λ t. record { turns = t; overflows = b; underflows = c }) p ∙ ap (λ t. record { turns = d; overflows = t; underflows = c }) q ∙ ap (λ t. record { turns = d; overflows = e; underflows = t }) r
+pub counts_are : (a b c d e f : ℕ) → a ≡ d → b ≡ e → c ≡ f →
+    (let x : Counts = record { turns = a; overflows = b; underflows = c } in let y : Counts = record { turns = d; overflows = e; underflows = f } in x ≡ y)
+counts_are a b c d e f p q r = ap (λ t. record { turns = t; overflows = b; underflows = c }) p ∙ ap (λ t. record { turns = d; overflows = t; underflows = c }) q
+    ∙ ap (λ t. record { turns = d; overflows = e; underflows = t }) r
 
 pub turn_counts : (c : Counts) → c.turns < 2 ^ 64 - 1 → with_turn c ≡ more c 1 0 0
 turn_counts c small = counts_are (counted c.turns) c.overflows c.underflows (c.turns + 1) (c.overflows + 0) (c.underflows + 0) (counted_is c.turns small) (omega arith) (omega arith)
@@ -63,7 +65,8 @@ no_traps windows o u k =
 
 -- ---- the flat step
 
-module _ (n : ℕ) (parts : Parts) (mmu : MmuRegs) (x : World n Device) (s : State) (r i : ℕ) (h : Stands n parts mmu x s r i) (op : Operation) (is : AsksFor parts.words i op) (admitted : is_admitted op ≡ true) where
+module _ (n : ℕ) (parts : Parts) (mmu : MmuRegs) (x : World n Device) (s : State) (r i : ℕ) (h : Stands n parts mmu x s r i) (op : Operation)
+    (is : AsksFor parts.words i op) (admitted : is_admitted op ≡ true) where
   pub step_of : (fresh : Fresh) (next_state : State) → IsFresh fresh → does parts fresh op s ≡ Goes next_state → Step parts s next_state
   step_of fresh next_state words goes = (
     fresh,
@@ -132,7 +135,21 @@ annulled_advances n parts mmu x s r h annul =
     let turn_is : (next board n mmu x).0 ≡ plain = ap (λ (p : Turn × World n Device). p.0) told in
     let mine : IsOwnTurn parts s plain = record { trap = tt; annulled = λ e. annul; within = refl } in
     let shown = control_shows n parts x s r s.npc (following s.npc) false s.icc s.y (record (board_advanced c) { annul = false }) h
-    (record { pc = a.npc; npc = ap following a.npc; npc_word = next_word c.npc; npc_whole = next_whole c.npc a.npc_whole; annul = refl; icc = a.icc; y = a.y; y_word = a.y_word; user = a.user; traps = a.traps; sane = a.sane; table = a.table }) in
+    (record {
+      pc = a.npc;
+      npc = ap following a.npc;
+      npc_word = next_word c.npc;
+      npc_whole = next_whole c.npc a.npc_whole;
+      annul = refl;
+      icc = a.icc;
+      y =
+          a.y;
+      y_word = a.y_word;
+      user = a.user;
+      traps = a.traps;
+      sane = a.sane;
+      table = a.table;
+    }) in
     record {
       next_state = t;
       step = annulled_step parts s h.going annul;

@@ -19,7 +19,8 @@ pub record SameFile (old new : Registers) : Type 0 where
   pub slots : (k a : ℕ) → slot new k a ≡ slot old k a
   pub globals : (k : ℕ) → new.globals k ≡ old.globals k
 
-pub alike_shows : (n : ℕ) (parts : Parts) (x : World n Device) (s : State) (r : ℕ) (file : Registers) → Shows n parts x s r → SameFile s.registers file → Shows n parts x (record s { registers = file }) r
+pub alike_shows : (n : ℕ) (parts : Parts) (x : World n Device) (s : State) (r : ℕ) (file : Registers) → Shows n parts x s r → SameFile s.registers file →
+    Shows n parts x (record s { registers = file }) r
 alike_shows n parts x s r file h same =
     let deep = same.deep in
     let calls : SameCalls s.registers file = record { deep = same.deep; bases = λ k. same.cells k 6; slots = same.slots; locals = λ k j a b. same.cells k j; outs = λ k j a. same.cells k j } in
@@ -40,7 +41,22 @@ alike_shows n parts x s r file h same =
       slots = slots_same x.memory.ram s.registers file calls h.slots;
       stack = h.stack;
       bytes = h.bytes;
-      control = record { pc = h.control.pc; npc = h.control.npc; npc_word = h.control.npc_word; npc_whole = h.control.npc_whole; annul = h.control.annul; icc = h.control.icc; y = h.control.y; y_word = h.control.y_word; user = h.control.user; traps = h.control.traps; sane = h.control.sane; table = h.control.table };
+      control = record {
+        pc = h.control.pc;
+        npc = h.control.npc;
+        npc_word = h.control.npc_word;
+        npc_whole = h.control.npc_whole;
+        annul = h.control.annul;
+        icc =
+            h.control.icc;
+        y = h.control.y;
+        y_word = h.control.y_word;
+        user = h.control.user;
+        traps = h.control.traps;
+        sane = h.control.sane;
+        table =
+            h.control.table;
+      };
       device = device_kept x.memory.device s (record s { registers = file }) refl refl h.device;
       going = h.going;
       loaded = h.loaded;
@@ -127,7 +143,13 @@ module _ (a b x y : ℕ) (file : Registers) (apart : a ≢ b) where
       let e : first ≡ second =
       ap (λ q. written q x (written b y file)) none ∙ written_zero x (written b y file)
       ∙ sym (ap (λ q. written b y (written q x file)) none ∙ ap (written b y) (written_zero x file)) in
-      record { deep = ap (λ (f : Registers). depth f) e; cells = λ k j. ap (λ (f : Registers). cell f k j) e; slots = λ k c. ap (λ (f : Registers). slot f k c) e; globals = λ k. ap (λ (f : Registers). f.globals k) e }
+      record {
+        deep = ap (λ (f : Registers). depth f) e;
+        cells = λ k j. ap (λ (f : Registers). cell f k j) e;
+        slots =
+            λ k c. ap (λ (f : Registers). slot f k c) e;
+        globals = λ k. ap (λ (f : Registers). f.globals k) e;
+      }
 
 -- an even register and the odd one after it
 pub pair_in_turn : (rd x y : ℕ) (file : Registers) → rd < 32 → rd % 2 ≡ 0 → SameFile (written (rd / 2 * 2 + 1) y (written rd x file)) (written rd x (written (rd / 2 * 2 + 1) y file))

@@ -91,7 +91,22 @@ module _ (n : ℕ) (parts : Parts) (mmu : MmuRegs) (x : World n Device) (s : Sta
         slots = slots_begun n count v s.registers b ram m.stacked o few m.loaded.tables.size m.slots;
         stack = m.stack;
         bytes = m.bytes;
-        control = record { pc = m.control.pc; npc = m.control.npc; npc_word = m.control.npc_word; npc_whole = m.control.npc_whole; annul = m.control.annul; icc = m.control.icc; y = m.control.y; y_word = m.control.y_word; user = m.control.user; traps = m.control.traps; sane = m.control.sane; table = m.control.table };
+        control = record {
+          pc = m.control.pc;
+          npc = m.control.npc;
+          npc_word = m.control.npc_word;
+          npc_whole = m.control.npc_whole;
+          annul =
+              m.control.annul;
+          icc = m.control.icc;
+          y = m.control.y;
+          y_word = m.control.y_word;
+          user = m.control.user;
+          traps = m.control.traps;
+          sane =
+              m.control.sane;
+          table = m.control.table;
+        };
         device = device_kept x.memory.device s (begun_state b) refl refl m.device;
         going = m.going;
         loaded = m.loaded;
@@ -124,7 +139,8 @@ module _ (n : ℕ) (parts : Parts) (mmu : MmuRegs) (x : World n Device) (s : Sta
           let well_placed : is_base parts (reg s 14) b ≡ true = grind (arith, nat_tests, e) in
           let few = h.shows.file.few in
           let same = same_address n parts mmu x s r i h f.rs1 f.operand2 fit.first fit.second in
-          let open_window : can_enter v (below n v.current) ≡ true = ap (can_enter v) (below_is n v.current few) ∙ may_enter n v s.registers r (n - 1) h.shows.file h.shows.calls (omega arith) (omega arith) in
+          let open_window : can_enter v (below n v.current) ≡ true =
+          ap (can_enter v) (below_is n v.current few) ∙ may_enter n v s.registers r (n - 1) h.shows.file h.shows.calls (omega arith) (omega arith) in
           record {
             fresh = found;
             is_fresh = found_words;
@@ -133,7 +149,8 @@ module _ (n : ℕ) (parts : Parts) (mmu : MmuRegs) (x : World n Device) (s : Sta
             word = word n parts mmu x s r i h;
             access = None;
             new = world n (saved_cpu b) ram x.memory.device;
-            turn = plain_turn n parts mmu x s r i h (Save f) is (calm_save n c f open_window) (λ y. refl) ∙ ap (λ (k : Cpu n). (turn_of n c Ran (Some (word n parts mmu x s r i h)) None, world n k ram x.memory.device)) (saves_to f b rd same);
+            turn = plain_turn n parts mmu x s r i h (Save f) is (calm_save n c f open_window) (λ y. refl)
+                ∙ ap (λ (k : Cpu n). (turn_of n c Ran (Some (word n parts mmu x s r i h)) None, world n k ram x.memory.device)) (saves_to f b rd same);
             reaches = tt;
             shows = next_shows n parts (begun b) (begun_state b) (suc r) (begins b free (omega arith) (new_base b well_placed));
           }
@@ -166,7 +183,22 @@ module _ (n : ℕ) (parts : Parts) (mmu : MmuRegs) (x : World n Device) (s : Sta
         slots = slots_ended ram s.registers caller older (subst (λ (g : Registers). ShowsSlots g ram) same m.slots);
         stack = m.stack;
         bytes = m.bytes;
-        control = record { pc = m.control.pc; npc = m.control.npc; npc_word = m.control.npc_word; npc_whole = m.control.npc_whole; annul = m.control.annul; icc = m.control.icc; y = m.control.y; y_word = m.control.y_word; user = m.control.user; traps = m.control.traps; sane = m.control.sane; table = m.control.table };
+        control = record {
+          pc = m.control.pc;
+          npc = m.control.npc;
+          npc_word = m.control.npc_word;
+          npc_whole = m.control.npc_whole;
+          annul =
+              m.control.annul;
+          icc = m.control.icc;
+          y = m.control.y;
+          y_word = m.control.y_word;
+          user = m.control.user;
+          traps = m.control.traps;
+          sane =
+              m.control.sane;
+          table = m.control.table;
+        };
         device = device_kept x.memory.device s (risen_state caller older) refl refl m.device;
         going = m.going;
         loaded = m.loaded;
@@ -230,7 +262,8 @@ module _ (n : ℕ) (parts : Parts) (mmu : MmuRegs) (x : World n Device) (s : Sta
         word = word n parts mmu x s r i h;
         access = None;
         new = world n (restored_cpu f.rd a) ram x.memory.device;
-        turn = plain_turn n parts mmu x s r i h (Restore f) is (calm_restore n c f open_window) (λ y. refl) ∙ ap (λ (k : Cpu n). (turn_of n c Ran (Some (word n parts mmu x s r i h)) None, world n k ram x.memory.device)) (restores_to f a same);
+        turn = plain_turn n parts mmu x s r i h (Restore f) is (calm_restore n c f open_window) (λ y. refl)
+            ∙ ap (λ (k : Cpu n). (turn_of n c Ran (Some (word n parts mmu x s r i h)) None, world n k ram x.memory.device)) (restores_to f a same);
         reaches = tt;
         shows = next_shows n parts (world n (record { regs = with_reg n (moved v (above n v.current)) f.rd a; control = c.control }) ram x.memory.device) (flat_with_reg f.rd a t) (r - 1) wrote;
       }

@@ -52,13 +52,15 @@ is_reached parts a size store some held =
     record { low = from; high = omega arith; right = lies.right; is = lies.pages ((a - DATA_START) / 4096) (omega arith) (omega arith); may = lies.may }
 
 -- its page
-pub data_at : (parts : Parts) (a : ℕ) (store : Bool) → Fits parts → (p : IsReached parts a store) → page_at (pages_of parts) a ≡ Some (mapped (data_area a) (if p.right then 1 else 0) (data_entry_place a))
+pub data_at : (parts : Parts) (a : ℕ) (store : Bool) → Fits parts → (p : IsReached parts a store) →
+    page_at (pages_of parts) a ≡ Some (mapped (data_area a) (if p.right then 1 else 0) (data_entry_place a))
 data_at parts a store fits p =
     let low = p.low in
     let high = p.high in
     let counted = data_counted parts fits.pages in
     let right : is_writable (pages_of parts) ((a - DATA_START) / 4096) ≡ p.right =
-    ap (λ (rights : List Bool). get_or rights ((a - DATA_START) / 4096) false) (rights_are parts fits.pages) ∙ get_or_from_slice_get (page_rights parts.regions) ((a - DATA_START) / 4096) p.right false p.is in
+    ap (λ (rights : List Bool). get_or rights ((a - DATA_START) / 4096) false) (rights_are parts fits.pages)
+    ∙ get_or_from_slice_get (page_rights parts.regions) ((a - DATA_START) / 4096) p.right false p.is in
     data_mapped (pages_of parts) a (pages_few parts) low (omega arith) ∙ ap (λ (w : Bool). Some (mapped (data_area a) (if w then 1 else 0) (data_entry_place a))) right
 
 -- which is the image's own
@@ -68,7 +70,8 @@ data_own parts a store p =
     let page = a / 4096 in
     let number : page - 0x80 ≡ (a - DATA_START) / 4096 = omega arith in
     let from : nat_le 0x80 page ≡ true = grind (arith, nat_tests) in
-    let right : may_reach store (slice_get (page_rights parts.regions) (page - 0x80)) ≡ true = ap (λ k. may_reach store (slice_get (page_rights parts.regions) k)) number ∙ ap (may_reach store) p.is ∙ p.may in
+    let right : may_reach store (slice_get (page_rights parts.regions) (page - 0x80)) ≡ true =
+    ap (λ k. may_reach store (slice_get (page_rights parts.regions) k)) number ∙ ap (may_reach store) p.is ∙ p.may in
     either (nat_le 0x80 page) (may_reach store (slice_get (page_rights parts.regions) (page - 0x80))) (nat_le (0x100 - parts.stack_pages) page && nat_lt page 0x100) from right
   where
     either : (d r s : Bool) → d ≡ true → r ≡ true → ((d && r) || s) ≡ true
@@ -78,7 +81,8 @@ data_own parts a store p =
 loaded_from : (parts : Parts) (a : ℕ) (store : Bool) → IsReached parts a store → IsReached parts a false
 loaded_from parts a store p = record { low = p.low; high = p.high; right = p.right; is = p.is; may = refl }
 
-pub data_marks : (n : ℕ) (parts : Parts) (old mid : List ℕ) (a : ℕ) (store : Bool) → Fits parts → OnlyMarks n parts old mid → IsReached parts a store → OnlyMarks n parts old (marked_ram mid (data_entry_place a) store)
+pub data_marks : (n : ℕ) (parts : Parts) (old mid : List ℕ) (a : ℕ) (store : Bool) → Fits parts → OnlyMarks n parts old mid → IsReached parts a store →
+    OnlyMarks n parts old (marked_ram mid (data_entry_place a) store)
 data_marks n parts old mid a store fits m p =
     let most = fits.pages in
     let low = p.low in
@@ -103,7 +107,8 @@ data_marks n parts old mid a store fits m p =
 
 -- ---- all that is shown
 
-pub data_stored_shows : (n : ℕ) (parts : Parts) (x : World n Device) (s : State) (r a old v : ℕ) (size : Size) → Fits parts → Shows n parts x s r → number_at s.memory a (bytes_in size) ≡ Some old → (size ≡ Byte → v < 2 ^ 8) →
+pub data_stored_shows : (n : ℕ) (parts : Parts) (x : World n Device) (s : State) (r a old v : ℕ) (size : Size) → Fits parts → Shows n parts x s r →
+    number_at s.memory a (bytes_in size) ≡ Some old → (size ≡ Byte → v < 2 ^ 8) →
     Shows n parts (world n x.cpu (board_with x.memory.ram (data_area a) size v) x.memory.device) (record s { memory = with_number s.memory a (bytes_in size) v }) r
 data_stored_shows n parts x s r a old v size fits h found small =
     let few = (pages_few parts).stack in
@@ -119,7 +124,22 @@ data_stored_shows n parts x s r a old v size fits h found small =
       slots = slots_beside n parts s.memory ram a v old size small fits h.bytes found long count s.registers few h.stacked h.slots;
       stack = stack_beside n parts s.memory ram a v old size small fits h.bytes found long h.stack;
       bytes = data_stored n parts s.memory ram a v old size small fits h.bytes found long;
-      control = record { pc = h.control.pc; npc = h.control.npc; npc_word = h.control.npc_word; npc_whole = h.control.npc_whole; annul = h.control.annul; icc = h.control.icc; y = h.control.y; y_word = h.control.y_word; user = h.control.user; traps = h.control.traps; sane = h.control.sane; table = h.control.table };
+      control = record {
+        pc = h.control.pc;
+        npc = h.control.npc;
+        npc_word = h.control.npc_word;
+        npc_whole = h.control.npc_whole;
+        annul = h.control.annul;
+        icc =
+            h.control.icc;
+        y = h.control.y;
+        y_word = h.control.y_word;
+        user = h.control.user;
+        traps = h.control.traps;
+        sane = h.control.sane;
+        table =
+            h.control.table;
+      };
       device = device_kept x.memory.device s t refl refl h.device;
       going = h.going;
       loaded = loaded_stored n parts s.memory ram a v old size small fits h.bytes found long h.loaded;

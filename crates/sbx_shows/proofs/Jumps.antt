@@ -61,8 +61,39 @@ branch_control c s b a whole =
   where
     by_taken : (t : Bool) → ShowsControl (if t then record (jumped c (target c.pc b.displacement)) { annul = annuls b c.icc } else record (board_advanced c) { annul = annuls b c.icc })
         (record (transferred (if t then target s.pc b.displacement else following s.npc) s) { annulled = annuls b s.icc })
-    by_taken true = let at = a.pc in record { pc = a.npc; npc = ap (λ p. target p b.displacement) a.pc; npc_word = target_word c.pc b.displacement; npc_whole = target_whole c.pc b.displacement (omega arith); annul = ap (annuls b) a.icc; icc = a.icc; y = a.y; y_word = a.y_word; user = a.user; traps = a.traps; sane = a.sane; table = a.table }
-    by_taken false = record { pc = a.npc; npc = ap following a.npc; npc_word = next_word c.npc; npc_whole = next_whole c.npc a.npc_whole; annul = ap (annuls b) a.icc; icc = a.icc; y = a.y; y_word = a.y_word; user = a.user; traps = a.traps; sane = a.sane; table = a.table }
+    by_taken true = let at = a.pc in
+        record {
+          pc = a.npc;
+          npc = ap (λ p. target p b.displacement) a.pc;
+          npc_word = target_word c.pc b.displacement;
+          npc_whole =
+              target_whole c.pc b.displacement (omega arith);
+          annul = ap (annuls b) a.icc;
+          icc = a.icc;
+          y = a.y;
+          y_word = a.y_word;
+          user = a.user;
+          traps =
+              a.traps;
+          sane = a.sane;
+          table = a.table;
+        }
+    by_taken false =
+        record {
+          pc = a.npc;
+          npc = ap following a.npc;
+          npc_word = next_word c.npc;
+          npc_whole = next_whole c.npc a.npc_whole;
+          annul = ap (annuls b) a.icc;
+          icc =
+              a.icc;
+          y = a.y;
+          y_word = a.y_word;
+          user = a.user;
+          traps = a.traps;
+          sane = a.sane;
+          table = a.table;
+        }
 
 -- a register written, and on to a place after the delay slot
 jump_shows : (n : ℕ) (parts : Parts) (x : World n Device) (s : State) (r rd v place : ℕ) → Shows n parts x s r → rd < 32 → rd ≢ 14 → rd ≢ 30 → v < 2 ^ 32 → place < 2 ^ 32 → place % 4 ≡ 0 →
@@ -71,7 +102,8 @@ unfolding jumped
 jump_shows n parts x s r rd v place h low sp fp small word whole =
     let a = h.control in
     let wrote = register_shows n parts x s r rd v h low sp fp small in
-    control_shows n parts (world n (record x.cpu { regs = with_reg n x.cpu.regs rd v }) x.memory.ram x.memory.device) (flat_with_reg rd v s) r s.npc place s.annulled s.icc s.y (jumped x.cpu.control place) wrote
+    control_shows n parts (world n (record x.cpu { regs = with_reg n x.cpu.regs rd v }) x.memory.ram x.memory.device)
+    (flat_with_reg rd v s) r s.npc place s.annulled s.icc s.y (jumped x.cpu.control place) wrote
     (record { pc = a.npc; npc = refl; npc_word = word; npc_whole = whole; annul = a.annul; icc = a.icc; y = a.y; y_word = a.y_word; user = a.user; traps = a.traps; sane = a.sane; table = a.table })
 
 module _ (n : ℕ) (parts : Parts) (mmu : MmuRegs) (x : World n Device) (s : State) (r i : ℕ) (h : Stands n parts mmu x s r i) (good : IsWrong parts s → ⊥) where
@@ -85,7 +117,8 @@ module _ (n : ℕ) (parts : Parts) (mmu : MmuRegs) (x : World n Device) (s : Sta
   marked = marked_shows n parts x s r ram h.shows (marks n parts mmu x s r i h)
 
   -- one that takes the processor there
-  one : (op : Operation) (to : Cpu n) (next_state : State) → AsksFor parts.words i op → first_trap n c op ≡ None → ((y : World n Device) → acts board n mmu op y ≡ (quiet, record y { cpu = effect n y.cpu op })) →
+  one : (op : Operation) (to : Cpu n) (next_state : State) → AsksFor parts.words i op → first_trap n c op ≡ None →
+      ((y : World n Device) → acts board n mmu op y ≡ (quiet, record y { cpu = effect n y.cpu op })) →
       effect n c op ≡ to → does parts still op s ≡ Goes next_state → Shows n parts (world n to ram x.memory.device) next_state r → OneTurn n parts mmu x s op r
   one op to next_state is calm plain does_so goes shown = record {
     fresh = still;
@@ -104,7 +137,8 @@ module _ (n : ℕ) (parts : Parts) (mmu : MmuRegs) (x : World n Device) (s : Sta
   branch_turn b is =
       let at = h.place in
       one (BranchOnCondition b) (record c { control = branched c.control b }) (branches b s) is (calm_branch n c b) (λ y. refl) (branches_to n c b) refl
-      (control_shows n parts (world n c ram x.memory.device) s r s.npc (flat_branched b s) (annuls b s.icc) s.icc s.y (branched c.control b) marked (branch_control c.control s b h.shows.control (omega arith)))
+      (control_shows n parts (world n c ram x.memory.device) s r s.npc (flat_branched b s) (annuls b s.icc) s.icc s.y (branched c.control b) marked
+      (branch_control c.control s b h.shows.control (omega arith)))
 
   pc_word : c.control.pc < 2 ^ 32
   pc_word = let few = (pages_few parts).code in let here = h.shows.control.pc in let at = h.place in let less = room n parts mmu x s r i h in omega arith
@@ -115,7 +149,8 @@ module _ (n : ℕ) (parts : Parts) (mmu : MmuRegs) (x : World n Device) (s : Sta
       let here = h.shows.control.pc in
       let at = h.place in
       let to : Cpu n = record { regs = with_reg n c.regs 15 pc; control = jumped c.control (target pc d) } in
-      let shown = jump_shows n parts (world n c ram x.memory.device) s r 15 pc (target pc d) marked (omega arith) (omega arith) (omega arith) pc_word (target_word pc d) (target_whole pc d (omega arith)) in
+      let shown = jump_shows n parts (world n c ram x.memory.device) s r 15 pc (target pc d) marked (omega arith) (omega arith) (omega arith) pc_word
+      (target_word pc d) (target_whole pc d (omega arith)) in
       one (Call d) to (transferred (target s.pc d) (flat_with_reg 15 s.pc s)) is (calm_call n c d) (λ y. refl) (calls_to n c d) refl
       (subst (λ p. Shows n parts (world n to ram x.memory.device) (transferred (target p d) (flat_with_reg 15 p s)) r) here shown)
 

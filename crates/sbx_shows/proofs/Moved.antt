@@ -101,19 +101,22 @@ module _ (n : ℕ) (parts : Parts) (x : World n Device) (s : State) (r rd number
   one_word : (v : ℕ) → ((rd == 14) || (rd == 30) || false) ≡ false → v < 2 ^ 32 → Shows n parts (after ((rd, v) ∷ [])) (with_regs ((rd, v) ∷ []) s) r
   one_word v free small = register_shows n parts x s r rd v h less (not_sp rd free) (not_fp rd free) small
 
-  two_words : (high low : ℕ) → rd % 2 ≡ 0 → rd ≢ 14 → rd ≢ 30 → high < 2 ^ 32 → low < 2 ^ 32 → Shows n parts (after ((rd, high) ∷ (odd_of rd, low) ∷ [])) (with_regs ((rd, high) ∷ (odd_of rd, low) ∷ []) s) r
+  two_words : (high low : ℕ) → rd % 2 ≡ 0 → rd ≢ 14 → rd ≢ 30 → high < 2 ^ 32 → low < 2 ^ 32 →
+      Shows n parts (after ((rd, high) ∷ (odd_of rd, low) ∷ [])) (with_regs ((rd, high) ∷ (odd_of rd, low) ∷ []) s) r
   two_words high low even sp fp small_high small_low =
       let one = register_shows n parts x s r rd high h less sp fp small_high in
       let first = world n (record x.cpu { regs = with_reg n x.cpu.regs rd high }) x.memory.ram x.memory.device in
       let two = register_shows n parts first (flat_with_reg rd high s) r (odd_of rd) low one (omega arith) (omega arith) (omega arith) small_low in
-      alike_shows n parts (after ((rd, high) ∷ (odd_of rd, low) ∷ [])) (flat_with_reg (odd_of rd) low (flat_with_reg rd high s)) r (written rd high (written (odd_of rd) low s.registers)) two (pair_in_turn rd high low s.registers less even)
+      alike_shows n parts (after ((rd, high) ∷ (odd_of rd, low) ∷ [])) (flat_with_reg (odd_of rd) low (flat_with_reg rd high s)) r
+      (written rd high (written (odd_of rd) low s.registers)) two (pair_in_turn rd high low s.registers less even)
 
   free_pair : (a b c d : Bool) → (a || b || (c || d || false)) ≡ false → (a || b || false) ≡ false
   free_pair false false c d e = refl
   free_pair true b c d e = e
   free_pair false true c d e = e
 
-  pub received_shows : (t : Transfer) → is_stack_pointer (received t rd number) ≡ false → splits_pair (size_of t) rd ≡ false → number < limit_of (size_of t) → Shows n parts (after (received t rd number)) (with_regs (received t rd number) s) r
+  pub received_shows : (t : Transfer) → is_stack_pointer (received t rd number) ≡ false → splits_pair (size_of t) rd ≡ false → number < limit_of (size_of t) →
+      Shows n parts (after (received t rd number)) (with_regs (received t rd number) s) r
   received_shows (Load loadings.UnsignedByte) free pair small = one_word number free (omega arith)
   received_shows (Load loadings.SignedByte) free pair small = one_word (sign_extend 8 number) free (extended_byte number small)
   received_shows (Load loadings.UnsignedHalf) free pair small = one_word number free (omega arith)

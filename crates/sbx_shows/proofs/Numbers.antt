@@ -1,5 +1,6 @@
 -- Bytes of the data: what a load finds there, and what a store leaves, for each size.
-use Rattle.std.proofs.Common.{◌≡◌, ℕ, zero, suc, ◌+◌, ◌-◌, ◌*◌, ◌/◌, ◌%◌, ◌^◌, ◌<◌, ◌≤◌, ◌⊎◌, inl, inr, Bool, true, false, List, [], ◌∷◌, length, get_or, take, drop, Option, Some, None, refl, sym, ap, ◌∙◌, subst, arith}
+use Rattle.std.proofs.Common.{◌≡◌, ℕ, zero, suc, ◌+◌, ◌-◌, ◌*◌, ◌/◌, ◌%◌, ◌^◌, ◌<◌, ◌≤◌, ◌⊎◌, inl, inr, Bool, true, false, List, [], ◌∷◌, length, get_or, take}
+use Rattle.std.proofs.Common.{drop, Option, Some, None, refl, sym, ap, ◌∙◌, subst, arith}
 use Rattle.std.specs.Prelude.{slice_index, ◌&&◌, nat_le, nat_lt, if◌then◌else◌}
 use Rattle.std.specs.Int.{w16, w32, from_be_bytes, to_be_bytes}
 use Rattle.std.proofs.lemmas.Bool.Decides.{nat_tests}
@@ -37,7 +38,8 @@ pub byte_there : (bytes : Bytes) (a count n : ℕ) → number_at bytes a count �
 byte_there bytes a zero n is k less = absurd (omega arith)
 byte_there bytes a (suc count) n is k less = by_parts (number_at bytes a count) (bytes (a + count)) refl refl is (λ m e small. byte_there bytes a count m e k small)
   where
-    by_parts : (o p : Option ℕ) → number_at bytes a count ≡ o → bytes (a + count) ≡ p → followed_by o p ≡ Some n → ((m : ℕ) → number_at bytes a count ≡ Some m → k < count → (b : ℕ) × (bytes (a + k) ≡ Some b)) → (b : ℕ) × (bytes (a + k) ≡ Some b)
+    by_parts : (o p : Option ℕ) → number_at bytes a count ≡ o → bytes (a + count) ≡ p → followed_by o p ≡ Some n →
+        ((m : ℕ) → number_at bytes a count ≡ Some m → k < count → (b : ℕ) × (bytes (a + k) ≡ Some b)) → (b : ℕ) × (bytes (a + k) ≡ Some b)
     by_parts None p e f g before = absurd (cc)
     by_parts (Some m) None e f g before = absurd (cc)
     by_parts (Some m) (Some b) e f g before =
@@ -88,11 +90,13 @@ double_byte ram p v k fits less =
       | inr second ↦
           let place : p + k ≡ p + 4 + (k - 4) = omega arith in
           let back : 4 + (k - 4) ≡ k = omega arith in
-          ap (slice_index (with_entry mid (p + 4) (v % 2 ^ 32))) place ∙ word_byte mid (p + 4) (v % 2 ^ 32) (k - 4) (omega arith) (omega arith) ∙ low_byte v (k - 4) (omega arith) ∙ ap (byte_of 8 v) back
+          ap (slice_index (with_entry mid (p + 4) (v % 2 ^ 32))) place ∙ word_byte mid (p + 4) (v % 2 ^ 32) (k - 4) (omega arith) (omega arith)
+          ∙ low_byte v (k - 4) (omega arith) ∙ ap (byte_of 8 v) back
     ]
 
 -- a byte of a number that was stored
-pub stored_byte : (ram : List ℕ) (p v k : ℕ) (size : Size) → (size ≡ Byte → v < 2 ^ 8) → p + bytes_in size ≤ length ram → k < bytes_in size → slice_index (board_with ram p size v) (p + k) ≡ byte_of (bytes_in size) v k
+pub stored_byte : (ram : List ℕ) (p v k : ℕ) (size : Size) → (size ≡ Byte → v < 2 ^ 8) → p + bytes_in size ≤ length ram → k < bytes_in size →
+    slice_index (board_with ram p size v) (p + k) ≡ byte_of (bytes_in size) v k
 unfolding with_byte with_half
 stored_byte ram p v k Byte small fits less =
     let low : v < 2 ^ 8 = small refl in
@@ -126,7 +130,8 @@ some_bytes Double = omega arith
 
 -- ---- a store
 
-module _ (n : ℕ) (parts : Parts) (memory : Bytes) (ram : List ℕ) (a v old : ℕ) (size : Size) (small : size ≡ Byte → v < 2 ^ 8) (fits : Fits parts) (h : ShowsData parts memory ram) (is : number_at memory a (bytes_in size) ≡ Some old) (length_is : length ram ≡ RAM) where
+module _ (n : ℕ) (parts : Parts) (memory : Bytes) (ram : List ℕ) (a v old : ℕ) (size : Size) (small : size ≡ Byte →
+    v < 2 ^ 8) (fits : Fits parts) (h : ShowsData parts memory ram) (is : number_at memory a (bytes_in size) ≡ Some old) (length_is : length ram ≡ RAM) where
   abbrev count : ℕ
   count = bytes_in size
 
@@ -236,7 +241,8 @@ four_is bs x y z w n a b c d e = omega arith
 pub number_is : (bytes : Bytes) (a count n : ℕ) → number_at bytes a (suc count) ≡ Some n → (m : ℕ) × (b : ℕ) × (number_at bytes a count ≡ Some m) × (bytes (a + count) ≡ Some b) × (n ≡ m * 2 ^ 8 + b)
 number_is bytes a count n is = by_parts (number_at bytes a count) (bytes (a + count)) refl refl is
   where
-    by_parts : (o p : Option ℕ) → number_at bytes a count ≡ o → bytes (a + count) ≡ p → followed_by o p ≡ Some n → (m : ℕ) × (b : ℕ) × (number_at bytes a count ≡ Some m) × (bytes (a + count) ≡ Some b) × (n ≡ m * 2 ^ 8 + b)
+    by_parts : (o p : Option ℕ) → number_at bytes a count ≡ o → bytes (a + count) ≡ p → followed_by o p ≡ Some n →
+        (m : ℕ) × (b : ℕ) × (number_at bytes a count ≡ Some m) × (bytes (a + count) ≡ Some b) × (n ≡ m * 2 ^ 8 + b)
     by_parts None p e f g = absurd (cc)
     by_parts (Some m) None e f g = absurd (cc)
     by_parts (Some m) (Some b) e f g = (m, b, e, f, cc)
@@ -297,7 +303,8 @@ module _ (parts : Parts) (memory : Bytes) (ram : List ℕ) (a n : ℕ) (fits : F
       let sum4 = fourth.4 in
       word_there ram place length_is (omega arith) (omega arith)
       ∙ ap Some (four_is (take 4 (drop place ram)) first.1 second.1 third.1 fourth.1 n
-      (shown 0 first.1 4 (omega arith) first.3 (omega arith)) (shown 1 second.1 4 (omega arith) second.3 (omega arith)) (shown 2 third.1 4 (omega arith) third.3 (omega arith)) (shown 3 fourth.1 4 (omega arith) fourth.3 (omega arith)) (omega arith))
+      (shown 0 first.1 4 (omega arith) first.3 (omega arith)) (shown 1 second.1 4 (omega arith) second.3 (omega arith))
+      (shown 2 third.1 4 (omega arith) third.3 (omega arith)) (shown 3 fourth.1 4 (omega arith) fourth.3 (omega arith)) (omega arith))
 
 -- four bytes one after another
 two_words : (memory : Bytes) (a fifth sixth seventh eighth : ℕ) → memory (a + 4) ≡ Some fifth → memory (a + 5) ≡ Some sixth → memory (a + 6) ≡ Some seventh → memory (a + 7) ≡ Some eighth →
@@ -315,7 +322,8 @@ two_words memory a fifth sixth seventh eighth e f g h =
     ∙ ap (λ o. followed_by (Some ((fifth * 2 ^ 8 + sixth) * 2 ^ 8 + seventh)) o) (ap memory t ∙ h)
 
 -- a number of eight bytes is two of four
-halves_of : (memory : Bytes) (a n : ℕ) → number_at memory a 8 ≡ Some n → (high : ℕ) × (low : ℕ) × (number_at memory a 4 ≡ Some high) × (number_at memory (a + 4) 4 ≡ Some low) × (n ≡ high * 2 ^ 32 + low)
+halves_of : (memory : Bytes) (a n : ℕ) → number_at memory a 8 ≡ Some n →
+    (high : ℕ) × (low : ℕ) × (number_at memory a 4 ≡ Some high) × (number_at memory (a + 4) 4 ≡ Some low) × (n ≡ high * 2 ^ 32 + low)
 halves_of memory a n is =
     let eighth = number_is memory a 7 n is in
     let seventh = number_is memory a 6 eighth.0 eighth.2 in
@@ -328,7 +336,8 @@ halves_of memory a n is =
     (fifth.0, ((fifth.1 * 2 ^ 8 + sixth.1) * 2 ^ 8 + seventh.1) * 2 ^ 8 + eighth.1, fifth.2, two_words memory a fifth.1 sixth.1 seventh.1 eighth.1 fifth.3 sixth.3 seventh.3 eighth.3, omega arith)
 
 -- the number that a load finds is there on the board too
-pub number_there : (parts : Parts) (memory : Bytes) (ram : List ℕ) (a w : ℕ) (size : Size) → Fits parts → ShowsData parts memory ram → length ram ≡ RAM → a % bytes_in size ≡ 0 → number_at memory a (bytes_in size) ≡ Some w → board_number ram (data_area a) size ≡ Some w
+pub number_there : (parts : Parts) (memory : Bytes) (ram : List ℕ) (a w : ℕ) (size : Size) → Fits parts → ShowsData parts memory ram → length ram ≡ RAM →
+    a % bytes_in size ≡ 0 → number_at memory a (bytes_in size) ≡ Some w → board_number ram (data_area a) size ≡ Some w
 number_there parts memory ram a w Byte fits h size whole is = byte_loads parts memory ram a w fits h size is
 number_there parts memory ram a w Half fits h size whole is = half_loads parts memory ram a w fits h size whole is
 number_there parts memory ram a w Word fits h size whole is = word_loads parts memory ram a w fits h size whole is
@@ -343,7 +352,8 @@ number_there parts memory ram a w Double fits h size whole is =
     ∙ ap Some (sym sum)
 
 -- and is as small as its bytes
-bound_more : (parts : Parts) (memory : Bytes) (ram : List ℕ) (a limit count w : ℕ) → ShowsData parts memory ram → ((m : ℕ) → number_at memory a count ≡ Some m → m < limit) → number_at memory a (suc count) ≡ Some w → w < limit * 256
+bound_more : (parts : Parts) (memory : Bytes) (ram : List ℕ) (a limit count w : ℕ) → ShowsData parts memory ram →
+    ((m : ℕ) → number_at memory a count ≡ Some m → m < limit) → number_at memory a (suc count) ≡ Some w → w < limit * 256
 bound_more parts memory ram a limit count w h before is =
     let p = number_is memory a count w is in
     let under = before p.0 p.2 in

@@ -28,7 +28,8 @@ use Rattle.sbx_shows.proofs.Distances.{below_is, same_distance, two_below}
 use Rattle.sbx_shows.proofs.Places.{room as code_within, user}
 use Rattle.sbx_shows.proofs.Stacks.{handled_own, slot_beside}
 
-module _ (n : ℕ) (parts : Parts) (mmu : MmuRegs) (x : World n Device) (s : State) (r i : ℕ) (stands : Stands n parts mmu x s r i) (f : Three) (is : AsksFor parts.words i (Save f)) (full : r + 1 ≡ n) where
+module _ (n : ℕ) (parts : Parts) (mmu : MmuRegs) (x : World n Device) (s : State) (r i : ℕ) (stands : Stands n parts mmu x s r i) (f : Three)
+    (is : AsksFor parts.words i (Save f)) (full : r + 1 ≡ n) where
   abbrev h : Shows n parts x s r
   h = stands.shows
 
@@ -206,7 +207,21 @@ module _ (n : ℕ) (parts : Parts) (mmu : MmuRegs) (x : World n Device) (s : Sta
   control =
       let a = h.control in
       subst (λ (k : Control). ShowsControl k s) (sym spilled.cpu.control)
-      (record { pc = a.pc; npc = a.npc; npc_word = a.npc_word; npc_whole = a.npc_whole; annul = a.annul; icc = a.icc; y = a.y; y_word = a.y_word; user = a.user; traps = a.traps; sane = a.sane; table = a.table })
+      (record {
+        pc = a.pc;
+        npc = a.npc;
+        npc_word = a.npc_word;
+        npc_whole = a.npc_whole;
+        annul = a.annul;
+        icc = a.icc;
+        y = a.y;
+        y_word = a.y_word;
+        user =
+            a.user;
+        traps = a.traps;
+        sane = a.sane;
+        table = a.table;
+      })
 
   pub overflow_shows : Shows n parts end s (r - 1)
   overflow_shows =

@@ -32,7 +32,8 @@ own_page parts pc i at less =
     grind (arith, nat_tests, low, high)
 
 -- a turn of user code at a code word
-pub user_own : (n : ℕ) (parts : Parts) (s : State) (cpu : Cpu n) (event : Event) (word i : ℕ) (access : Option DataAccess) → cpu.control.s ≡ false → cpu.control.pc ≡ CODE_START + 4 * i → i < length parts.words →
+pub user_own : (n : ℕ) (parts : Parts) (s : State) (cpu : Cpu n) (event : Event) (word i : ℕ) (access : Option DataAccess) → cpu.control.s ≡ false →
+    cpu.control.pc ≡ CODE_START + 4 * i → i < length parts.words →
     IsOwnEvent parts event → (event ≡ Annulled → ⊥) → ReachesData parts access → IsOwnTurn parts s (turn_of n cpu event (Some word) access)
 user_own n parts s cpu event word i access user at less own runs reaches =
     let here : StaysBeside parts s true cpu.control.pc access = (own_page parts cpu.control.pc i at less, reaches) in
@@ -55,22 +56,26 @@ beside parts s true pc access few (low, high, none) = (code_page parts (pc / 409
 beside parts s false pc access few (at, device) = (grind (arith, nat_tests, at), inl device)
 
 -- a turn that fetched no word reached nothing
-pub on_word : (parts : Parts) (s : State) (word : Option ℕ) (user : Bool) (pc : ℕ) (access : Option DataAccess) → (word ≡ None → access ≡ None) → StaysBeside parts s user pc access → StaysOnWord parts s word user pc access
+pub on_word : (parts : Parts) (s : State) (word : Option ℕ) (user : Bool) (pc : ℕ) (access : Option DataAccess) → (word ≡ None → access ≡ None) →
+    StaysBeside parts s user pc access → StaysOnWord parts s word user pc access
 on_word parts s None user pc access none h = none refl
 on_word parts s (Some word) user pc access none h = h
 
-pub touching_own : (parts : Parts) (s : State) (turn : Turn) → length parts.words ≤ 65536 → IsOwnEvent parts turn.event → (turn.event ≡ Annulled → ⊥) → Touches (pages_of parts) turn.user turn.pc turn.access → (turn.word ≡ None → turn.access ≡ None) → IsOwnTurn parts s turn
+pub touching_own : (parts : Parts) (s : State) (turn : Turn) → length parts.words ≤ 65536 → IsOwnEvent parts turn.event → (turn.event ≡ Annulled → ⊥) →
+    Touches (pages_of parts) turn.user turn.pc turn.access → (turn.word ≡ None → turn.access ≡ None) → IsOwnTurn parts s turn
 touching_own parts s turn few own runs touches none =
     record { trap = own; annulled = λ e. absurd (runs e); within = on_word parts s turn.word turn.user turn.pc turn.access none (beside parts s turn.user turn.pc turn.access few touches) }
 
 -- ---- a turn that fetched no word
 
 module _ (n : ℕ) (mmu : MmuRegs) (x : World n Device) where
-  after_word : (word : ℕ) (access : Option DataAccess) (trap : Option ℕ) (mid : World n Device) → (ends board n x (Some word) access trap mid).0.word ≡ None → (ends board n x (Some word) access trap mid).0.access ≡ None
+  after_word : (word : ℕ) (access : Option DataAccess) (trap : Option ℕ) (mid : World n Device) → (ends board n x (Some word) access trap mid).0.word ≡ None →
+      (ends board n x (Some word) access trap mid).0.access ≡ None
   after_word word access None mid none = absurd (cc)
   after_word word access (Some t) mid none = absurd (cc)
 
-  attempted : (f : Result ℕ ℕ) (ram : List ℕ) → (let a = proceeds board n mmu x f ram in (ends board n x a.0 a.1.0.access a.1.0.trap a.1.1).0.word ≡ None) → (let a = proceeds board n mmu x f ram in (ends board n x a.0 a.1.0.access a.1.0.trap a.1.1).0.access ≡ None)
+  attempted : (f : Result ℕ ℕ) (ram : List ℕ) → (let a = proceeds board n mmu x f ram in (ends board n x a.0 a.1.0.access a.1.0.trap a.1.1).0.word ≡ None) →
+      (let a = proceeds board n mmu x f ram in (ends board n x a.0 a.1.0.access a.1.0.trap a.1.1).0.access ≡ None)
   attempted (Ok word) ram none = let e = executes board n mmu (operation_of (meaning word)) (world n x.cpu ram x.memory.device) in after_word word e.0.access e.0.trap e.1 none
   attempted (Err status) ram none = refl
 

@@ -41,10 +41,14 @@ plain_word : (g : Pages) (k : ℕ) → table_word g (640 + k) % 128 < 32
 unfolding table_word
 plain_word g k =
     let j = 640 + k in
-    rw (not_first (640 + k) (omega arith)) (rw (test_high (640 + k) 256 (omega arith)) (rw (test_high (640 + k) 512 (omega arith)) (rw (test_high (640 + k) 576 (omega arith)) (rw (test_high (640 + k) 640 (omega arith))
+    rw (not_first (640 + k) (omega arith))
+    (rw (test_high (640 + k) 256 (omega arith))
+    (rw (test_high (640 + k) 512 (omega arith)) (rw (test_high (640 + k) 576 (omega arith)) (rw (test_high (640 + k) 640 (omega arith))
     (plain_choice (nat_lt j 704) (code_entry g (j - 640)) _ (plain_choice (nat_lt (j - 640) g.code_count) (0x1012 + 0x100 * (j - 640)) 0 (omega arith) (omega arith))
-    (plain_choice (nat_lt j 768) (data_entry g (j - 704)) _ (plain_choice (nat_lt (j - 704) (data_count g)) (data_entry_word g (j - 704)) 0 (let acc = acc_small g (j - 704) in omega arith) (omega arith))
-    (plain_choice (nat_lt j 832) (stack_entry g (j - 768)) (system_entry (j - 832)) (plain_choice (nat_le (64 - g.stack_count) (j - 768) && nat_lt (j - 768) 64) (0x9006 + 0x100 * (j - 768 - 48)) 0 (omega arith) (omega arith))
+    (plain_choice (nat_lt j 768) (data_entry g (j - 704)) _
+    (plain_choice (nat_lt (j - 704) (data_count g)) (data_entry_word g (j - 704)) 0 (let acc = acc_small g (j - 704) in omega arith) (omega arith))
+    (plain_choice (nat_lt j 832) (stack_entry g (j - 768)) (system_entry (j - 832))
+    (plain_choice (nat_le (64 - g.stack_count) (j - 768) && nat_lt (j - 768) 64) (0x9006 + 0x100 * (j - 768 - 48)) 0 (omega arith) (omega arith))
     (plain_system (j - 832)))))))))
 
 no_bit : (o : Option ℕ) (w low : ℕ) → o ≡ Some w → w / 2 ^ low % 2 ≡ 0 → bit_of o low ≡ 1 → ⊥
@@ -56,8 +60,10 @@ placed_own n parts old new placed =
     let there : (k : ℕ) → k < 192 → entry_of new (CODE_TABLE + 4 * k) ≡ Some (table_word (pages_of parts) (640 + k)) =
     λ (k : ℕ) (less : k < 192). let same : CODE_TABLE + 4 * k ≡ CONTEXT_TABLE + 4 * (640 + k) = omega arith in ap (entry_of new) same ∙ placed.tables (640 + k) (omega arith) in
     record {
-      referenced = λ k less is. let plain = plain_word (pages_of parts) k in absurd (no_bit (entry_of new (CODE_TABLE + 4 * k)) (table_word (pages_of parts) (640 + k)) 5 (there k less) (omega arith) is);
-      modified = λ k less is. let plain = plain_word (pages_of parts) k in absurd (no_bit (entry_of new (CODE_TABLE + 4 * k)) (table_word (pages_of parts) (640 + k)) 6 (there k less) (omega arith) is);
+      referenced = λ k less is. let plain = plain_word (pages_of parts) k in
+          absurd (no_bit (entry_of new (CODE_TABLE + 4 * k)) (table_word (pages_of parts) (640 + k)) 5 (there k less) (omega arith) is);
+      modified = λ k less is. let plain = plain_word (pages_of parts) k in
+          absurd (no_bit (entry_of new (CODE_TABLE + 4 * k)) (table_word (pages_of parts) (640 + k)) 6 (there k less) (omega arith) is);
     }
 
 -- ---- marks
@@ -106,7 +112,9 @@ entry_fits w t is small = by_kind (w % 4 == 2) refl
     by_kind false e = let same : w ≡ t = rw e at is in omega arith
 
 -- M of an entry that a store or another access marks
-modified_by : (parts : Parts) (page w v : ℕ) (store : Bool) → v ≡ (if store then 1 else w / 2 ^ 6 % 2) → (store ≡ true → is_own_data_page parts true page ≡ true) → (w / 2 ^ 6 % 2 ≡ 1 → is_own_data_page parts true page ≡ true) → v ≡ 1 → is_own_data_page parts true page ≡ true
+modified_by : (parts : Parts) (page w v : ℕ) (store : Bool) → v ≡ (if store then 1 else w / 2 ^ 6 % 2) →
+    (store ≡ true → is_own_data_page parts true page ≡ true) → (w / 2 ^ 6 % 2 ≡ 1 → is_own_data_page parts true page ≡ true) → v ≡ 1 →
+    is_own_data_page parts true page ≡ true
 modified_by parts page w v true is stored before one = stored refl
 modified_by parts page w v false is stored before one = before (sym is ∙ one)
 
@@ -131,7 +139,8 @@ mark_own parts ram place t store can is_own is_own_data own =
           let split : (place ≡ CODE_TABLE + 4 * k) ⊎ (place ≢ CODE_TABLE + 4 * k) = search arith in
           elim split [
             | inl here ↦
-                let now : bit_of (entry_of (marked_ram ram place store) (CODE_TABLE + 4 * k)) 6 ≡ marked w store / 2 ^ 6 % 2 = ap (λ p. bit_of (entry_of (marked_ram ram place store) p) 6) (sym here) ∙ ap (λ o. bit_of o 6) m.entry in
+                let now : bit_of (entry_of (marked_ram ram place store) (CODE_TABLE + 4 * k)) 6 ≡ marked w store / 2 ^ 6 % 2 =
+                ap (λ p. bit_of (entry_of (marked_ram ram place store) p) 6) (sym here) ∙ ap (λ o. bit_of o 6) m.entry in
                 let was : bit_of (entry_of ram (CODE_TABLE + 4 * k)) 6 ≡ w / 2 ^ 6 % 2 = ap (λ p. bit_of (entry_of ram p) 6) (sym here) ∙ ap (λ o. bit_of o 6) can.entry.there in
                 modified_by parts (0x40 + k) w (marked w store / 2 ^ 6 % 2) store m.modified (is_own_data k less here) (λ set. own.modified k less (was ∙ set)) (sym now ∙ is)
             | inr other ↦ own.modified k less (ap (λ o. bit_of o 6) (sym (elsewhere k other)) ∙ is)
@@ -157,7 +166,8 @@ own_code parts i k within at =
     ap (λ b. b || is_own_data_page parts false (0x40 + k)) code
 
 -- a fetch of the code word i
-pub code_own : (n : ℕ) (parts : Parts) (ram : List ℕ) (i : ℕ) → IsLoaded n (pages_of parts) parts.words ram → i < 1024 * (pages_of parts).code_count → OwnMarks parts ram → OwnMarks parts (code_marked i ram)
+pub code_own : (n : ℕ) (parts : Parts) (ram : List ℕ) (i : ℕ) → IsLoaded n (pages_of parts) parts.words ram → i < 1024 * (pages_of parts).code_count →
+    OwnMarks parts ram → OwnMarks parts (code_marked i ram)
 code_own n parts ram i loaded within own =
     mark_own parts ram (CODE_TABLE + 4 * (i / 1024)) (0x1012 + 0x100 * (i / 1024)) false (code_markable (pages_of parts) ram loaded.tables (pages_few parts) (i / 1024) (omega arith))
     (λ k less at. own_code parts i k within at)
@@ -165,11 +175,14 @@ code_own n parts ram i loaded within own =
     own
 
 -- the call of a service at the code word i, as it ends the run
-pub vector_own : (n : ℕ) (parts : Parts) (ram : List ℕ) (i : ℕ) (store : Bool) → IsLoaded n (pages_of parts) parts.words ram → i < 1024 * (pages_of parts).code_count → OwnMarks parts ram → OwnMarks parts (vector_marked i store ram)
+pub vector_own : (n : ℕ) (parts : Parts) (ram : List ℕ) (i : ℕ) (store : Bool) → IsLoaded n (pages_of parts) parts.words ram →
+    i < 1024 * (pages_of parts).code_count → OwnMarks parts ram → OwnMarks parts (vector_marked i store ram)
 vector_own n parts ram i store loaded within own =
-    device_own parts (table_marked (table_marked (code_marked i ram))) store (table_own parts (table_marked (code_marked i ram)) (table_own parts (code_marked i ram) (code_own n parts ram i loaded within own)))
+    device_own parts (table_marked (table_marked (code_marked i ram))) store
+    (table_own parts (table_marked (code_marked i ram)) (table_own parts (code_marked i ram) (code_own n parts ram i loaded within own)))
 
 -- and as it comes back
-pub served_own : (n : ℕ) (parts : Parts) (ram : List ℕ) (i : ℕ) (store : Bool) → IsLoaded n (pages_of parts) parts.words ram → i < 1024 * (pages_of parts).code_count → OwnMarks parts ram → OwnMarks parts (table_marked (table_marked (vector_marked i store ram)))
+pub served_own : (n : ℕ) (parts : Parts) (ram : List ℕ) (i : ℕ) (store : Bool) → IsLoaded n (pages_of parts) parts.words ram →
+    i < 1024 * (pages_of parts).code_count → OwnMarks parts ram → OwnMarks parts (table_marked (table_marked (vector_marked i store ram)))
 served_own n parts ram i store loaded within own =
     table_own parts (table_marked (vector_marked i store ram)) (table_own parts (vector_marked i store ram) (vector_own n parts ram i store loaded within own))

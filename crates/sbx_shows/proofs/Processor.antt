@@ -68,7 +68,8 @@ pub calls_to : (n : ℕ) (c : Cpu n) (d : ℕ) → effect n c (Call d) ≡ recor
 unfolding effect
 calls_to n c d = refl
 
-pub jumps_to : (n : ℕ) (c : Cpu n) (f : Three) (a : ℕ) → address_of n c f.rs1 f.operand2 ≡ a → effect n c (JumpAndLink f) ≡ record { regs = with_reg n c.regs f.rd c.control.pc; control = jumped c.control a }
+pub jumps_to : (n : ℕ) (c : Cpu n) (f : Three) (a : ℕ) → address_of n c f.rs1 f.operand2 ≡ a →
+    effect n c (JumpAndLink f) ≡ record { regs = with_reg n c.regs f.rd c.control.pc; control = jumped c.control a }
 unfolding effect
 jumps_to n c f a place = ap (λ p. record { regs = with_reg n c.regs f.rd c.control.pc; control = jumped c.control p }) place
 

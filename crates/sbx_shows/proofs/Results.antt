@@ -39,7 +39,8 @@ use Rattle.sbx_shows.proofs.Fields.{ThreeIn, TwoIn}
 use Rattle.sbx_shows.proofs.Files.{reads_word}
 use Rattle.sbx_shows.proofs.Outcomes.{AreWords, IfWords, division_words, outcome_words, tagged_words}
 use Rattle.sbx_shows.proofs.Places.{fails_not, fetched, fields, marks, plain_turn, same_reg, same_second, second_word, word}
-use Rattle.sbx_shows.proofs.Processor.{adds_tagged, board_outcome, calm_compute, calm_divide, calm_high, calm_read, calm_tagged, calm_write, computes, divides, moved_on, reads_y, sets_high, with_result, with_value, writes_y}
+use Rattle.sbx_shows.proofs.Processor.{adds_tagged, board_outcome, calm_compute, calm_divide, calm_high, calm_read, calm_tagged, calm_write, computes, divides}
+use Rattle.sbx_shows.proofs.Processor.{moved_on, reads_y, sets_high, with_result, with_value, writes_y}
 use Rattle.sbx_shows.proofs.Users.{marked_shows, moved_shows, value_shows, write_shows}
 
 -- a result that there is goes to its register, or the state is wrong
@@ -52,7 +53,8 @@ module _ (n : ℕ) (parts : Parts) (mmu : MmuRegs) (x : World n Device) (s : Sta
 
   -- ---- the registers that may be written
 
-  free_of : (op : Operation) (rd : ℕ) (rest : Turn) → AsksFor parts.words i op → is_admitted op ≡ true → does parts still op s ≡ (if (rd == 14) || (rd == 30) then Fails StackPointer else rest) → ((rd == 14) || (rd == 30)) ≡ false
+  free_of : (op : Operation) (rd : ℕ) (rest : Turn) → AsksFor parts.words i op → is_admitted op ≡ true →
+      does parts still op s ≡ (if (rd == 14) || (rd == 30) then Fails StackPointer else rest) → ((rd == 14) || (rd == 30)) ≡ false
   free_of op rd rest is admitted goes = by_test ((rd == 14) || (rd == 30)) refl
     where
       by_test : (t : Bool) → ((rd == 14) || (rd == 30)) ≡ t → ((rd == 14) || (rd == 30)) ≡ false
@@ -67,7 +69,8 @@ module _ (n : ℕ) (parts : Parts) (mmu : MmuRegs) (x : World n Device) (s : Sta
 
   -- ---- a result with codes and Y
 
-  result_turn : (op : Operation) (rd : ℕ) (out : AluOut) → AsksFor parts.words i op → is_admitted op ≡ true → rd < 32 → first_trap n c op ≡ None → ((y : World n Device) → acts board n mmu op y ≡ (quiet, record y { cpu = effect n y.cpu op })) →
+  result_turn : (op : Operation) (rd : ℕ) (out : AluOut) → AsksFor parts.words i op → is_admitted op ≡ true → rd < 32 → first_trap n c op ≡ None →
+      ((y : World n Device) → acts board n mmu op y ≡ (quiet, record y { cpu = effect n y.cpu op })) →
       effect n c op ≡ with_result n c rd out → AreWords out → does parts still op s ≡ writes_result rd out s → OneTurn n parts mmu x s op r
   result_turn op rd out is admitted low calm plain does_so small goes =
       let ram = fetched n parts mmu x s r i h in
@@ -88,7 +91,8 @@ module _ (n : ℕ) (parts : Parts) (mmu : MmuRegs) (x : World n Device) (s : Sta
       }
 
   -- what both machines compute
-  same_operands : {A : Type 0} (f : ℕ → ℕ → Icc → ℕ → A) (k : Three) → ThreeIn k → f (reg_of n c.regs k.rs1) (second_of n c k.operand2) c.control.icc c.control.y ≡ f (reg s k.rs1) (operand_value s k.operand2) s.icc s.y
+  same_operands : {A : Type 0} (f : ℕ → ℕ → Icc → ℕ → A) (k : Three) → ThreeIn k →
+      f (reg_of n c.regs k.rs1) (second_of n c k.operand2) c.control.icc c.control.y ≡ f (reg s k.rs1) (operand_value s k.operand2) s.icc s.y
   same_operands f k fit =
       ap (λ a. f a (second_of n c k.operand2) c.control.icc c.control.y) (same_reg n parts mmu x s r i h k.rs1 fit.first)
       ∙ ap (λ b. f (reg s k.rs1) b c.control.icc c.control.y) (same_second n parts mmu x s r i h k.operand2 fit.second)
@@ -101,7 +105,8 @@ module _ (n : ℕ) (parts : Parts) (mmu : MmuRegs) (x : World n Device) (s : Sta
       let fit : ThreeIn f = fields n parts mmu x s r i h (Compute op f) is in
       let out = board_outcome n c op f in
       let same = same_operands (outcome op) f fit in
-      let words = outcome_words op (reg_of n c.regs f.rs1) (second_of n c f.operand2) c.control.icc c.control.y (reads_word n c.regs f.rs1 h.shows.file) (second_word n parts mmu x s r i h f.operand2 fit.second) h.shows.control.y_word in
+      let words = outcome_words op (reg_of n c.regs f.rs1) (second_of n c f.operand2) c.control.icc c.control.y (reads_word n c.regs f.rs1 h.shows.file)
+      (second_word n parts mmu x s r i h f.operand2 fit.second) h.shows.control.y_word in
       result_turn (Compute op f) f.rd out is refl fit.destination (calm_compute n c op f) (λ y. refl) (computes n c op f) words (ap (λ (o : AluOut). writes_result f.rd o s) (sym same))
 
   words_of : (o : Option AluOut) (out : AluOut) → o ≡ Some out → IfWords o → AreWords out
@@ -143,7 +148,8 @@ module _ (n : ℕ) (parts : Parts) (mmu : MmuRegs) (x : World n Device) (s : Sta
 
   -- ---- a word
 
-  value_turn : (op : Operation) (rd v : ℕ) → AsksFor parts.words i op → is_admitted op ≡ true → rd < 32 → first_trap n c op ≡ None → ((y : World n Device) → acts board n mmu op y ≡ (quiet, record y { cpu = effect n y.cpu op })) →
+  value_turn : (op : Operation) (rd v : ℕ) → AsksFor parts.words i op → is_admitted op ≡ true → rd < 32 → first_trap n c op ≡ None →
+      ((y : World n Device) → acts board n mmu op y ≡ (quiet, record y { cpu = effect n y.cpu op })) →
       effect n c op ≡ with_value n c rd v → v < 2 ^ 32 → does parts still op s ≡ writes rd v s → OneTurn n parts mmu x s op r
   value_turn op rd v is admitted low calm plain does_so small goes =
       let ram = fetched n parts mmu x s r i h in
@@ -185,12 +191,15 @@ module _ (n : ℕ) (parts : Parts) (mmu : MmuRegs) (x : World n Device) (s : Sta
       let other = same_second n parts mmu x s r i h f.operand2 fit.second in
       let v = bit_xor (reg s f.rs1) (operand_value s f.operand2) in
       let same : state_operand n c f ≡ v = ap (λ a. bit_xor a (second_of n c f.operand2)) first ∙ ap (bit_xor (reg s f.rs1)) other in
-      let small : state_operand n c f < 2 ^ 32 = xor_lt 32 (reg_of n c.regs f.rs1) (second_of n c f.operand2) (reads_word n c.regs f.rs1 h.shows.file) (second_word n parts mmu x s r i h f.operand2 fit.second) in
+      let small : state_operand n c f < 2 ^ 32 =
+      xor_lt 32 (reg_of n c.regs f.rs1) (second_of n c f.operand2) (reads_word n c.regs f.rs1 h.shows.file)
+      (second_word n parts mmu x s r i h f.operand2 fit.second) in
       let k = c.control in
       let new = world n (record c { control = moved_on k k.icc (state_operand n c f) }) ram x.memory.device in
       let marked = marked_shows n parts x s r ram h.shows (marks n parts mmu x s r i h) in
       let shown = moved_shows n parts (world n c ram x.memory.device) s r k.icc (state_operand n c f) marked small in
-      let codes : record s { icc = k.icc; y = state_operand n c f } ≡ record s { y = v } = ap (λ (d : Icc). record s { icc = d; y = state_operand n c f }) h.shows.control.icc ∙ ap (λ y. record s { y = y }) same in
+      let codes : record s { icc = k.icc; y = state_operand n c f } ≡ record s { y = v } =
+      ap (λ (d : Icc). record s { icc = d; y = state_operand n c f }) h.shows.control.icc ∙ ap (λ y. record s { y = y }) same in
       record {
         fresh = still;
         is_fresh = still_is_fresh;
@@ -199,7 +208,8 @@ module _ (n : ℕ) (parts : Parts) (mmu : MmuRegs) (x : World n Device) (s : Sta
         word = word n parts mmu x s r i h;
         access = None;
         new = new;
-        turn = plain_turn n parts mmu x s r i h (WriteY f) is (calm_write n c f) (λ y. refl) ∙ ap (λ (k : Cpu n). (turn_of n c Ran (Some (word n parts mmu x s r i h)) None, world n k ram x.memory.device)) (writes_y n c f);
+        turn = plain_turn n parts mmu x s r i h (WriteY f) is (calm_write n c f) (λ y. refl)
+            ∙ ap (λ (k : Cpu n). (turn_of n c Ran (Some (word n parts mmu x s r i h)) None, world n k ram x.memory.device)) (writes_y n c f);
         reaches = tt;
         shows = subst (λ (t : State). Shows n parts new (advanced t) r) codes shown;
       }

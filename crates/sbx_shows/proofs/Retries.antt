@@ -60,18 +60,22 @@ going_by n mmu w event told going = by_parts w.memory.device.stopped w.cpu.contr
     by_parts None None a b = not_ended n w a b
     by_parts (Some s) p a b = absurd (no_more (Stopped s) (sym (ap (λ o. (goes_on board n mmu w o w.cpu.control.error w.cpu.control.annul).0.event) a) ∙ told) refl)
     by_parts None (Some t) a b =
-        absurd (no_more (ErrorMode t) (sym (ap (λ o. (goes_on board n mmu w o w.cpu.control.error w.cpu.control.annul).0.event) a ∙ ap (λ p. (goes_on board n mmu w None p w.cpu.control.annul).0.event) b) ∙ told) refl)
+        absurd (no_more (ErrorMode t)
+        (sym (ap (λ o. (goes_on board n mmu w o w.cpu.control.error w.cpu.control.annul).0.event) a
+        ∙ ap (λ p. (goes_on board n mmu w None p w.cpu.control.annul).0.event) b) ∙ told) refl)
 
 -- ---- a handler's turn
 
-handlers_own : (n : ℕ) (parts : Parts) (mmu : MmuRegs) (pages : ℕ) (s : State) (k : ℕ) (store : Bool) (w : World n Device) → StandsAtMove parts s → IsStacked pages s.registers → k < depth s.registers →
+handlers_own : (n : ℕ) (parts : Parts) (mmu : MmuRegs) (pages : ℕ) (s : State) (k : ℕ) (store : Bool) (w : World n Device) → StandsAtMove parts s →
+    IsStacked pages s.registers → k < depth s.registers →
     IsHandlers (base s.registers k) 64 store (next board n mmu w).0 → IsOwnTurn parts s (next board n mmu w).0
 handlers_own n parts mmu pages s k store w at_move st less h =
     let t = (next board n mmu w).0 in
     record {
       trap = subst (IsOwnEvent parts) (sym h.event) tt;
       annulled = λ e. absurd (no_run (sym h.event ∙ e));
-      within = on_word parts s t.word t.user t.pc t.access (no_word n mmu w) (subst (λ u. StaysBeside parts s u t.pc t.access) (sym h.system) (in_system t.pc h.page, inr (at_move, in_call t.access h.access)));
+      within = on_word parts s t.word t.user t.pc t.access (no_word n mmu w)
+          (subst (λ u. StaysBeside parts s u t.pc t.access) (sym h.system) (in_system t.pc h.page, inr (at_move, in_call t.access h.access)));
     }
   where
     in_system : (pc : ℕ) → (pc / 4096 ≡ 0xF0000) ⊎ (pc / 4096 ≡ 0xF0001) → ((pc / 4096 == 0xF0000) || (pc / 4096 == 0xF0001)) ≡ true
@@ -115,23 +119,30 @@ system_before n mmu w e = in_system_by w.cpu.control.s (sym (told_mode n mmu w) 
 -- ---- counts
 
 overflow_counted : (c : Counts) → c.turns < 2 ^ 64 - 1 → c.overflows ≤ c.turns → counts_after (Trapped 5) c ≡ more c 1 1 0
-overflow_counted c small few = counts_are (counted c.turns) (counted c.overflows) c.underflows (c.turns + 1) (c.overflows + 1) (c.underflows + 0) (counted_is c.turns small) (counted_is c.overflows (omega arith)) (omega arith)
+overflow_counted c small few =
+    counts_are (counted c.turns) (counted c.overflows) c.underflows (c.turns + 1) (c.overflows + 1) (c.underflows + 0) (counted_is c.turns small)
+    (counted_is c.overflows (omega arith)) (omega arith)
 
 underflow_counted : (c : Counts) → c.turns < 2 ^ 64 - 1 → c.underflows ≤ c.turns → counts_after (Trapped 6) c ≡ more c 1 0 1
-underflow_counted c small few = counts_are (counted c.turns) c.overflows (counted c.underflows) (c.turns + 1) (c.overflows + 0) (c.underflows + 1) (counted_is c.turns small) (omega arith) (counted_is c.underflows (omega arith))
+underflow_counted c small few =
+    counts_are (counted c.turns) c.overflows (counted c.underflows) (c.turns + 1) (c.overflows + 0) (c.underflows + 1) (counted_is c.turns small) (omega arith)
+    (counted_is c.underflows (omega arith))
 
 -- a trap, and turns that run
-all_counts : (n : ℕ) (mmu : MmuRegs) (x : World n Device) (c : Counts) (t o u k : ℕ) → (turn_at board n mmu 0 x).event ≡ Trapped t → ((j : ℕ) → j < 24 → (turn_at board n mmu (suc j) x).event ≡ Ran) → counts_after (Trapped t) c ≡ more c 1 o u →
+all_counts : (n : ℕ) (mmu : MmuRegs) (x : World n Device) (c : Counts) (t o u k : ℕ) → (turn_at board n mmu 0 x).event ≡ Trapped t →
+    ((j : ℕ) → j < 24 → (turn_at board n mmu (suc j) x).event ≡ Ran) → counts_after (Trapped t) c ≡ more c 1 o u →
     k ≤ 24 → c.turns + suc k ≤ 2 ^ 64 - 1 → counts_by n mmu x (suc k) c ≡ more c (suc k) o u
 all_counts n mmu x c t o u zero trap ran first less small = ap (λ e. counts_after e c) trap ∙ first
 all_counts n mmu x c t o u (suc k) trap ran first less small =
     ap (λ e. counts_after e (counts_by n mmu x (suc k) c)) (ran k (omega arith))
     ∙ ap with_turn (all_counts n mmu x c t o u k trap ran first (omega arith) (omega arith))
-    ∙ counts_are (counted (c.turns + suc k)) (c.overflows + o) (c.underflows + u) (c.turns + suc (suc k)) (c.overflows + o) (c.underflows + u) (counted_is (c.turns + suc k) (omega arith) ∙ omega arith) refl refl
+    ∙ counts_are (counted (c.turns + suc k)) (c.overflows + o) (c.underflows + u) (c.turns + suc (suc k)) (c.overflows + o) (c.underflows + u)
+    (counted_is (c.turns + suc k) (omega arith) ∙ omega arith) refl refl
 
 -- ---- the trap, the 23 turns of its handler, and the instruction again
 
-module _ (n : ℕ) (parts : Parts) (mmu : MmuRegs) (x : World n Device) (s : State) (r i : ℕ) (h : Stands n parts mmu x s r i) (op : Operation) (is : AsksFor parts.words i op) (admitted : is_admitted op ≡ true) (moves : moves_window op ≡ true)
+module _ (n : ℕ) (parts : Parts) (mmu : MmuRegs) (x : World n Device) (s : State) (r i : ℕ) (h : Stands n parts mmu x s r i) (op : Operation)
+    (is : AsksFor parts.words i op) (admitted : is_admitted op ≡ true) (moves : moves_window op ≡ true)
     (t sp j : ℕ) (store : Bool) (handled : IsHandled n parts.words mmu x i t sp store) (own_trap : IsOwnEvent parts (Trapped t)) (open_call : j < depth s.registers) (at : sp ≡ base s.registers j)
     (mid windows : ℕ) (shown : Stands n parts mmu (after board n mmu 24 x) s mid i) (one : OneTurn n parts mmu (after board n mmu 24 x) s op windows) where
   turns : (k : ℕ) → k < 23 → IsHandlers (base s.registers j) 64 store (turn_at board n mmu (suc k) x)
@@ -156,7 +167,10 @@ module _ (n : ℕ) (parts : Parts) (mmu : MmuRegs) (x : World n Device) (s : Sta
   at_move = (word n parts mmu x s r i h, here n parts mmu x s r i h, subst (λ o. moves_window o ≡ true) (sym is) moves)
 
   all_own : (k : ℕ) → k < 25 → IsOwnTurn parts s (turn_at board n mmu k x)
-  all_own zero less = subst (IsOwnTurn parts s) (sym handled.trap) (user_own n parts s x.cpu (Trapped t) (word n parts mmu x s r i h) i None h.shows.control.user (h.shows.control.pc ∙ h.place) h.within own_trap (λ e. cc) tt)
+  all_own zero less =
+      subst (IsOwnTurn parts s) (sym handled.trap)
+      (user_own n parts s x.cpu (Trapped t) (word n parts mmu x s r i h) i None h.shows.control.user (h.shows.control.pc ∙ h.place) h.within own_trap
+      (λ e. cc) tt)
   all_own (suc k) less =
       let split : (k < 23) ⊎ (k ≡ 23) = search arith in
       elim split [

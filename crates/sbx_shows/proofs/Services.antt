@@ -61,7 +61,8 @@ pub record Gives (d : Device) (s : State) : Type 0 where
   pub output : (gets d).1.output ≡ d.output
   pub running : (gets d).1.stopped ≡ d.stopped
 
-gives_this : (d e : Device) (s : State) (v : ℕ) (rest : List ℕ) → gets d ≡ (v, e) → flat_gets s.input s ≡ flat_with_reg 8 v (record s { input = rest }) → v < 2 ^ 32 → e.input ≡ rest → (e.ended ≡ true → rest ≡ []) → AreBytes rest → e.output ≡ d.output → e.stopped ≡ d.stopped → Gives d s
+gives_this : (d e : Device) (s : State) (v : ℕ) (rest : List ℕ) → gets d ≡ (v, e) → flat_gets s.input s ≡ flat_with_reg 8 v (record s { input = rest }) →
+    v < 2 ^ 32 → e.input ≡ rest → (e.ended ≡ true → rest ≡ []) → AreBytes rest → e.output ≡ d.output → e.stopped ≡ d.stopped → Gives d s
 gives_this d e s v rest is flat word input ended bytes output running =
     let value : (gets d).0 ≡ v = ap (λ (p : ℕ × Device). p.0) is in
     let device : (gets d).1 ≡ e = ap (λ (p : ℕ × Device). p.1) is in
@@ -100,7 +101,8 @@ gives_by d s false [] e f same ended bytes =
     gives_this d (record d { input = []; ended = true }) s 0xFFFFFFFF [] (gets_as d false [] e (same ∙ f)) (flat_as s [] f ∙ no_input s f) (omega arith) refl (λ h. refl) no_bytes refl refl
 gives_by d s false (byte ∷ rest) e f same ended bytes =
     let all : AreBytes (byte ∷ rest) = subst AreBytes f bytes in
-    gives_this d (record d { input = rest; ended = false }) s byte rest (gets_as d false (byte ∷ rest) e (same ∙ f)) (flat_as s (byte ∷ rest) f) (let low = all 0 in omega arith) refl (λ h. absurd (cc)) (λ i. all (suc i)) refl refl
+    gives_this d (record d { input = rest; ended = false }) s byte rest (gets_as d false (byte ∷ rest) e (same ∙ f)) (flat_as s (byte ∷ rest) f) (let low =
+    all 0 in omega arith) refl (λ h. absurd (cc)) (λ i. all (suc i)) refl refl
 
 pub gives : (d : Device) (s : State) → d.input ≡ s.input → (d.ended ≡ true → s.input ≡ []) → AreBytes s.input → Gives d s
 gives d s same ended bytes = gives_by d s d.ended s.input refl refl same ended bytes
@@ -160,7 +162,8 @@ device_same n parts ram store loaded = marked_same ram 0x2D40 0x1000001E store (
 then_same : (a b c : List ℕ) → SameAbove a b → SameAbove b c → SameAbove a c
 then_same a b c s t = record { words = λ p above. t.words p above ∙ s.words p above; bytes = λ p above. t.bytes p above ∙ s.bytes p above }
 
-served_marks : (n : ℕ) (parts : Parts) (mmu : MmuRegs) (x : World n Device) (i : ℕ) (store : Bool) → RunsUser n (pages_of parts) parts.words mmu x i → OwnMarks parts x.memory.ram → OnlyMarks n parts x.memory.ram (table_marked (table_marked (vector_marked i store x.memory.ram)))
+served_marks : (n : ℕ) (parts : Parts) (mmu : MmuRegs) (x : World n Device) (i : ℕ) (store : Bool) → RunsUser n (pages_of parts) parts.words mmu x i →
+    OwnMarks parts x.memory.ram → OnlyMarks n parts x.memory.ram (table_marked (table_marked (vector_marked i store x.memory.ram)))
 served_marks n parts mmu x i store u own =
     let ram = x.memory.ram in
     let g = pages_of parts in
@@ -274,7 +277,22 @@ module _ (n : ℕ) (parts : Parts) (mmu : MmuRegs) (x : World n Device) (s : Sta
         slots = m.slots;
         stack = m.stack;
         bytes = m.bytes;
-        control = record { pc = a.npc; npc = ap following a.npc; npc_word = next_word x.cpu.control.npc; npc_whole = next_whole x.cpu.control.npc a.npc_whole; annul = a.annul; icc = a.icc; y = a.y; y_word = a.y_word; user = a.user; traps = a.traps; sane = a.sane; table = a.table };
+        control = record {
+          pc = a.npc;
+          npc = ap following a.npc;
+          npc_word = next_word x.cpu.control.npc;
+          npc_whole =
+              next_whole x.cpu.control.npc a.npc_whole;
+          annul = a.annul;
+          icc = a.icc;
+          y = a.y;
+          y_word = a.y_word;
+          user = a.user;
+          traps = a.traps;
+          sane =
+              a.sane;
+          table = a.table;
+        };
         device = record {
           running = shown.device.running;
           input = shown.device.input;
@@ -300,7 +318,22 @@ module _ (n : ℕ) (parts : Parts) (mmu : MmuRegs) (x : World n Device) (s : Sta
         slots = m.slots;
         stack = m.stack;
         bytes = m.bytes;
-        control = record { pc = a.npc; npc = ap following a.npc; npc_word = next_word x.cpu.control.npc; npc_whole = next_whole x.cpu.control.npc a.npc_whole; annul = a.annul; icc = a.icc; y = a.y; y_word = a.y_word; user = a.user; traps = a.traps; sane = a.sane; table = a.table };
+        control = record {
+          pc = a.npc;
+          npc = ap following a.npc;
+          npc_word = next_word x.cpu.control.npc;
+          npc_whole =
+              next_whole x.cpu.control.npc a.npc_whole;
+          annul = a.annul;
+          icc = a.icc;
+          y = a.y;
+          y_word = a.y_word;
+          user = a.user;
+          traps = a.traps;
+          sane =
+              a.sane;
+          table = a.table;
+        };
         device = record { running = g.running ∙ shown.device.running; input = g.input; ended = g.ended; bytes = g.bytes; output = g.output ∙ shown.device.output };
         going = m.going;
         loaded = m.loaded;

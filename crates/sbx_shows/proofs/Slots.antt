@@ -62,7 +62,8 @@ module _ (pages r : ℕ) (file : Registers) (ram : List ℕ) (a w : ℕ) (few : 
     aligned = λ k less. ap (λ b. b % 8) (cell_slot a w file k 6) ∙ st.aligned k less;
     low = λ k less. let e : base file_stored k ≡ base file k = cell_slot a w file k 6 in let from = st.low k less in omega arith;
     high = λ k less. let e : base file_stored k ≡ base file k = cell_slot a w file k 6 in let to = st.high k less in omega arith;
-    apart = λ k i b d. let e : base file_stored k ≡ base file k = cell_slot a w file k 6 in let f : base file_stored i ≡ base file i = cell_slot a w file i 6 in let apart = st.apart k i b d in omega arith;
+    apart = λ k i b d. let e : base file_stored k ≡ base file k = cell_slot a w file k 6 in let f : base file_stored i ≡ base file i = cell_slot a w file i 6 in
+        let apart = st.apart k i b d in omega arith;
   }
 
   -- the older calls' 64 bytes are above the newest one's slots
@@ -72,10 +73,12 @@ module _ (pages r : ℕ) (file : Registers) (ram : List ℕ) (a w : ℕ) (few : 
       record {
         locals = λ k j x y z.
             let under = o.below k (omega arith) y in
-            ap (λ q. entry_of stored (area_of q + 4 * j)) (cell_slot a w file k 6) ∙ beside_word (area_of (base file k) + 4 * j) (inr (omega arith)) ∙ h.locals k j x y z ∙ ap Some (sym (cell_slot a w file k (8 + j)));
+            ap (λ q. entry_of stored (area_of q + 4 * j)) (cell_slot a w file k 6) ∙ beside_word (area_of (base file k) + 4 * j) (inr (omega arith))
+            ∙ h.locals k j x y z ∙ ap Some (sym (cell_slot a w file k (8 + j)));
         ins = λ k j x y z.
             let under = o.below k (omega arith) y in
-            ap (λ q. entry_of stored (area_of q + 32 + 4 * j)) (cell_slot a w file k 6) ∙ beside_word (area_of (base file k) + 32 + 4 * j) (inr (omega arith)) ∙ h.ins k j x y z ∙ ap Some (sym (cell_slot a w file (suc k) j));
+            ap (λ q. entry_of stored (area_of q + 32 + 4 * j)) (cell_slot a w file k 6) ∙ beside_word (area_of (base file k) + 32 + 4 * j) (inr (omega arith))
+            ∙ h.ins k j x y z ∙ ap Some (sym (cell_slot a w file (suc k) j));
       }
 
   place_stored : (k b : ℕ) → IsSlot file k b → IsSlot file_stored k b
@@ -133,7 +136,8 @@ module _ (pages r : ℕ) (file : Registers) (ram : List ℕ) (a w : ℕ) (few : 
 at_stack_entry : (parts : Parts) (a k : ℕ) → STACK_LOWEST ≤ a → a < STACK_END → stack_entry_place a ≡ CODE_TABLE + 4 * k → 0x40 + k ≡ a / 4096
 at_stack_entry parts a k low high e = omega arith
 
-pub stack_marks : (n : ℕ) (parts : Parts) (old mid : List ℕ) (a : ℕ) (store : Bool) → Fits parts → OnlyMarks n parts old mid → STACK_END ≤ a + 4096 * (pages_of parts).stack_count → a < STACK_END → OnlyMarks n parts old (marked_ram mid (stack_entry_place a) store)
+pub stack_marks : (n : ℕ) (parts : Parts) (old mid : List ℕ) (a : ℕ) (store : Bool) → Fits parts → OnlyMarks n parts old mid →
+    STACK_END ≤ a + 4096 * (pages_of parts).stack_count → a < STACK_END → OnlyMarks n parts old (marked_ram mid (stack_entry_place a) store)
 stack_marks n parts old mid a store fits m low high =
     let few = (pages_few parts).stack in
     let t = 0x9006 + 0x100 * ((a - DATA_END) / 4096 - 48) in
@@ -186,7 +190,22 @@ slot_stored_shows n parts x s r a old v fits h held small =
           let from = o.low in
           let to = o.high in
           record { low = o.low; high = o.high; small = o.small; there = byte_beside_entry ram (area_of a) v (data_area q) (omega arith) (inl (omega arith)) ∙ o.there };
-      control = record { pc = h.control.pc; npc = h.control.npc; npc_word = h.control.npc_word; npc_whole = h.control.npc_whole; annul = h.control.annul; icc = h.control.icc; y = h.control.y; y_word = h.control.y_word; user = h.control.user; traps = h.control.traps; sane = h.control.sane; table = h.control.table };
+      control = record {
+        pc = h.control.pc;
+        npc = h.control.npc;
+        npc_word = h.control.npc_word;
+        npc_whole = h.control.npc_whole;
+        annul = h.control.annul;
+        icc =
+            h.control.icc;
+        y = h.control.y;
+        y_word = h.control.y_word;
+        user = h.control.user;
+        traps = h.control.traps;
+        sane = h.control.sane;
+        table =
+            h.control.table;
+      };
       device = device_kept x.memory.device s t refl refl h.device;
       going = h.going;
       loaded = store_keeps n (pages_of parts) parts.words ram (area_of a) v (pages_few parts) h.loaded (omega arith) (omega arith) (omega arith);

@@ -63,7 +63,8 @@ stack_own parts store va fits low high =
     either false s e = e
 
 -- RAM whose entries of code, data and stack pages are those after a fetch of the code word i, but for the pages of 64 bytes of stack
-pub handled_own : (n : ℕ) (parts : Parts) (old new : List ℕ) (i sp : ℕ) → Fits parts → IsLoaded n (pages_of parts) parts.words old → i < 1024 * (pages_of parts).code_count → HasRoom (pages_of parts) sp →
+pub handled_own : (n : ℕ) (parts : Parts) (old new : List ℕ) (i sp : ℕ) → Fits parts → IsLoaded n (pages_of parts) parts.words old →
+    i < 1024 * (pages_of parts).code_count → HasRoom (pages_of parts) sp →
     ((p : ℕ) → p < SYSTEM_TABLE → p % 4 ≡ 0 → ((j : ℕ) → j < 16 → p ≢ stack_entry_place (area_of sp + (STACK_LOWEST - STACK_PLACE) + 4 * j)) → entry_of new p ≡ entry_of (code_marked i old) p) →
     OwnMarks parts old → OwnMarks parts new
 handled_own n parts old new i sp fits loaded within room same own =
@@ -103,7 +104,8 @@ handled_own n parts old new i sp fits loaded within room same own =
     }
   where
     -- the 64 bytes lie in the page of the first one and in that of the last word
-    apart_by : (k j sp : ℕ) → STACK_LOWEST ≤ sp → sp + 64 ≤ STACK_END → j < 16 → 0x40 + k ≢ sp / 4096 → 0x40 + k ≢ (sp + 60) / 4096 → CODE_TABLE + 4 * k ≡ stack_entry_place (area_of sp + (STACK_LOWEST - STACK_PLACE) + 4 * j) → ⊥
+    apart_by : (k j sp : ℕ) → STACK_LOWEST ≤ sp → sp + 64 ≤ STACK_END → j < 16 → 0x40 + k ≢ sp / 4096 → 0x40 + k ≢ (sp + 60) / 4096 →
+        CODE_TABLE + 4 * k ≡ stack_entry_place (area_of sp + (STACK_LOWEST - STACK_PLACE) + 4 * j) → ⊥
     apart_by k j sp low high small a b e = omega arith
 
 -- a code word lies in its page

@@ -26,13 +26,16 @@ at_word parts n p word t straight there =
     ∙ ap (λ o. after_word n o t) there
 
 pub save_counts : (n r o u k : ℕ) (f : Three) → r + 1 < n → after_operation n (Save f) (so_many r o u k) ≡ so_many (r + 1) o u (k + 1)
-save_counts n r o u k f free = let test : (r == n - 1) ≡ false = grind (arith, nat_tests) in ap (λ (b : Bool). if b then record (so_many r o u k) { overflows = o + 1; turns = k + 25 } else so_many (r + 1) o u (k + 1)) test
+save_counts n r o u k f free = let test : (r == n - 1) ≡ false = grind (arith, nat_tests) in
+    ap (λ (b : Bool). if b then record (so_many r o u k) { overflows = o + 1; turns = k + 25 } else so_many (r + 1) o u (k + 1)) test
 
 pub overflow_counts : (n r o u k : ℕ) (f : Three) → r + 1 ≡ n → after_operation n (Save f) (so_many r o u k) ≡ so_many r (o + 1) u (k + 25)
-overflow_counts n r o u k f full = let test : (r == n - 1) ≡ true = grind (arith, nat_tests) in ap (λ (b : Bool). if b then so_many r (o + 1) u (k + 25) else record (so_many r o u k) { windows = r + 1; turns = k + 1 }) test
+overflow_counts n r o u k f full = let test : (r == n - 1) ≡ true = grind (arith, nat_tests) in
+    ap (λ (b : Bool). if b then so_many r (o + 1) u (k + 25) else record (so_many r o u k) { windows = r + 1; turns = k + 1 }) test
 
 pub restore_counts : (n r o u k : ℕ) (f : Three) → 2 ≤ r → after_operation n (Restore f) (so_many r o u k) ≡ so_many (r - 1) o u (k + 1)
-restore_counts n r o u k f some = let test : (r == 1) ≡ false = grind (arith, nat_tests) in ap (λ (b : Bool). if b then record (so_many r o u k) { underflows = u + 1; turns = k + 25 } else so_many (r - 1) o u (k + 1)) test
+restore_counts n r o u k f some = let test : (r == 1) ≡ false = grind (arith, nat_tests) in
+    ap (λ (b : Bool). if b then record (so_many r o u k) { underflows = u + 1; turns = k + 25 } else so_many (r - 1) o u (k + 1)) test
 
 pub underflow_counts : (n o u k : ℕ) (f : Three) → after_operation n (Restore f) (so_many 1 o u k) ≡ so_many 1 o (u + 1) (k + 25)
 underflow_counts n o u k f = refl

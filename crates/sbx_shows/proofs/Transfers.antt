@@ -95,7 +95,8 @@ in_ram : (pa : ℕ) → pa < RAM → nat_lt pa device_base ≡ true
 in_ram pa less = grind (arith, nat_tests)
 
 module _ (n : ℕ) (parts : Parts) (mmu : MmuRegs) (x : World n Device) (s : State) (r i : ℕ) (h : Stands n parts mmu x s r i) (good : IsWrong parts s → ⊥)
-    (t : Transfer) (rd rs1 : ℕ) (o : Operand) (is : AsksFor parts.words i (operation.Transfer t (at_operand rd rs1 o))) (pair : splits_pair (size_of t) rd ≡ false) (fit : MemoryIn (at_operand rd rs1 o)) where
+    (t : Transfer) (rd rs1 : ℕ) (o : Operand) (is : AsksFor parts.words i (operation.Transfer t (at_operand rd rs1 o)))
+    (pair : splits_pair (size_of t) rd ≡ false) (fit : MemoryIn (at_operand rd rs1 o)) where
   abbrev op : Operation
   op = operation.Transfer t (at_operand rd rs1 o)
 
@@ -143,7 +144,9 @@ module _ (n : ℕ) (parts : Parts) (mmu : MmuRegs) (x : World n Device) (s : Sta
   moved pa entry number new walk answer =
       let memory : Memory Device = record { ram = ram; device = x.memory.device } in
       let F : ℕ → Moved × Memory Device → Outcome × World n Device = λ p q. transfer_ends n p t rd c q.0 q.1 in
-      ap (λ b. F (address_of n c rs1 o) (moves board mmu (address_of n c rs1 o) (record { user = not b; kind = data_kind (writes_memory t) }) t (sent (reg_of n c.regs) t rd) memory)) h.shows.control.user
+      ap (λ b. F (address_of n c rs1 o)
+      (moves board mmu (address_of n c rs1 o) (record { user = not b; kind = data_kind (writes_memory t) }) t
+      (sent (reg_of n c.regs) t rd) memory)) h.shows.control.user
       ∙ ap (λ p. F p (moves board mmu p (access_by_user (writes_memory t)) t (sent (reg_of n c.regs) t rd) memory)) place
       ∙ ap (λ w. F a (moves board mmu a (access_by_user (writes_memory t)) t w memory)) value
       ∙ ap (λ k. F a (move_through board (access_by_user (writes_memory t)) t v memory k)) walk
@@ -154,7 +157,8 @@ module _ (n : ℕ) (parts : Parts) (mmu : MmuRegs) (x : World n Device) (s : Sta
       next board n mmu x ≡ (turn_of n c Ran (Some (word n parts mmu x s r i h)) (Some (access pa)), world n (taken n c t rd number) new x.memory.device)
   turned pa entry number new whole walk answer =
       let to = world n (taken n c t rd number) new x.memory.device in
-      user_runs n (pages_of parts) parts.words mmu x i (user n parts mmu x s r i h) op (Some (access pa)) to is (calm_transfer n c t rd rs1 o a place whole pair) (moved pa entry number new walk answer)
+      user_runs n (pages_of parts) parts.words mmu x i (user n parts mmu x s r i h) op (Some (access pa)) to is
+      (calm_transfer n c t rd rs1 o a place whole pair) (moved pa entry number new walk answer)
       ∙ ap (λ e. (turn_of n c (ran_event e) (Some (word n parts mmu x s r i h)) (Some (access pa)), to)) h.shows.device.running
 
   -- both machines, from what is shown once the number has gone out
@@ -165,7 +169,9 @@ module _ (n : ℕ) (parts : Parts) (mmu : MmuRegs) (x : World n Device) (s : Sta
   ends pa entry number new mid whole walk answer own goes shown small = by_free (is_stack_pointer (received t rd number)) refl
     where
       by_free : (b : Bool) → is_stack_pointer (received t rd number) ≡ b → OneTurn n parts mmu x s op r
-      by_free true e = absurd (fails_not n parts mmu x s r i h op is admitted good StackPointer (goes ∙ ap (λ (b : Bool). if b then Fails StackPointer else Goes (advanced (with_regs (received t rd number) mid))) e))
+      by_free true e =
+          absurd (fails_not n parts mmu x s r i h op is admitted good StackPointer
+          (goes ∙ ap (λ (b : Bool). if b then Fails StackPointer else Goes (advanced (with_regs (received t rd number) mid))) e))
       by_free false e =
           let regs = board_with_regs n c.regs (received t rd number) in
           let same : board_with_regs n c.regs (received t rd (brought t number)) ≡ regs = ap (board_with_regs n c.regs) (received_brought t rd number) in
@@ -178,7 +184,11 @@ module _ (n : ℕ) (parts : Parts) (mmu : MmuRegs) (x : World n Device) (s : Sta
             word = word n parts mmu x s r i h;
             access = Some (access pa);
             new = world n (record { regs = regs; control = board_advanced c.control }) new x.memory.device;
-            turn = turned pa entry (brought t number) new whole walk answer ∙ ap (λ g. (turn_of n c Ran (Some (word n parts mmu x s r i h)) (Some (access pa)), world n (record { regs = g; control = board_advanced c.control }) new x.memory.device)) same;
+            turn = turned pa entry (brought t number) new whole walk answer
+                ∙ ap (λ g. (
+                  turn_of n c Ran (Some (word n parts mmu x s r i h)) (Some (access pa)),
+                  world n (record { regs = g; control = board_advanced c.control }) new x.memory.device,
+                )) same;
             reaches = own;
             shows = next_shows n parts (world n (record c { regs = regs }) new x.memory.device) (with_regs (received t rd number) mid) r there;
           }
@@ -192,7 +202,8 @@ module _ (n : ℕ) (parts : Parts) (mmu : MmuRegs) (x : World n Device) (s : Sta
   data_walk p =
       let high = p.high in
       let most = h.fits.pages in
-      walk_at (pages_of parts) ram mmu a (access_by_user (writes_memory t)) (data_area a) (if p.right then 1 else 0) (data_entry_place a) (marks n parts mmu x s r i h).loaded.tables (pages_few parts) h.root (omega arith)
+      walk_at (pages_of parts) ram mmu a (access_by_user (writes_memory t)) (data_area a) (if p.right then 1 else 0) (data_entry_place a)
+      (marks n parts mmu x s r i h).loaded.tables (pages_few parts) h.root (omega arith)
       (data_at parts a (writes_memory t) h.fits p) (may_move (writes_memory t) p.right p.may)
 
   -- what is shown once the number has gone out
@@ -201,7 +212,8 @@ module _ (n : ℕ) (parts : Parts) (mmu : MmuRegs) (x : World n Device) (s : Sta
   data_left mid number false e found shown = rw e shown
   data_left mid number true e found shown = rw e (data_stored_shows n parts (world n c mid x.memory.device) s r a number v size h.fits shown found (sent_byte (reg s) t rd))
 
-  in_data : (number : ℕ) → (a % bytes_in size == 0) ≡ true → slot_of t s a ≡ None → in_one_region parts.regions a (bytes_in size) (writes_memory t) ≡ true → number_at s.memory a (bytes_in size) ≡ Some number → OneTurn n parts mmu x s op r
+  in_data : (number : ℕ) → (a % bytes_in size == 0) ≡ true → slot_of t s a ≡ None → in_one_region parts.regions a (bytes_in size) (writes_memory t) ≡ true →
+      number_at s.memory a (bytes_in size) ≡ Some number → OneTurn n parts mmu x s op r
   in_data number whole none lies is_number =
       let p = is_reached parts a (bytes_in size) (writes_memory t) (some_bytes size) lies in
       let low = p.low in
@@ -217,7 +229,8 @@ module _ (n : ℕ) (parts : Parts) (mmu : MmuRegs) (x : World n Device) (s : Sta
       ∙ ap (λ q. transfers_data t rd a q s) (found_is lies ∙ is_number) in
       ends (data_area a) (data_entry_place a) number (left t (marked (data_entry_place a)) (data_area a) v) (leaves_in_data t a v s) whole (data_walk p)
       (answers_ram (marked (data_entry_place a)) x.memory.device (data_area a) v number (in_ram (data_area a) (omega arith)) t there)
-      (data_own parts a (writes_memory t) p) goes (data_left (marked (data_entry_place a)) number (writes_memory t) refl is_number shown) (number_fits parts s.memory x.memory.ram a number size h.shows.bytes is_number)
+      (data_own parts a (writes_memory t) p) goes (data_left (marked (data_entry_place a)) number (writes_memory t) refl is_number shown)
+      (number_fits parts s.memory x.memory.ram a number size h.shows.bytes is_number)
 
   -- ---- in a slot
 
@@ -275,7 +288,8 @@ module _ (n : ℕ) (parts : Parts) (mmu : MmuRegs) (x : World n Device) (s : Sta
       let m = stack_marks n parts x.memory.ram ram a (writes_memory t) h.fits (marks n parts mmu x s r i h) low high in
       let shown = marked_shows n parts x s r (marked (stack_entry_place a)) h.shows m in
       let word_there : entry_of (marked (stack_entry_place a)) (area_of a) ≡ Some old = (shown.slots 0 a old (omega arith) held).there in
-      let number : board_number (marked (stack_entry_place a)) (area_of a) size ≡ Some old = subst (λ z. board_number (marked (stack_entry_place a)) (area_of a) z ≡ Some old) (sym which.0) word_there in
+      let number : board_number (marked (stack_entry_place a)) (area_of a) size ≡ Some old =
+      subst (λ z. board_number (marked (stack_entry_place a)) (area_of a) z ≡ Some old) (sym which.0) word_there in
       let small : old < limit_of size = subst (λ z. old < limit_of z) (sym which.0) (h.shows.stack (area_of a) old (omega arith) p.there) in
       let goes : does parts still op s ≡ takes (received t rd old) (leaves_in_slot t a v s) =
       ap (λ (b : Bool). if b then transfers_in parts t rd a (slot_of t s a) s else Fails Misaligned) whole
@@ -291,7 +305,8 @@ module _ (n : ℕ) (parts : Parts) (mmu : MmuRegs) (x : World n Device) (s : Sta
       absurd (fails_not n parts mmu x s r i h op is admitted good OutsideData
       (ap (λ (b : Bool). if b then transfers_in parts t rd a (slot_of t s a) s else Fails Misaligned) whole ∙ ap (λ p. transfers_in parts t rd a p s) e ∙ ap (λ p. transfers_data t rd a p s) f))
 
-  by_place : (p q : Option ℕ) (lies : Bool) → (a % bytes_in size == 0) ≡ true → slot_of t s a ≡ p → number_at s.memory a (bytes_in size) ≡ q → in_one_region parts.regions a (bytes_in size) (writes_memory t) ≡ lies → OneTurn n parts mmu x s op r
+  by_place : (p q : Option ℕ) (lies : Bool) → (a % bytes_in size == 0) ≡ true → slot_of t s a ≡ p → number_at s.memory a (bytes_in size) ≡ q →
+      in_one_region parts.regions a (bytes_in size) (writes_memory t) ≡ lies → OneTurn n parts mmu x s op r
   by_place (Some old) q lies whole e f g = in_slot old whole e
   by_place None (Some number) true whole e f g = in_data number whole e g f
   by_place None None true whole e f g = outside whole e (found_is g ∙ f)

@@ -27,7 +27,8 @@ use Rattle.sbx_shows.proofs.Distances.{below_is, same_distance, window_above}
 use Rattle.sbx_shows.proofs.Places.{room as code_within, user}
 use Rattle.sbx_shows.proofs.Stacks.{handled_own}
 
-module _ (n : ℕ) (parts : Parts) (mmu : MmuRegs) (x : World n Device) (s : State) (i : ℕ) (stands : Stands n parts mmu x s 1 i) (f : Three) (is : AsksFor parts.words i (Restore f)) (caller : 2 ≤ depth s.registers) where
+module _ (n : ℕ) (parts : Parts) (mmu : MmuRegs) (x : World n Device) (s : State) (i : ℕ) (stands : Stands n parts mmu x s 1 i) (f : Three)
+    (is : AsksFor parts.words i (Restore f)) (caller : 2 ≤ depth s.registers) where
   abbrev h : Shows n parts x s 1
   h = stands.shows
 
@@ -105,7 +106,8 @@ module _ (n : ℕ) (parts : Parts) (mmu : MmuRegs) (x : World n Device) (s : Sta
   outs_there (suc (suc (suc k))) j less small = absurd (omega arith)
 
   locals_there : (k j : ℕ) → k < 2 → 8 ≤ j → j < 16 → word_at end.cpu.regs (window n end.cpu.regs.current k) j ≡ cell s.registers k j
-  locals_there zero j less low high = let few = h.file.few in window_kept 0 j (omega arith) (λ e. absurd (omega arith)) (λ e. low) (λ e. absurd (omega arith)) ∙ h.calls.locals 0 j (omega arith) low high
+  locals_there zero j less low high = let few = h.file.few in
+      window_kept 0 j (omega arith) (λ e. absurd (omega arith)) (λ e. low) (λ e. absurd (omega arith)) ∙ h.calls.locals 0 j (omega arith) low high
   locals_there (suc zero) j less low high =
       let back : 8 + (j - 8) ≡ j = omega arith in
       ap (λ q. word_at end.cpu.regs (window n q 1) j) refilled.cpu.current
@@ -160,7 +162,21 @@ module _ (n : ℕ) (parts : Parts) (mmu : MmuRegs) (x : World n Device) (s : Sta
   control =
       let a = h.control in
       subst (λ (k : Control). ShowsControl k s) (sym refilled.cpu.control)
-      (record { pc = a.pc; npc = a.npc; npc_word = a.npc_word; npc_whole = a.npc_whole; annul = a.annul; icc = a.icc; y = a.y; y_word = a.y_word; user = a.user; traps = a.traps; sane = a.sane; table = a.table })
+      (record {
+        pc = a.pc;
+        npc = a.npc;
+        npc_word = a.npc_word;
+        npc_whole = a.npc_whole;
+        annul = a.annul;
+        icc = a.icc;
+        y = a.y;
+        y_word = a.y_word;
+        user =
+            a.user;
+        traps = a.traps;
+        sane = a.sane;
+        table = a.table;
+      })
 
   pub underflow_shows : Shows n parts end s 2
   underflow_shows =

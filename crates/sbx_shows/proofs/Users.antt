@@ -37,14 +37,16 @@ pub record OnlyMarks (n : ℕ) (parts : Parts) (old new : List ℕ) : Type 0 whe
   pub marks : OwnMarks parts new
 
 -- a fetch of the code word i
-pub fetch_marks : (n : ℕ) (parts : Parts) (ram : List ℕ) (i : ℕ) → IsLoaded n (pages_of parts) parts.words ram → OwnMarks parts ram → i < 1024 * (pages_of parts).code_count → OnlyMarks n parts ram (code_marked i ram)
+pub fetch_marks : (n : ℕ) (parts : Parts) (ram : List ℕ) (i : ℕ) → IsLoaded n (pages_of parts) parts.words ram → OwnMarks parts ram →
+    i < 1024 * (pages_of parts).code_count → OnlyMarks n parts ram (code_marked i ram)
 fetch_marks n parts ram i loaded own within = record {
   same = marked_same ram (CODE_TABLE + 4 * (i / 1024)) (0x1012 + 0x100 * (i / 1024)) false (code_markable (pages_of parts) ram loaded.tables (pages_few parts) (i / 1024) (omega arith));
   loaded = code_kept n (pages_of parts) parts.words ram (pages_few parts) loaded i within;
   marks = code_own n parts ram i loaded within own;
 }
 
-pub runs_user : (n : ℕ) (parts : Parts) (mmu : MmuRegs) (x : World n Device) (s : State) (r i : ℕ) → Shows n parts x s r → root_of mmu ≡ CONTEXT_TABLE → s.annulled ≡ false → s.pc ≡ CODE_START + 4 * i → i < 1024 * (pages_of parts).code_count → RunsUser n (pages_of parts) parts.words mmu x i
+pub runs_user : (n : ℕ) (parts : Parts) (mmu : MmuRegs) (x : World n Device) (s : State) (r i : ℕ) → Shows n parts x s r → root_of mmu ≡ CONTEXT_TABLE →
+    s.annulled ≡ false → s.pc ≡ CODE_START + 4 * i → i < 1024 * (pages_of parts).code_count → RunsUser n (pages_of parts) parts.words mmu x i
 runs_user n parts mmu x s r i h root straight at within =
     record {
       file = h.file;
@@ -73,7 +75,21 @@ next_word p = omega arith
 -- on to the next instruction
 pub control_moved : (c : Control) (s : State) (f : Icc) (y : ℕ) → ShowsControl c s → y < 2 ^ 32 → ShowsControl (moved_on c f y) (advanced (record s { icc = f; y = y }))
 control_moved c s f y a small =
-    record { pc = a.npc; npc = ap following a.npc; npc_word = next_word c.npc; npc_whole = next_whole c.npc a.npc_whole; annul = a.annul; icc = refl; y = refl; y_word = small; user = a.user; traps = a.traps; sane = a.sane; table = a.table }
+    record {
+      pc = a.npc;
+      npc = ap following a.npc;
+      npc_word = next_word c.npc;
+      npc_whole = next_whole c.npc a.npc_whole;
+      annul = a.annul;
+      icc = refl;
+      y =
+          refl;
+      y_word = small;
+      user = a.user;
+      traps = a.traps;
+      sane = a.sane;
+      table = a.table;
+    }
 
 pub device_kept : (d : Device) (s t : State) → s.input ≡ t.input → s.output ≡ t.output → ShowsDevice d s → ShowsDevice d t
 device_kept d s t i o a = record { running = a.running; input = a.input ∙ i; ended = λ e. sym i ∙ a.ended e; bytes = subst AreBytes i a.bytes; output = a.output ∙ o }
@@ -114,7 +130,22 @@ module _ (n : ℕ) (parts : Parts) where
         slots = slots_same x.memory.ram s.registers (written rd v s.registers) same h.slots;
         stack = h.stack;
         bytes = h.bytes;
-        control = record { pc = h.control.pc; npc = h.control.npc; npc_word = h.control.npc_word; npc_whole = h.control.npc_whole; annul = h.control.annul; icc = h.control.icc; y = h.control.y; y_word = h.control.y_word; user = h.control.user; traps = h.control.traps; sane = h.control.sane; table = h.control.table };
+        control = record {
+          pc = h.control.pc;
+          npc = h.control.npc;
+          npc_word = h.control.npc_word;
+          npc_whole = h.control.npc_whole;
+          annul =
+              h.control.annul;
+          icc = h.control.icc;
+          y = h.control.y;
+          y_word = h.control.y_word;
+          user = h.control.user;
+          traps = h.control.traps;
+          sane =
+              h.control.sane;
+          table = h.control.table;
+        };
         device = device_kept x.memory.device s (flat_with_reg rd v s) refl refl h.device;
         going = h.going;
         loaded = h.loaded;
@@ -154,10 +185,25 @@ module _ (n : ℕ) (parts : Parts) where
       let c = x.cpu.control in
       let a = h.control in
       control_shows x s r s.npc (following s.npc) s.annulled s.icc s.y (board_advanced c) h
-      (record { pc = a.npc; npc = ap following a.npc; npc_word = next_word c.npc; npc_whole = next_whole c.npc a.npc_whole; annul = a.annul; icc = a.icc; y = a.y; y_word = a.y_word; user = a.user; traps = a.traps; sane = a.sane; table = a.table })
+      (record {
+        pc = a.npc;
+        npc = ap following a.npc;
+        npc_word = next_word c.npc;
+        npc_whole = next_whole c.npc a.npc_whole;
+        annul = a.annul;
+        icc = a.icc;
+        y =
+            a.y;
+        y_word = a.y_word;
+        user = a.user;
+        traps = a.traps;
+        sane = a.sane;
+        table = a.table;
+      })
 
   -- a register written, with codes and Y, and on to the next instruction
-  pub write_shows : (x : World n Device) (s : State) (r rd v : ℕ) (f : Icc) (y : ℕ) (ram : List ℕ) → Shows n parts x s r → OnlyMarks n parts x.memory.ram ram → rd < 32 → rd ≢ 14 → rd ≢ 30 → v < 2 ^ 32 → y < 2 ^ 32 →
+  pub write_shows : (x : World n Device) (s : State) (r rd v : ℕ) (f : Icc) (y : ℕ) (ram : List ℕ) → Shows n parts x s r → OnlyMarks n parts x.memory.ram ram →
+      rd < 32 → rd ≢ 14 → rd ≢ 30 → v < 2 ^ 32 → y < 2 ^ 32 →
       Shows n parts (world n (record { regs = with_reg n x.cpu.regs rd v; control = moved_on x.cpu.control f y }) ram x.memory.device) (advanced (flat_with_reg rd v (record s { icc = f; y = y }))) r
   write_shows x s r rd v f y ram h m low sp fp small word =
       let marked = marked_shows x s r ram h m in

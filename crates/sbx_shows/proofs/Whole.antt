@@ -10,7 +10,8 @@ use Rattle.v8_core.specs.Trap.{Trap}
 use Rattle.v8_core.specs.Admitted.{is_admitted, is_immediate}
 use Rattle.v8_core.specs.Operands.{is_always}
 use Rattle.v8_core.specs.Operation.{Operation}
-use Rattle.v8_core.specs.Operation.TheVariants.{BranchOnCondition, Call, Compute, Coprocessor, Divide, FloatingPoint, Illegal, JumpAndLink, Nothing, ReadState, ReadY, Restore, ReturnFromTrap, Save, SetHigh, TaggedTrap, TrapOnCondition, WriteState, WriteY}
+use Rattle.v8_core.specs.Operation.TheVariants.{BranchOnCondition, Call, Compute, Coprocessor, Divide, FloatingPoint, Illegal, JumpAndLink, Nothing, ReadState}
+use Rattle.v8_core.specs.Operation.TheVariants.{ReadY, Restore, ReturnFromTrap, Save, SetHigh, TaggedTrap, TrapOnCondition, WriteState, WriteY}
 use Rattle.v8_core.specs.Operation.TheVariants as operation
 use Rattle.v8_core.specs.MmuRegs.{MmuRegs}
 use Rattle.v8_core.specs.Accesses.{World}
@@ -53,7 +54,8 @@ called c r (Immediate k) h =
     let none : r ≡ 0 = grind (arith, nat_tests) in
     record {
       number = k;
-      is = ap (λ (d : Cond). record { cond = d; rs1 = r; operand2 = Immediate k }) (always_is c (and_one (is_always c) (r == 0) h)) ∙ ap (λ q. record { cond = Always; rs1 = q; operand2 = Immediate k }) none;
+      is = ap (λ (d : Cond). record { cond = d; rs1 = r; operand2 = Immediate k }) (always_is c (and_one (is_always c) (r == 0) h))
+          ∙ ap (λ q. record { cond = Always; rs1 = q; operand2 = Immediate k }) none;
     }
   where
     and_one : (a b : Bool) → (a && b && true) ≡ true → a ≡ true
@@ -140,8 +142,11 @@ module _ (n : ℕ) (parts : Parts) (mmu : MmuRegs) (x : World n Device) (s : Sta
   by_operation (operation.Transfer t m) is may has = one (operation.Transfer t m) is (transfer_turn n parts mmu x s r i h good t m is may) (λ o u k. refl)
   by_operation (Save f) is may has =
       let next_one : suc r ≡ r + 1 = omega arith in
-      one_advances n parts mmu x s r i h (Save f) is may (r + 1) (subst (λ q. OneTurn n parts mmu x s (Save f) q) next_one (save_turn n parts mmu x s r i h f is good has)) (λ o u k. save_counts n r o u k f has)
-  by_operation (Restore f) is may has = one_advances n parts mmu x s r i h (Restore f) is may (r - 1) (restore_turn n parts mmu x s r i h f is good (omega arith)) (λ o u k. restore_counts n r o u k f (omega arith))
+      one_advances n parts mmu x s r i h (Save f) is may (r + 1)
+      (subst (λ q. OneTurn n parts mmu x s (Save f) q) next_one (save_turn n parts mmu x s r i h f is good has)) (λ o u k. save_counts n r o u k f has)
+  by_operation (Restore f) is may has =
+      one_advances n parts mmu x s r i h (Restore f) is may (r - 1) (restore_turn n parts mmu x s r i h f is good (omega arith))
+      (λ o u k. restore_counts n r o u k f (omega arith))
   by_operation (Call d) is may has = one (Call d) is (call_turn n parts mmu x s r i h good d is) (λ o u k. refl)
   by_operation (BranchOnCondition b) is may has = one (BranchOnCondition b) is (branch_turn n parts mmu x s r i h good b is) (λ o u k. refl)
   by_operation (JumpAndLink f) is may has = one (JumpAndLink f) is (jump_turn n parts mmu x s r i h good f is may) (λ o u k. refl)

@@ -45,7 +45,9 @@ unfolding cell
 cell_local rd x file zero j low high = ap (λ f. cell f zero j) (written_local rd x file low high) ∙ grind (arith, nat_tests)
 cell_local rd x file (suc k) j low high = ap (λ f. cell f (suc k) j) (written_local rd x file low high) ∙ grind (arith, nat_tests)
 
-ins_cell : (newest : Frame) (older : List Frame) (globals ins : Words) (rd x k j : ℕ) → 24 ≤ rd → rd < 32 → cell (with_in rd x (record { globals = globals; newest = newest; older = older; oldest_ins = ins })) k j ≡ (if (k == 1) && (j == rd - 24) then x else cell (record { globals = globals; newest = newest; older = older; oldest_ins = ins }) k j)
+ins_cell : (newest : Frame) (older : List Frame) (globals ins : Words) (rd x k j : ℕ) → 24 ≤ rd → rd < 32 →
+    cell (with_in rd x (record { globals = globals; newest = newest; older = older; oldest_ins = ins })) k j ≡
+    (if (k == 1) && (j == rd - 24) then x else cell (record { globals = globals; newest = newest; older = older; oldest_ins = ins }) k j)
 unfolding cell
 ins_cell newest [] globals ins rd x zero j low high = refl
 ins_cell newest [] globals ins rd x (suc zero) j low high = grind (arith, nat_tests)
@@ -75,10 +77,15 @@ flat_shape (suc rd) x file =
     elim first [
       | inl a ↦ let e = written_global (suc rd) x file (omega arith) a in (ap (λ (f : Registers). depth f) e, λ k b. ap (λ (f : Registers). slot f k b) e)
       | inr a ↦ elim second [
-        | inl b ↦ let e = written_out (suc rd) x file a b in (ap (λ (f : Registers). depth f) e, λ k b. ap (λ (f : Registers). slot f k b) e ∙ out_slot file (with_number file.newest.outs (suc rd) x) k b)
+        | inl b ↦ let e = written_out (suc rd) x file a b in
+            (ap (λ (f : Registers). depth f) e, λ k b. ap (λ (f : Registers). slot f k b) e ∙ out_slot file (with_number file.newest.outs (suc rd) x) k b)
         | inr b ↦ elim third [
-          | inl d ↦ let e = written_local (suc rd) x file b d in (ap (λ (f : Registers). depth f) e, λ k b. ap (λ (f : Registers). slot f k b) e ∙ local_slot file (with_number file.newest.locals (suc rd) x) k b)
-          | inr d ↦ let e = written_in (suc rd) x file d in (ap (λ (f : Registers). depth f) e ∙ (in_shape file.newest file.older file.globals file.oldest_ins (suc rd) x).0, λ k b. ap (λ (f : Registers). slot f k b) e ∙ (in_shape file.newest file.older file.globals file.oldest_ins (suc rd) x).1 k b)
+          | inl d ↦ let e = written_local (suc rd) x file b d in
+              (ap (λ (f : Registers). depth f) e, λ k b. ap (λ (f : Registers). slot f k b) e ∙ local_slot file (with_number file.newest.locals (suc rd) x) k b)
+          | inr d ↦ let e = written_in (suc rd) x file d in (
+            ap (λ (f : Registers). depth f) e ∙ (in_shape file.newest file.older file.globals file.oldest_ins (suc rd) x).0,
+            λ k b. ap (λ (f : Registers). slot f k b) e ∙ (in_shape file.newest file.older file.globals file.oldest_ins (suc rd) x).1 k b,
+          )
         ]
       ]
     ]
@@ -92,13 +99,15 @@ flat_shape (suc rd) x file =
     local_slot file locals (suc k) a = refl
 
     in_slot : (newest caller : Frame) (older : List Frame) (globals ins outs : Words) (k a : ℕ) →
-        slot (record { globals = globals; newest = newest; older = record caller { outs = outs } ∷ older; oldest_ins = ins }) k a ≡ slot (record { globals = globals; newest = newest; older = caller ∷ older; oldest_ins = ins }) k a
+        slot (record { globals = globals; newest = newest; older = record caller { outs = outs } ∷ older; oldest_ins = ins }) k a ≡
+        slot (record { globals = globals; newest = newest; older = caller ∷ older; oldest_ins = ins }) k a
     in_slot newest caller older globals ins outs zero a = refl
     in_slot newest caller older globals ins outs (suc zero) a = refl
     in_slot newest caller older globals ins outs (suc (suc k)) a = refl
 
     in_shape : (newest : Frame) (older : List Frame) (globals ins : Words) (rd x : ℕ) →
-        let file : Registers = record { globals = globals; newest = newest; older = older; oldest_ins = ins } in (depth (with_in rd x file) ≡ depth file) × ((k a : ℕ) → slot (with_in rd x file) k a ≡ slot file k a)
+        let file : Registers = record { globals = globals; newest = newest; older = older; oldest_ins = ins } in
+        (depth (with_in rd x file) ≡ depth file) × ((k a : ℕ) → slot (with_in rd x file) k a ≡ slot file k a)
     in_shape newest [] globals ins rd x = (refl, λ k a. refl)
     in_shape newest (caller ∷ older) globals ins rd x = (refl, λ k a. in_slot newest caller older globals ins (with_number caller.outs (rd - 16) x) k a)
 
@@ -149,7 +158,8 @@ same_calls rd x file less sp fp =
 
 -- ---- the board
 
-board_low : (n : ℕ) (v : Windows) (rd x k j : ℕ) → IsFile n v → k < n → 8 ≤ rd → rd < 24 → word_at (with_reg n v rd x) (window n v.current k) j ≡ (if (k == 0) && (j == rd - 8) then x else word_at v (window n v.current k) j)
+board_low : (n : ℕ) (v : Windows) (rd x k j : ℕ) → IsFile n v → k < n → 8 ≤ rd → rd < 24 →
+    word_at (with_reg n v rd x) (window n v.current k) j ≡ (if (k == 0) && (j == rd - 8) then x else word_at v (window n v.current k) j)
 board_low n v rd x k j f small low high =
     let few = f.few in
     let c = v.current in
@@ -159,7 +169,8 @@ board_low n v rd x k j f small low high =
     ∙ ap (λ (t : Bool). if (window n c k == (if t then c else above n c)) && (j == (if t then rd - 8 else rd - 24)) then x else word_at v (window n c k) j) test
     ∙ ap (λ (t : Bool). if t && (j == rd - 8) then x else word_at v (window n c k) j) here
 
-board_high : (n : ℕ) (v : Windows) (rd x k j : ℕ) → IsFile n v → k < n → 24 ≤ rd → rd < 32 → word_at (with_reg n v rd x) (window n v.current k) j ≡ (if (k == 1) && (j == rd - 24) then x else word_at v (window n v.current k) j)
+board_high : (n : ℕ) (v : Windows) (rd x k j : ℕ) → IsFile n v → k < n → 24 ≤ rd → rd < 32 →
+    word_at (with_reg n v rd x) (window n v.current k) j ≡ (if (k == 1) && (j == rd - 24) then x else word_at v (window n v.current k) j)
 board_high n v rd x k j f small low high =
     let few = f.few in
     let c = v.current in
@@ -170,7 +181,8 @@ board_high n v rd x k j f small low high =
     ∙ ap (λ (t : Bool). if t && (j == rd - 24) then x else word_at v (window n c k) j) here
 
 -- one cell, after the same write on both
-pub cell_shows : (n : ℕ) (v : Windows) (file : Registers) (rd x k j : ℕ) → IsFile n v → k < n → 8 ≤ rd → rd < 32 → word_at v (window n v.current k) j ≡ cell file k j → word_at (with_reg n v rd x) (window n v.current k) j ≡ cell (written rd x file) k j
+pub cell_shows : (n : ℕ) (v : Windows) (file : Registers) (rd x k j : ℕ) → IsFile n v → k < n → 8 ≤ rd → rd < 32 →
+    word_at v (window n v.current k) j ≡ cell file k j → word_at (with_reg n v rd x) (window n v.current k) j ≡ cell (written rd x file) k j
 cell_shows n v file rd x k j f small low high same =
     let first : (rd < 16) ⊎ (16 ≤ rd) = search arith in
     let second : (rd < 24) ⊎ (24 ≤ rd) = search arith in
@@ -202,12 +214,14 @@ flat_globals rd x file low =
       ]
     ]
   where
-    in_globals : (newest : Frame) (older : List Frame) (globals ins : Words) (rd x : ℕ) → (with_in rd x (record { globals = globals; newest = newest; older = older; oldest_ins = ins })).globals ≡ globals
+    in_globals : (newest : Frame) (older : List Frame) (globals ins : Words) (rd x : ℕ) →
+        (with_in rd x (record { globals = globals; newest = newest; older = older; oldest_ins = ins })).globals ≡ globals
     in_globals newest [] globals ins rd x = refl
     in_globals newest (caller ∷ older) globals ins rd x = refl
 
 -- a global
-global_calls : (n : ℕ) (v : Windows) (file : Registers) (r rd x : ℕ) → IsFile n v → ShowsCalls n v file r → 1 ≤ rd → rd < 8 → ShowsCalls n (record v { globals = slice_set v.globals rd x }) (record file { globals = with_number file.globals rd x }) r
+global_calls : (n : ℕ) (v : Windows) (file : Registers) (r rd x : ℕ) → IsFile n v → ShowsCalls n v file r → 1 ≤ rd → rd < 8 →
+    ShowsCalls n (record v { globals = slice_set v.globals rd x }) (record file { globals = with_number file.globals rd x }) r
 unfolding cell
 global_calls n v file r rd x f h low high = record {
   some = h.some;
@@ -255,13 +269,16 @@ window_calls n v file r rd x f h low high =
 
 -- a write of any register
 pub calls_written : (n : ℕ) (v : Windows) (file : Registers) (r rd x : ℕ) → IsFile n v → ShowsCalls n v file r → rd < 32 → ShowsCalls n (with_reg n v rd x) (written rd x file) r
-calls_written n v file r zero x f h less = subst (λ (u : Windows). ShowsCalls n u (written 0 x file) r) (sym (board_zero n v x)) (subst (λ (g : Registers). ShowsCalls n v g r) (sym (written_zero x file)) h)
+calls_written n v file r zero x f h less =
+    subst (λ (u : Windows). ShowsCalls n u (written 0 x file) r) (sym (board_zero n v x))
+    (subst (λ (g : Registers). ShowsCalls n v g r) (sym (written_zero x file)) h)
 calls_written n v file r (suc rd) x f h less =
     let split : (suc rd < 8) ⊎ (8 ≤ suc rd) = search arith in
     elim split [
       | inl low ↦
           subst (λ (u : Windows). ShowsCalls n u (written (suc rd) x file) r) (sym (board_global n v (suc rd) x (omega arith) low))
-          (subst (λ (g : Registers). ShowsCalls n (record v { globals = slice_set v.globals (suc rd) x }) g r) (sym (written_global (suc rd) x file (omega arith) low)) (global_calls n v file r (suc rd) x f h (omega arith) low))
+          (subst (λ (g : Registers). ShowsCalls n (record v { globals = slice_set v.globals (suc rd) x }) g r)
+          (sym (written_global (suc rd) x file (omega arith) low)) (global_calls n v file r (suc rd) x f h (omega arith) low))
       | inr high ↦ window_calls n v file r (suc rd) x f h high less
     ]
 

@@ -1,4 +1,5 @@
--- A step of the flat machine as turns of the board: what they count, what they may do, and what is shown at each moment.
+-- A step of the flat machine as turns of the board: what they count, what they may do, and what is shown at each
+-- moment.
 use Rattle.std.specs.Prelude.{ℕ, zero, suc, ◌≡◌, ◌⊎◌, ◌+◌, ◌-◌, ◌^◌, ◌<◌, ◌≤◌, true, None}
 use Rattle.v8_core.specs.MmuRegs.{MmuRegs}
 use Rattle.v8_core.specs.Accesses.{World}
@@ -33,10 +34,11 @@ more c k o u = record { turns = c.turns + k; overflows = c.overflows + o; underf
 abbrev pub IsMoment : (n : ℕ) → Parts → World n Device → State → Type 0
 IsMoment n parts x s = (x.cpu.control.s ≡ true) ⊎ ((r : ℕ) × Shows n parts x s r)
 
--- One step of the flat machine from a state with r calls in windows, and so many turns of the board, so many of which take the trap of
--- window overflow and of window underflow, as the window traffic of the step has it. Each turn is one that the image may make. Then
--- the next state is shown, so many of whose calls have windows, or both have ended.
-pub record Advances (n : ℕ) (parts : Parts) (mmu : MmuRegs) (x : World n Device) (s : State) (r count overflows underflows windows : ℕ) : Type 0 where
+-- One step of the flat machine from a state with r calls in windows, and so many turns of the board, so many of which
+-- take the trap of window overflow and of window underflow, as the window traffic of the step has it. Each turn is one
+-- that the image may make. Then the next state is shown, so many of whose calls have windows, or both have ended.
+pub record Advances (n : ℕ) (parts : Parts) (mmu : MmuRegs) (x : World n Device) (s : State)
+    (r count overflows underflows windows : ℕ) : Type 0 where
   pub next_state : State
   pub step : Step parts s next_state
   pub going : (k : ℕ) → k < count → ending_of n (after board n mmu k x) ≡ None
@@ -44,5 +46,8 @@ pub record Advances (n : ℕ) (parts : Parts) (mmu : MmuRegs) (x : World n Devic
   pub moments : (k : ℕ) → k < count → IsMoment n parts (after board n mmu k x) s
   pub counts : (c : Counts) → c.turns + count ≤ 2 ^ 64 - 1 → c.overflows ≤ c.turns → c.underflows ≤ c.turns →
       counts_by n mmu x count c ≡ more c count overflows underflows
-  pub traffic : (o u k : ℕ) → after_place parts n (place_of parts s) (so_many r o u k) ≡ so_many windows (o + overflows) (u + underflows) (k + count)
-  pub ends : Shows n parts (after board n mmu count x) next_state windows ⊎ ((status : ℕ) × Over n parts (after board n mmu count x) next_state status)
+  pub traffic : (o u k : ℕ) →
+      after_place parts n (place_of parts s) (so_many r o u k) ≡
+      so_many windows (o + overflows) (u + underflows) (k + count)
+  pub ends : Shows n parts (after board n mmu count x) next_state windows
+      ⊎ ((status : ℕ) × Over n parts (after board n mmu count x) next_state status)

@@ -21,7 +21,8 @@ use Rattle.sbx_shows.specs.Steps.{Stands}
 
 -- both machines read the same in each register
 abbrev pub ReadsTheSame : Type 0
-ReadsTheSame = (n : ℕ) (parts : Parts) (x : World n Device) (s : State) (r q : ℕ) → Shows n parts x s r → q < 32 → reg_of n x.cpu.regs q ≡ reg s q
+ReadsTheSame = (n : ℕ) (parts : Parts) (x : World n Device) (s : State) (r q : ℕ) → Shows n parts x s r → q < 32 →
+    reg_of n x.cpu.regs q ≡ reg s q
 
 -- an operation that needs no window but those that calls have: SAVE finds one free, and RESTORE's caller has one
 abbrev pub HasWindow : ℕ → ℕ → Operation → Type 0
@@ -41,8 +42,8 @@ turns_of (Save f) = 1
 turns_of (Restore f) = 1
 turns_of op = weight_of op
 
--- User code at a word that takes no window trap, where the flat machine does not fail: each operation keeps what is shown, a service
--- with its vector, and the one that exits ends both machines with the same exit word and output.
+-- User code at a word that takes no window trap, where the flat machine does not fail: each operation keeps what is
+-- shown, a service with its vector, and the one that exits ends both machines with the same exit word and output.
 abbrev pub UserTurnsKeep : Type 0
 UserTurnsKeep =
     (n : ℕ) (parts : Parts) (mmu : MmuRegs) (x : World n Device) (s : State) (r i : ℕ) (op : Operation) →
@@ -57,16 +58,16 @@ AnnulledTurnsKeep =
 
 -- ---- window traps
 
--- A SAVE where all windows but one have calls: window_overflow and the 23 turns of its handler, after which one call less has a window;
--- and the SAVE again.
+-- A SAVE where all windows but one have calls: window_overflow and the 23 turns of its handler, after which one call
+-- less has a window; and the SAVE again.
 abbrev pub SavesOverflow : Type 0
 SavesOverflow =
     (n : ℕ) (parts : Parts) (mmu : MmuRegs) (x : World n Device) (s : State) (r i : ℕ) (f : Three) →
     Stands n parts mmu x s r i → AsksFor parts.words i (Save f) → (IsWrong parts s → ⊥) → r + 1 ≡ n →
     ((turn_at board n mmu 0 x).event ≡ Trapped window_overflow) × Shows n parts (after board n mmu 24 x) s (r - 1) × Advances n parts mmu x s r 25 1 0 r
 
--- A RESTORE where one call has a window: window_underflow and the 23 turns of its handler, after which its caller has one; and the
--- RESTORE again. It may stand in a delay slot.
+-- A RESTORE where one call has a window: window_underflow and the 23 turns of its handler, after which its caller has
+-- one; and the RESTORE again. It may stand in a delay slot.
 abbrev pub RestoresUnderflow : Type 0
 RestoresUnderflow =
     (n : ℕ) (parts : Parts) (mmu : MmuRegs) (x : World n Device) (s : State) (i : ℕ) (f : Three) →

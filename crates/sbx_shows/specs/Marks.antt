@@ -9,8 +9,10 @@ use Rattle.sbx_flat.specs.Traffic.{is_own_code_page, is_own_data_page}
 abbrev pub is_own_page : Parts → ℕ → Bool
 is_own_page parts page = is_own_code_page parts page || is_own_data_page parts false page
 
--- Each entry of the tables of code, data and stack that has R (bit 5) is of a page that the image calls its own, and each that has M
--- (bit 6) is of one of its own data pages that may be written.
+-- Each entry of the tables of code, data and stack that has R (bit 5) is of a page that the image calls its own, and
+-- each that has M (bit 6) is of one of its own data pages that may be written.
 pub record OwnMarks (parts : Parts) (ram : List ℕ) : Type 0 where
-  pub referenced : (k : ℕ) → k < 192 → bit_of (entry_of ram (CODE_TABLE + 4 * k)) 5 ≡ 1 → is_own_page parts (CODE_START / PAGE + k) ≡ true
-  pub modified : (k : ℕ) → k < 192 → bit_of (entry_of ram (CODE_TABLE + 4 * k)) 6 ≡ 1 → is_own_data_page parts true (CODE_START / PAGE + k) ≡ true
+  pub referenced : (k : ℕ) → k < 192 → bit_of (entry_of ram (CODE_TABLE + 4 * k)) 5 ≡ 1 →
+      is_own_page parts (CODE_START / PAGE + k) ≡ true
+  pub modified : (k : ℕ) → k < 192 → bit_of (entry_of ram (CODE_TABLE + 4 * k)) 6 ≡ 1 →
+      is_own_data_page parts true (CODE_START / PAGE + k) ≡ true

@@ -1,5 +1,6 @@
 -- What a board with n windows shows of the flat machine, r of whose calls have windows of their own.
-use Rattle.std.specs.Prelude.{ℕ, suc, ◌≡◌, ◌+◌, ◌*◌, ◌%◌, ◌^◌, ◌<◌, ◌≤◌, true, false, List, [], length, slice_index, Some, None}
+use Rattle.std.specs.Prelude.{ℕ, suc, ◌≡◌, ◌+◌, ◌*◌, ◌%◌, ◌^◌, ◌<◌, ◌≤◌, true, false, List, [], length, slice_index}
+use Rattle.std.specs.Prelude.{Some, None}
 use Rattle.v8_core.specs.Ram.{entry_of}
 use Rattle.v8_core.specs.Windows.{Windows, IsFile, word_at}
 use Rattle.v8_core.specs.Control.{Control}
@@ -30,8 +31,8 @@ pub record Fits (parts : Parts) : Type 0 where
 abbrev pub window : ℕ → ℕ → ℕ → ℕ
 window n current k = (current + k) % n
 
--- The r newest calls lie in the windows from the current one on. WIM's one bit is that of the next window, whose outs are the ins
--- of the oldest of these calls.
+-- The r newest calls lie in the windows from the current one on. WIM's one bit is that of the next window, whose outs
+-- are the ins of the oldest of these calls.
 pub record ShowsCalls (n : ℕ) (v : Windows) (file : Registers) (r : ℕ) : Type 0 where
   pub some : 1 ≤ r
   pub most : r < n

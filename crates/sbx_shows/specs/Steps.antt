@@ -27,8 +27,10 @@ pub record Stands (n : ℕ) (parts : Parts) (mmu : MmuRegs) (x : World n Device)
   pub place : s.pc ≡ CODE_START + 4 * i
   pub within : i < length parts.words
 
--- One turn of the board, and a step of the flat machine by the same operation, for some fresh words; then so many calls have windows.
-pub record OneTurn (n : ℕ) (parts : Parts) (mmu : MmuRegs) (x : World n Device) (s : State) (op : Operation) (windows : ℕ) : Type 0 where
+-- One turn of the board, and a step of the flat machine by the same operation, for some fresh words; then so many calls
+-- have windows.
+pub record OneTurn (n : ℕ) (parts : Parts) (mmu : MmuRegs) (x : World n Device) (s : State) (op : Operation)
+    (windows : ℕ) : Type 0 where
   pub fresh : Fresh
   pub is_fresh : IsFresh fresh
   pub next_state : State

@@ -1,5 +1,6 @@
 -- What a turn of a run may do beside a state of the flat machine: which traps it takes, and what it touches.
-use Rattle.std.specs.Prelude.{ℕ, ◌≡◌, ◌⊎◌, ◌+◌, ◌-◌, ◌/◌, ◌<◌, ◌≤◌, ◌==◌, ◌||◌, ◌&&◌, nat_le, Bool, true, false, Option, Some, None}
+use Rattle.std.specs.Prelude.{ℕ, ◌≡◌, ◌⊎◌, ◌+◌, ◌-◌, ◌/◌, ◌<◌, ◌≤◌, ◌==◌, ◌||◌, ◌&&◌, nat_le, Bool, true, false, Option}
+use Rattle.std.specs.Prelude.{Some, None}
 use Rattle.v8_core.specs.Operation.{Operation}
 use Rattle.v8_core.specs.Operation.TheVariants.{Restore, Save}
 use Rattle.v8_core.specs.Transfers.{bytes_in}
@@ -49,12 +50,14 @@ moves_window _ = false
 abbrev pub StandsAtMove : Parts → State → Type 0
 StandsAtMove parts s = (word : ℕ) × (word_at parts.words s.pc ≡ Some word) × (moves_window (asked word) ≡ true)
 
--- A user turn stands in the image's code and reaches its data and its stack. A supervisor's stands in the pages of the trap table
--- and the window handlers, and reaches the device or, at a SAVE or a RESTORE alone, the 64 bytes of an open call.
+-- A user turn stands in the image's code and reaches its data and its stack. A supervisor's stands in the pages of the
+-- trap table and the window handlers, and reaches the device or, at a SAVE or a RESTORE alone, the 64 bytes of an open
+-- call.
 abbrev pub StaysBeside : Parts → State → Bool → ℕ → Option DataAccess → Type 0
 StaysBeside parts s true pc access = (is_own_code_page parts (pc / PAGE) ≡ true) × ReachesData parts access
 StaysBeside parts s false pc access =
-    (((pc / PAGE == TRAP_TABLE / PAGE) || (pc / PAGE == HANDLERS / PAGE)) ≡ true) × (ReachesDevice access ⊎ (StandsAtMove parts s × ReachesCall s.registers access))
+    (((pc / PAGE == TRAP_TABLE / PAGE) || (pc / PAGE == HANDLERS / PAGE)) ≡ true)
+    × (ReachesDevice access ⊎ (StandsAtMove parts s × ReachesCall s.registers access))
 
 -- a turn that fetched a word; an annulled turn fetches and reaches nothing
 abbrev pub StaysOnWord : Parts → State → Option ℕ → Bool → ℕ → Option DataAccess → Type 0

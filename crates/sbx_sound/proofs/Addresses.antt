@@ -42,7 +42,8 @@ pub record IsInData (regions : List Region) (a size : ℕ) (writes : Bool) : Typ
   pub multiple : a % size ≡ 0
 
 -- each word of a range that a region holds is an address there
-in_bounds : (regions : List Region) (size z : ℕ) (writes : Bool) (r : Range) → z < 2 ^ 32 → InInterval r z → holds regions r.lo (r.hi +ℤ pos size) writes ≡ true → in_one_region regions z size writes ≡ true
+in_bounds : (regions : List Region) (size z : ℕ) (writes : Bool) (r : Range) → z < 2 ^ 32 → InInterval r z →
+    holds regions r.lo (r.hi +ℤ pos size) writes ≡ true → in_one_region regions z size writes ≡ true
 in_bounds regions size z writes r small inside h =
     let low = (held_bounds regions r.lo (r.hi +ℤ pos size) writes h).0 in
     by_sign low inside.low inside.high (signed-word z small)
@@ -68,7 +69,8 @@ sum_is : (x y : ℕ) → (outcome ops.Add x y no_codes 0).value ≡ sum_address 
 unfolding outcome
 sum_is x y = (let e : sum x y false ≡ sum_address x y = omega arith in e)
 
-pub lies_in_data : (start : Cells) (parts : Parts) (f : Size) (writes : Bool) (a b : Option Entry) (x y : ℕ) → x < 2 ^ 32 → y < 2 ^ 32 → Has start a x → Has start b y → HasAlignment (range_of_entry a) x → HasAlignment (range_of_entry b) y
+pub lies_in_data : (start : Cells) (parts : Parts) (f : Size) (writes : Bool) (a b : Option Entry) (x y : ℕ) → x < 2 ^ 32 → y < 2 ^ 32 → Has start a x →
+    Has start b y → HasAlignment (range_of_entry a) x → HasAlignment (range_of_entry b) y
     → is_aligned_range (bytes_in f) (address_of a b) ≡ true → is_in_data parts (bytes_in f) writes (address_of a b) ≡ true → IsInData parts.regions (sum_address x y) (bytes_in f) writes
 lies_in_data start parts f writes None b x y p q r s u v aligned placed = absurd (cc)
 lies_in_data start parts f writes (Some a) None x y p q r s u v aligned placed = absurd (cc)

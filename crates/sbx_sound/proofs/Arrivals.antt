@@ -18,7 +18,8 @@ use Rattle.sbx_rules.specs.Operations.{is_call, is_framed, is_return}
 use Rattle.sbx_rules.specs.Fits.{Fits, HasAlignment, HasForm, HasInterval}
 use Rattle.sbx_rules.specs.Known.{Known, range_of_entry, form_of_entry}
 use Rattle.sbx_rules.specs.Forms.{form_value}
-use Rattle.sbx_rules.specs.Ways.{Next, Past, To, Visit, Way, after_call, after_word, budget_of_callee, cells_at, falls, falls_to, fuel_at, state_at, visits_after, visits_at, weight_of_place, weight_to}
+use Rattle.sbx_rules.specs.Ways.{Next, Past, To, Visit, Way, after_call, after_word, budget_of_callee, cells_at, falls, falls_to, fuel_at, state_at}
+use Rattle.sbx_rules.specs.Ways.{visits_after, visits_at, weight_of_place, weight_to}
 use Rattle.sbx_image.specs.Order.{address_of, function_at, words_in}
 use Rattle.sbx_rules.specs.Places.{IsPlace, callee_at, callee_before, callee_of, ends_run, op_at, op_before}
 use Rattle.sbx_sound.proofs.Running.{After, At, Follows, GoesTo, IsThere, IsVisit, bytes_of, left_to_all, straight_visit}
@@ -49,7 +50,13 @@ falls_within false words blocks b i e = by_words (nat_lt (i + 1) words) refl e
 
 pub next_there : (parts : Parts) (f b i : ℕ) → falls parts f b i ≡ Next → IsPlace parts f b i → IsPlace parts f b (suc i)
 unfolding falls
-next_there parts f b i e place = record { function = place.function; block = place.block; word = falls_within (ends_run (op_at parts f b i)) (words_in parts f b) (length (function_at parts f).blocks) b i e }
+next_there parts f b i e place =
+    record {
+      function = place.function;
+      block = place.block;
+      word =
+          falls_within (ends_run (op_at parts f b i)) (words_in parts f b) (length (function_at parts f).blocks) b i e;
+    }
 
 -- The words of the newest frame, codes, Y, memory, input and output as a word leaves them.
 pub record Left : Type 0 where
@@ -68,7 +75,8 @@ not_return (JumpAndLink j) h = absurd (cc)
 not_return _ h = refl
 
 module _ (parts : Parts) where
-  straight_after : (f b i : ℕ) (op : Operation) (here there : Known) → goes_straight op ≡ true → slice_get (visits_after parts f b i op here there) 0 ≡ Some (record { known = there; way = falls parts f b (suc i); annulled = false })
+  straight_after : (f b i : ℕ) (op : Operation) (here there : Known) → goes_straight op ≡ true →
+      slice_get (visits_after parts f b i op here there) 0 ≡ Some (record { known = there; way = falls parts f b (suc i); annulled = false })
   straight_after f b i (BranchOnCondition c) here there h = absurd (cc)
   straight_after f b i (JumpAndLink j) here there h = absurd (cc)
   straight_after f b i _ here there h = refl
@@ -187,7 +195,9 @@ module _ (parts : Parts) where
     eight = a.eight;
     room = a.room;
     stored = stored;
-    ledger = subst (λ t. (pos (w + weight_of (op_at parts f b i)) +ℤ ((form_value start (fuel_at parts f b) -ℤ pos t) +ℤ left_to_all parts k.calls)) ≤ℤ pos (budget parts)) (sym (weight_next f b i no_call))
+    ledger = subst
+        (λ t. (pos (w + weight_of (op_at parts f b i)) +ℤ ((form_value start (fuel_at parts f b) -ℤ pos t) +ℤ left_to_all parts k.calls)) ≤ℤ pos (budget parts))
+        (sym (weight_next f b i no_call))
         (one_word w (weight_of (op_at parts f b i)) (weight_to parts f b i) (budget parts) (form_value start (fuel_at parts f b)) (left_to_all parts k.calls) a.ledger);
   }
 
@@ -208,7 +218,8 @@ module _ (parts : Parts) where
     eight = a.eight;
     room = a.room;
     stored = a.stored;
-    ledger = subst (λ t. (pos (w + 1) +ℤ ((form_value start (fuel_at parts f b) -ℤ pos t) +ℤ left_to_all parts k.calls)) ≤ℤ pos (budget parts)) (sym (weight_next f b i no_call ∙ ap (λ x. weight_to parts f b i + x) light))
+    ledger = subst (λ t. (pos (w + 1) +ℤ ((form_value start (fuel_at parts f b) -ℤ pos t) +ℤ left_to_all parts k.calls)) ≤ℤ pos (budget parts))
+        (sym (weight_next f b i no_call ∙ ap (λ x. weight_to parts f b i + x) light))
         (one_word w 1 (weight_to parts f b i) (budget parts) (form_value start (fuel_at parts f b)) (left_to_all parts k.calls) a.ledger);
   }
 
@@ -251,7 +262,8 @@ module _ (parts : Parts) where
       → is_framed (function_at parts f).kind ≡ true → v.annulled ≡ false → base + (function_at parts f).frame ≡ k.base → base % 8 ≡ 0
       → transferred (function_at parts f).frame (op_at parts f 0 0) v.known ≡ saved v.known
       → At parts w k f 0 0 v start
-      → After parts (w + weight_of (op_at parts f 0 0)) (record k { pc = k.npc; npc = following k.npc; base = base; words = moved_in k.words }) f 0 0 (transferred (function_at parts f).frame (op_at parts f 0 0) v.known) v.way start
+      → After parts (w + weight_of (op_at parts f 0 0)) (record k { pc = k.npc; npc = following k.npc; base = base; words = moved_in k.words }) f 0 0
+      (transferred (function_at parts f).frame (op_at parts f 0 0) v.known) v.way start
   after_save w k f v start base framed runs below eight saves a = record {
     pc = a.npc;
     npc = refl;
@@ -268,6 +280,8 @@ module _ (parts : Parts) where
     eight = eight;
     room = a.room;
     stored = a.stored;
-    ledger = subst (λ t. (pos (w + weight_of (op_at parts f 0 0)) +ℤ ((form_value start (fuel_at parts f 0) -ℤ pos t) +ℤ left_to_all parts k.calls)) ≤ℤ pos (budget parts)) (sym (weight_next f 0 0 refl))
+    ledger = subst
+        (λ t. (pos (w + weight_of (op_at parts f 0 0)) +ℤ ((form_value start (fuel_at parts f 0) -ℤ pos t) +ℤ left_to_all parts k.calls)) ≤ℤ pos (budget parts))
+        (sym (weight_next f 0 0 refl))
         (one_word w (weight_of (op_at parts f 0 0)) (weight_to parts f 0 0) (budget parts) (form_value start (fuel_at parts f 0)) (left_to_all parts k.calls) a.ledger);
   }

@@ -13,12 +13,16 @@ use Rattle.sbx_rules.specs.Forms.{Form}
 use Rattle.sbx_rules.specs.Known.{Known}
 use Rattle.sbx_rules.specs.Transfer.{transferred}
 use Rattle.sbx_rules.specs.declared.cause.Cause.{Cause}
-use Rattle.sbx_rules.specs.declared.cause.Cause.TheVariants.{NotAdmitted, BadShape, BadBranch, BadCall, UndefinedRead, ReservedRegister, Misaligned, OutOfBounds, ZeroDivisor, TagOverflow, UndeclaredService, UnkeptCells, OutOfFuel, OutOfStack, UnkeptResults, BadEntry}
+use Rattle.sbx_rules.specs.declared.cause.Cause.TheVariants.{NotAdmitted, BadShape, BadBranch, BadCall, UndefinedRead, ReservedRegister, Misaligned}
+use Rattle.sbx_rules.specs.declared.cause.Cause.TheVariants.{OutOfBounds, ZeroDivisor, TagOverflow, UndeclaredService, UnkeptCells, OutOfFuel, OutOfStack}
+use Rattle.sbx_rules.specs.declared.cause.Cause.TheVariants.{UnkeptResults, BadEntry}
 use Rattle.sbx_rules.specs.Fuel.{IsWithinBudget}
 use Rattle.sbx_rules.specs.Operations.{access_of, is_call, is_framed, is_framed_return, is_restore, is_return, is_save, is_transfer, is_trap}
 use Rattle.sbx_image.specs.Order.{address_of, function_at, words_in}
 use Rattle.sbx_rules.specs.Places.{IsPlace, callee_at, callee_before, ends_run, op_at, op_before, service_asked}
-use Rattle.sbx_rules.specs.Rules.{Holds, branches_badly, enters_well, has_bad_shape, has_cells, has_outs, is_aligned_access, is_back, is_declared, is_entry, is_inner_edge, is_last, is_later, is_placed_access, lacks_room, may_divide_by_zero, may_overflow, misses_params, now, params_of, reads_undefined, room_of_callee, runs_with, same_test, suits, touches_reserved}
+use Rattle.sbx_rules.specs.Rules.{Holds, branches_badly, enters_well, has_bad_shape, has_cells, has_outs, is_aligned_access, is_back, is_declared, is_entry}
+use Rattle.sbx_rules.specs.Rules.{is_inner_edge, is_last, is_later, is_placed_access, lacks_room, may_divide_by_zero, may_overflow, misses_params, now}
+use Rattle.sbx_rules.specs.Rules.{params_of, reads_undefined, room_of_callee, runs_with, same_test, suits, touches_reserved}
 use Rattle.sbx_rules.specs.Verdicts.{Checked}
 use Rattle.sbx_rules.specs.Ways.{Visit, branch_way, fuel_at, state_at, visits_at}
 use Rattle.sbx_sound.proofs.Running.{IsVisit}
@@ -91,8 +95,10 @@ module _ (parts : Parts) (checked : Checked parts) (f b i : ℕ) (place : IsPlac
 
   pub has_shape : HasShape
   has_shape =
-      let e = eight (is_entry b i && not (enters_well function op)) (is_save op && not (is_entry b i && is_framed function.kind)) (not (same_test (is_framed_return before) (is_restore op))) (not (suits function.kind op))
-      (is_transfer before && (is_transfer op || is_trap op)) (is_transfer op && is_last parts f b i) (is_transfer before && not (is_call before) && not (is_last parts f b i)) (ends_run op && not (is_last parts f b i)) shape in
+      let e = eight (is_entry b i && not (enters_well function op)) (is_save op && not (is_entry b i && is_framed function.kind))
+      (not (same_test (is_framed_return before) (is_restore op))) (not (suits function.kind op))
+      (is_transfer before && (is_transfer op || is_trap op)) (is_transfer op && is_last parts f b i)
+      (is_transfer before && not (is_call before) && not (is_last parts f b i)) (ends_run op && not (is_last parts f b i)) shape in
       record { entry = e.0; save = e.1; restore = e.2; kind = e.3; slot = e.4; transfer = e.5; after_slot = e.6; after_exit = e.7 }
 
   pub enters : is_entry b i ≡ true → enters_well function op ≡ true
@@ -117,7 +123,10 @@ module _ (parts : Parts) (checked : Checked parts) (f b i : ℕ) (place : IsPlac
 
   -- V5
   pub calls_later : is_call op ≡ true → is_later parts f b i (callee_at parts f b i) ≡ true
-  calls_later h = undone (is_later parts f b i (callee_at parts f b i)) (and_denied (is_call op) (not (is_later parts f b i (callee_at parts f b i))) (no_way (is_call op && not (is_later parts f b i (callee_at parts f b i))) (none BadCall)) h)
+  calls_later h =
+      undone (is_later parts f b i (callee_at parts f b i))
+      (and_denied (is_call op) (not (is_later parts f b i (callee_at parts f b i)))
+      (no_way (is_call op && not (is_later parts f b i (callee_at parts f b i))) (none BadCall)) h)
 
   -- ---- V6 to V11, on each way on which the word runs
 
@@ -132,11 +141,14 @@ module _ (parts : Parts) (checked : Checked parts) (f b i : ℕ) (place : IsPlac
 
   pub reaches_aligned : (v : Visit) → IsVisit parts f b i v → v.annulled ≡ false → is_aligned_access (access_of function op v.known) ≡ true
   reaches_aligned v is runs = undone (is_aligned_access (access_of function op v.known))
-      (on_visit (λ d. not (is_aligned_access (access_of function op d))) (no_way (runs_with (λ d. not (is_aligned_access (access_of function op d))) (visits_at parts f b i)) (none Misaligned)) v is runs)
+      (on_visit (λ d. not (is_aligned_access (access_of function op d)))
+      (no_way (runs_with (λ d. not (is_aligned_access (access_of function op d))) (visits_at parts f b i)) (none Misaligned)) v is runs)
 
   pub reaches_placed : (v : Visit) → IsVisit parts f b i v → v.annulled ≡ false → is_placed_access parts function.frame (access_of function op v.known) ≡ true
   reaches_placed v is runs = undone (is_placed_access parts function.frame (access_of function op v.known))
-      (on_visit (λ d. not (is_placed_access parts function.frame (access_of function op d))) (no_way (runs_with (λ d. not (is_placed_access parts function.frame (access_of function op d))) (visits_at parts f b i)) (none OutOfBounds)) v is runs)
+      (on_visit (λ d. not (is_placed_access parts function.frame (access_of function op d)))
+      (no_way (runs_with (λ d. not (is_placed_access parts function.frame (access_of function op d))) (visits_at parts f b i))
+      (none OutOfBounds)) v is runs)
 
   pub divides_well : (v : Visit) → IsVisit parts f b i v → v.annulled ≡ false → may_divide_by_zero op v.known ≡ false
   divides_well = on_visit (may_divide_by_zero op) (no_way (runs_with (may_divide_by_zero op) (visits_at parts f b i)) (none ZeroDivisor))
@@ -167,7 +179,9 @@ module _ (parts : Parts) (checked : Checked parts) (f b i : ℕ) (place : IsPlac
 
   pub room_for_frame : is_entry b i ≡ true → function.frame ≤ function.stack_room
   room_for_frame h = no_less function.stack_room function.frame
-      (or_left (nat_lt function.stack_room function.frame) _ (and_denied (is_entry b i) _ (or_left _ (is_call op && nat_lt function.stack_room (function.frame + room_of_callee parts f b i (callee_at parts f b i))) room) h))
+      (or_left (nat_lt function.stack_room function.frame) _
+      (and_denied (is_entry b i) _
+      (or_left _ (is_call op && nat_lt function.stack_room (function.frame + room_of_callee parts f b i (callee_at parts f b i))) room) h))
 
   pub room_for_callee : is_call op ≡ true → function.frame + room_of_callee parts f b i (callee_at parts f b i) ≤ function.stack_room
   room_for_callee h = no_less function.stack_room (function.frame + room_of_callee parts f b i (callee_at parts f b i))
@@ -175,7 +189,11 @@ module _ (parts : Parts) (checked : Checked parts) (f b i : ℕ) (place : IsPlac
 
   pub room_of_the_stack : f ≡ 0 → is_entry b i ≡ true → function.stack_room + 64 ≤ 4096 * parts.stack_pages
   room_of_the_stack zero_is h = no_less (4096 * parts.stack_pages) (function.stack_room + 64)
-      (and_denied (f == 0) _ (or_right (nat_lt function.stack_room function.frame) _ (and_denied (is_entry b i) _ (or_left _ (is_call op && nat_lt function.stack_room (function.frame + room_of_callee parts f b i (callee_at parts f b i))) room) h)) (first f zero_is))
+      (and_denied (f == 0) _
+      (or_right (nat_lt function.stack_room function.frame) _
+      (and_denied (is_entry b i) _
+      (or_left _ (is_call op && nat_lt function.stack_room (function.frame + room_of_callee parts f b i (callee_at parts f b i))) room) h))
+      (first f zero_is))
     where
       first : (n : ℕ) → n ≡ 0 → (n == 0) ≡ true
       first n e = grind (arith, nat_tests)
@@ -195,7 +213,11 @@ module _ (parts : Parts) (checked : Checked parts) (f b i : ℕ) (place : IsPlac
   no_return h = or_right (is_entry b i && not (length function.params == 0)) (is_return op) (and_denied (f == 0) _ entry_rule h)
 
   pub no_params : (f == 0) ≡ true → is_entry b i ≡ true → length function.params ≡ 0
-  no_params h e = is_zero (length function.params) (undone (length function.params == 0) (and_denied (is_entry b i) (not (length function.params == 0)) (or_left (is_entry b i && not (length function.params == 0)) (is_return op) (and_denied (f == 0) _ entry_rule h)) e))
+  no_params h e =
+      is_zero (length function.params)
+      (undone (length function.params == 0)
+      (and_denied (is_entry b i) (not (length function.params == 0))
+      (or_left (is_entry b i && not (length function.params == 0)) (is_return op) (and_denied (f == 0) _ entry_rule h)) e))
     where
       is_zero : (n : ℕ) → (n == 0) ≡ true → n ≡ 0
       is_zero n x = grind (arith, nat_tests)

@@ -92,14 +92,21 @@ module _ (parts : Parts) (kept : parts_keep parts ≡ Ok tt) (typed : IsTyped pa
 
   comes_to : (f b i : ℕ) (start : Cells) → IsPlace parts f b i → InCells (state_at parts f b 0) start → HasVisit parts checked (ordered parts kept typed) (have_results parts kept typed) start f b i
   unfolding state_at
-  comes_to f b zero start place begun = record { visit = straight_visit parts f b 0; is_visit = is_straight_visit parts f b 0 refl; near = near_start (cells_at parts f b) start (cells_good parts kept typed f b) begun }
+  comes_to f b zero start place begun =
+      record {
+        visit = straight_visit parts f b 0;
+        is_visit = is_straight_visit parts f b 0 refl;
+        near =
+            near_start (cells_at parts f b) start (cells_good parts kept typed f b) begun;
+      }
   comes_to f b (suc i) start place begun =
       let here = comes_to f b i start (earlier f b i place) begun in
       let straight = before_straight parts checked (ordered parts kept typed) (have_results parts kept typed) f b i (earlier f b i place) (more_words (words_in parts f b) i place.word) in
       let same = visit_is_straight parts f b i here.visit straight here.is_visit in
       visit_then parts checked (ordered parts kept typed) (have_results parts kept typed) start f b i (subst (λ (v : Visit). HasNear start v.known) same here.near)
 
-  some_point : (f b i : ℕ) (start : Cells) → IsPlace parts f b i → InCells (state_at parts f b 0) start → HasVisit parts checked (ordered parts kept typed) (have_results parts kept typed) start f b i → Point parts
+  some_point : (f b i : ℕ) (start : Cells) → IsPlace parts f b i → InCells (state_at parts f b 0) start →
+      HasVisit parts checked (ordered parts kept typed) (have_results parts kept typed) start f b i → Point parts
   some_point f b i start place begun v = record {
     f = f;
     b = b;
@@ -123,7 +130,8 @@ module _ (parts : Parts) (kept : parts_keep parts ≡ Ok tt) (typed : IsTyped pa
   pub is_positive : IsPositive parts
   unfolding some_point
   is_positive f b i start place begun =
-      positive parts (lowest parts kept typed) bounded (on parts checked (ordered parts kept typed) (have_results parts kept typed)) (some_point f b i start place begun (comes_to f b i start place begun))
+      positive parts (lowest parts kept typed) bounded (on parts checked (ordered parts kept typed) (have_results parts kept typed))
+      (some_point f b i start place begun (comes_to f b i start place begun))
 
 pub fuel_stays_positive : FuelStaysPositive
 fuel_stays_positive parts formed checked = is_positive parts formed.kept formed.typed checked

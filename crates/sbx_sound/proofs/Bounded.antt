@@ -48,7 +48,8 @@ unfolding cell_entry
 named_entry [] l h = absurd (cc)
 named_entry (c ∷ cs) l h = by_test (c.location == l) h (named_entry cs l)
   where
-    by_test : (t : Bool) → (t || names_cell cs l) ≡ true → (names_cell cs l ≡ true → (e : Entry) × (cell_entry cs l ≡ Some e)) → (e : Entry) × ((if t then Some (entry_of_cell c) else cell_entry cs l) ≡ Some e)
+    by_test : (t : Bool) → (t || names_cell cs l) ≡ true → (names_cell cs l ≡ true → (e : Entry) × (cell_entry cs l ≡ Some e)) →
+        (e : Entry) × ((if t then Some (entry_of_cell c) else cell_entry cs l) ≡ Some e)
     by_test true h rest = (entry_of_cell c, refl)
     by_test false h rest = rest h
 
@@ -99,8 +100,11 @@ terms_low : (cells : List Cell) (start : Cells) → AllByRecursion IsGoodCell ce
 terms_low cells start good begun [] h = omega (arith, ints)
 terms_low cells start good begun (t ∷ ts) h = by_test (terms_low cells start good begun ts h.1) (names_cell cells t.location) refl
   where
-    by_test : pos 0 ≤ℤ (terms_value start (counted cells ts) +ℤ pos (length ts * (2 ^ 31 * 2 ^ 31))) → (b : Bool) → names_cell cells t.location ≡ b → pos 0 ≤ℤ (terms_value start (if b then form_term t ∷ counted cells ts else counted cells ts) +ℤ pos (suc (length ts) * (2 ^ 31 * 2 ^ 31)))
-    by_test rest true e = both_low (start t.location *ℤ t.coefficient) (terms_value start (counted cells ts)) (2 ^ 31 * 2 ^ 31) (length ts) (product_low (start t.location) t.coefficient (named_small cells start t.location good begun e) (coefficient_small t h.0)) rest
+    by_test : pos 0 ≤ℤ (terms_value start (counted cells ts) +ℤ pos (length ts * (2 ^ 31 * 2 ^ 31))) → (b : Bool) → names_cell cells t.location ≡ b →
+        pos 0 ≤ℤ (terms_value start (if b then form_term t ∷ counted cells ts else counted cells ts) +ℤ pos (suc (length ts) * (2 ^ 31 * 2 ^ 31)))
+    by_test rest true e =
+        both_low (start t.location *ℤ t.coefficient) (terms_value start (counted cells ts)) (2 ^ 31 * 2 ^ 31) (length ts)
+        (product_low (start t.location) t.coefficient (named_small cells start t.location good begun e) (coefficient_small t h.0)) rest
     by_test rest false e = more_low (terms_value start (counted cells ts)) (2 ^ 31 * 2 ^ 31) (length ts) rest
 
 -- ---- weights

@@ -40,7 +40,8 @@ find_block_is : (n address : ℕ) (bs : List Block) (m : ℕ) → find_block n a
 find_block_is n address [] m e = absurd (cc)
 find_block_is n address (b ∷ bs) m e = by_test (find_block_is (suc n) address bs m) (b.address == address) refl e
   where
-    by_test : (find_block (suc n) address bs ≡ Some m → FoundBlock (suc n) address m bs) → (t : Bool) → (b.address == address) ≡ t → (if t then Some n else find_block (suc n) address bs) ≡ Some m → FoundBlock n address m (b ∷ bs)
+    by_test : (find_block (suc n) address bs ≡ Some m → FoundBlock (suc n) address m bs) → (t : Bool) → (b.address == address) ≡ t →
+        (if t then Some n else find_block (suc n) address bs) ≡ Some m → FoundBlock n address m (b ∷ bs)
     by_test later true p q =
         let same = found_here n m q in
         let none : m - n ≡ 0 = omega arith in
@@ -56,7 +57,8 @@ find_block_is n address (b ∷ bs) m e = by_test (find_block_is (suc n) address 
 visit_first : (o : Option Known) (d : Known) (way : Way) (a : Bool) (rest : List Visit) → o ≡ Some d → slice_get (visit_if o way a ++ rest) 0 ≡ Some (record { known = d; way = way; annulled = a })
 visit_first o d way a rest e = ap (λ x. slice_get (visit_if x way a ++ rest) 0) e
 
-visit_last : (o p : Option Known) (d : Known) (way other : Way) (a b : Bool) → p ≡ Some d → (n : ℕ) × (slice_get (visit_if o other b ++ visit_if p way a) n ≡ Some (record { known = d; way = way; annulled = a }))
+visit_last : (o p : Option Known) (d : Known) (way other : Way) (a b : Bool) → p ≡ Some d →
+    (n : ℕ) × (slice_get (visit_if o other b ++ visit_if p way a) n ≡ Some (record { known = d; way = way; annulled = a }))
 visit_last None p d way other a b e = (0, ap (λ x. slice_get (visit_if x way a) 0) e)
 visit_last (Some c) p d way other a b e = (1, ap (λ x. slice_get (visit_if (Some c) other b ++ visit_if x way a) 1) e)
 
@@ -96,7 +98,9 @@ module _ (parts : Parts) where
 
   taken_follows : (f b i displacement : ℕ) → Follows parts f b (suc i) (branch_way parts f b i displacement) (target (address_of parts f b i) displacement)
   unfolding branch_way
-  taken_follows f b i displacement = way_follows f b (suc i) (target (address_of parts f b i) displacement) (find_block 0 (target (address_of parts f b i) displacement) (function_at parts f).blocks) refl
+  taken_follows f b i displacement =
+      way_follows f b (suc i) (target (address_of parts f b i) displacement)
+      (find_block 0 (target (address_of parts f b i) displacement) (function_at parts f).blocks) refl
 
   abbrev pub taken : Branch → ℕ → ℕ → ℕ → Known → Visit
   taken c f b i d = record { known = d; way = branch_way parts f b i c.displacement; annulled = c.annul && is_always c.cond }
@@ -109,14 +113,17 @@ module _ (parts : Parts) where
   taken_is c f b i d op e = (
     0,
     ap (λ o. slice_get (visits_after parts f b i o (state_at parts f b i) (state_at parts f b (suc i))) 0) op
-        ∙ visit_first (refined c.cond (state_at parts f b i)) d (branch_way parts f b i c.displacement) (c.annul && is_always c.cond) (untaken_visit c (falls parts f b (suc i)) (state_at parts f b i)) e,
+        ∙ visit_first (refined c.cond (state_at parts f b i)) d (branch_way parts f b i c.displacement) (c.annul && is_always c.cond)
+        (untaken_visit c (falls parts f b (suc i)) (state_at parts f b i)) e,
   )
 
-  pub untaken_is : (c : Branch) (f b i : ℕ) (d : Known) → op_at parts f b i ≡ BranchOnCondition c → is_always c.cond ≡ false → refined (opposite c.cond) (state_at parts f b i) ≡ Some d → IsVisit parts f b (suc i) (untaken c f b i d)
+  pub untaken_is : (c : Branch) (f b i : ℕ) (d : Known) → op_at parts f b i ≡ BranchOnCondition c → is_always c.cond ≡ false →
+      refined (opposite c.cond) (state_at parts f b i) ≡ Some d → IsVisit parts f b (suc i) (untaken c f b i d)
   unfolding visits_at
   untaken_is c f b i d op some e =
       let xs = taken_visit c (branch_way parts f b i c.displacement) (state_at parts f b i) in
-      let last = visit_last (refined c.cond (state_at parts f b i)) (refined (opposite c.cond) (state_at parts f b i)) d (falls parts f b (suc i)) (branch_way parts f b i c.displacement) c.annul (c.annul && is_always c.cond) e in (
+      let last = visit_last (refined c.cond (state_at parts f b i)) (refined (opposite c.cond) (state_at parts f b i)) d (falls parts f b (suc i))
+      (branch_way parts f b i c.displacement) c.annul (c.annul && is_always c.cond) e in (
         last.0,
         ap (λ o. slice_get (visits_after parts f b i o (state_at parts f b i) (state_at parts f b (suc i))) last.0) op
             ∙ ap (λ (t : Bool). slice_get (xs ++ (if t then [] else visit_if (refined (opposite c.cond) (state_at parts f b i)) (falls parts f b (suc i)) c.annul)) last.0) some ∙ last.1,
@@ -130,8 +137,11 @@ module _ (parts : Parts) where
     place = next_there parts f b i comes.next a.place;
     is_visit = taken_is c f b i r.known op r.is;
     pc = slot_at parts f b i w k start comes a;
-    npc = goes_plainly parts (is_call (op_at parts f b i)) (is_return (op_at parts f b i)) f b (suc i) (branch_way parts f b i c.displacement) k.calls (branched_shared c k).npc (ap is_call op) (ap is_return op)
-        (subst (Follows parts f b (suc i) (branch_way parts f b i c.displacement)) (sym (ap (λ (t : Bool). if t then target k.pc c.displacement else following k.npc) held ∙ ap (λ x. target x c.displacement) a.pc)) (taken_follows f b i c.displacement));
+    npc = goes_plainly parts (is_call (op_at parts f b i)) (is_return (op_at parts f b i)) f b (suc i) (branch_way parts f b i c.displacement) k.calls
+        (branched_shared c k).npc (ap is_call op) (ap is_return op)
+        (subst (Follows parts f b (suc i) (branch_way parts f b i c.displacement))
+        (sym (ap (λ (t : Bool). if t then target k.pc c.displacement else following k.npc) held ∙ ap (λ x. target x c.displacement) a.pc))
+        (taken_follows f b i c.displacement));
     annulled = taken_annuls c.annul (is_always c.cond) (holds c.cond k.icc) held;
     exit = a.exit;
     begun = a.begun;
@@ -155,7 +165,9 @@ module _ (parts : Parts) where
     is_visit = untaken_is c f b i r.known op (not_always c.cond k.icc held) r.is;
     pc = slot_at parts f b i w k start comes a;
     npc = goes_plainly parts (is_call (op_at parts f b i)) (is_return (op_at parts f b i)) f b (suc i) (falls parts f b (suc i)) k.calls (branched_shared c k).npc (ap is_call op) (ap is_return op)
-        (subst (Follows parts f b (suc i) (falls parts f b (suc i))) (sym (ap (λ (t : Bool). if t then target k.pc c.displacement else following k.npc) held ∙ ap following (slot_at parts f b i w k start comes a))) follows);
+        (subst (Follows parts f b (suc i) (falls parts f b (suc i)))
+        (sym (ap (λ (t : Bool). if t then target k.pc c.displacement else following k.npc) held
+        ∙ ap following (slot_at parts f b i w k start comes a))) follows);
     annulled = untaken_annuls c.annul (is_always c.cond) (holds c.cond k.icc) held;
     exit = a.exit;
     begun = a.begun;

@@ -62,32 +62,47 @@ record IsEdge (blocks : ℕ) (v : Visit) : Type 0 where
 
 module _ (parts : Parts) (checked : Checked parts) (ordered : IsOrdered parts) (results : HaveResults parts) where
   edge_of : (f b j : ℕ) (c : Branch) (v : Visit) → IsPlace parts f b (suc j) → op_at parts f b j ≡ BranchOnCondition c → IsVisit parts f b (suc j) v
-      → IsWay (refined c.cond (state_at parts f b j)) (branch_way parts f b j c.displacement) (c.annul && is_always c.cond) v ⊎ IsWay (refined (opposite c.cond) (state_at parts f b j)) (falls parts f b (suc j)) c.annul v
+      → IsWay (refined c.cond (state_at parts f b j)) (branch_way parts f b j c.displacement) (c.annul && is_always c.cond) v
+      ⊎ IsWay (refined (opposite c.cond) (state_at parts f b j)) (falls parts f b (suc j)) c.annul v
       → IsEdge (length (function_at parts f).blocks) v
   unfolding falls
   edge_of f b j c v place is visit (inl way) =
       let before : IsPlace parts f b j = record { function = place.function; block = place.block; word = (let h = place.word in omega (arith, h)) } in
       let to = branch_leads parts checked ordered results f b j c before is in
-      record { t = to.block; way_is = way.way_is ∙ to.way_is; some = inner_some (branch_way parts f b j c.displacement) to.block (branches_well parts checked f b j before c is) to.way_is; within = to.within }
+      record {
+        t = to.block;
+        way_is = way.way_is ∙ to.way_is;
+        some =
+            inner_some (branch_way parts f b j c.displacement) to.block (branches_well parts checked f b j before c is) to.way_is;
+        within = to.within;
+      }
   edge_of f b j c v place is visit (inr way) =
-      by_falls (falls_by (ends_run (op_at parts f b (suc j))) (words_in parts f b) (length (function_at parts f).blocks) b (suc j) (slot_is_plain parts checked f b j place (ap is_transfer is)).runs_on)
+      by_falls (falls_by (ends_run (op_at parts f b (suc j))) (words_in parts f b) (length (function_at parts f).blocks) b (suc j)
+      (slot_is_plain parts checked f b j place (ap is_transfer is)).runs_on)
     where
       after_slot : (o : Operation) → op_at parts f b j ≡ o → is_transfer o ≡ true → is_call o ≡ false → is_last parts f b (suc j) ≡ true
       after_slot o e transfers no_call =
-          undone (is_last parts f b (suc j)) (both (is_transfer (op_at parts f b j)) (is_call (op_at parts f b j)) (not (is_last parts f b (suc j))) (ap is_transfer e ∙ transfers) (ap is_call e ∙ no_call) (has_shape parts checked f b (suc j) place).after_slot)
+          undone (is_last parts f b (suc j))
+          (both (is_transfer (op_at parts f b j)) (is_call (op_at parts f b j)) (not (is_last parts f b (suc j))) (ap is_transfer e ∙ transfers)
+          (ap is_call e ∙ no_call) (has_shape parts checked f b (suc j) place).after_slot)
         where
           both : (x y z : Bool) → x ≡ true → y ≡ false → (x && not y && z) ≡ false → z ≡ false
           both true false z p q h = h
           both false y z p q h = absurd (cc)
           both true true z p q h = absurd (cc)
 
-      by_falls : FallsNext (words_in parts f b) (suc j) (falls parts f b (suc j)) ⊎ (FallsTo (length (function_at parts f).blocks) b (falls parts f b (suc j)) ⊎ (falls parts f b (suc j) ≡ Past)) → IsEdge (length (function_at parts f).blocks) v
+      by_falls : FallsNext (words_in parts f b) (suc j) (falls parts f b (suc j))
+          ⊎ (FallsTo (length (function_at parts f).blocks) b (falls parts f b (suc j)) ⊎ (falls parts f b (suc j) ≡ Past)) →
+          IsEdge (length (function_at parts f).blocks) v
       by_falls (inl n) = absurd (no_more (words_in parts f b) (suc j) (last_word (words_in parts f b) (suc j) (after_slot (BranchOnCondition c) is refl refl)) n.within)
       by_falls (inr (inl n)) = record { t = b + 1; way_is = way.way_is ∙ n.way_is; some = λ e. (let x : b + 1 ≡ 0 = e in omega arith); within = n.within }
       by_falls (inr (inr n)) = absurd (past_no v.way (way.way_is ∙ n) (goes_somewhere parts checked f b (suc j) place.function place.block place.word v visit))
 
-  pub branch_slots : parts.stack_pages ≤ 16 → PlainWordsDo parts → (w : ℕ) (k : Shared) (f b j : ℕ) (c : Branch) (v : Visit) (start : Cells) (at : At parts w k f b (suc j) v start) → op_at parts f b j ≡ BranchOnCondition c
-      → IsWay (refined c.cond (state_at parts f b j)) (branch_way parts f b j c.displacement) (c.annul && is_always c.cond) v ⊎ IsWay (refined (opposite c.cond) (state_at parts f b j)) (falls parts f b (suc j)) c.annul v
+  pub branch_slots : parts.stack_pages ≤ 16 → PlainWordsDo parts →
+      (w : ℕ) (k : Shared) (f b j : ℕ) (c : Branch) (v : Visit) (start : Cells) (at : At parts w k f b (suc j) v start) →
+      op_at parts f b j ≡ BranchOnCondition c
+      → IsWay (refined c.cond (state_at parts f b j)) (branch_way parts f b j c.displacement) (c.annul && is_always c.cond) v
+      ⊎ IsWay (refined (opposite c.cond) (state_at parts f b j)) (falls parts f b (suc j)) c.annul v
       → let p : Spot parts w = record { k = k; f = f; b = b; i = suc j; v = v; start = start; at = at } in
       Steps parts w p
   branch_slots pages does w k f b j c v start at is ways = by_annulled v.annulled refl
@@ -109,7 +124,8 @@ module _ (parts : Parts) (checked : Checked parts) (ordered : IsOrdered parts) (
       not_so true h = absurd (cc)
 
       no_restore : is_restore (op_at parts f b (suc j)) ≡ false
-      no_restore = not_so (is_restore (op_at parts f b (suc j))) (subst (λ o. same_test (is_framed_return o) (is_restore (op_at parts f b (suc j))) ≡ true) is (restores_in_slot parts checked f b (suc j) at.place))
+      no_restore = not_so (is_restore (op_at parts f b (suc j)))
+          (subst (λ o. same_test (is_framed_return o) (is_restore (op_at parts f b (suc j))) ≡ true) is (restores_in_slot parts checked f b (suc j) at.place))
 
       within : (is_framed (function_at parts f).kind && is_entry b (suc j)) ≡ false
       within = slot_inside (is_framed (function_at parts f).kind) b j
@@ -125,7 +141,8 @@ module _ (parts : Parts) (checked : Checked parts) (ordered : IsOrdered parts) (
       by_annulled : (t : Bool) → v.annulled ≡ t → Steps parts w (record { k = k; f = f; b = b; i = suc j; v = v; start = start; at = at })
       by_annulled true e =
           (let same = annulled_known v.annulled e in
-          annulled_slot parts w k f b (suc j) edge.t v start at e edge.way_is edge.some (ap is_call is) (ap is_return is) (weighs_one (op_at parts f b (suc j)) no_save no_restore (slot_keeps_on parts checked f b j at.place (ap is_transfer is)).1)
+          annulled_slot parts w k f b (suc j) edge.t v start at e edge.way_is edge.some (ap is_call is) (ap is_return is)
+          (weighs_one (op_at parts f b (suc j)) no_save no_restore (slot_keeps_on parts checked f b j at.place (ap is_transfer is)).1)
           (same_bytes (function_at parts f) b (suc j) within) (same_window (function_at parts f) b (suc j) edge.t 0 within (later_block edge.t 0 edge.some))
           (subst (λ d. has_cells d (cells_at parts f edge.t) ≡ true) same cells)
           (subst (λ d. IsPaid (state_at parts f b 0) (fuel_at parts f b) (weight_to parts f b (suc (suc j))) d (fuel_at parts f edge.t)) same paid)

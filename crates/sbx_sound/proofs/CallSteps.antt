@@ -67,7 +67,8 @@ module _ (parts : Parts) (f b j g : ℕ) where
       let file = shows.file in
       let less = starts_with_less parts d (cells_at parts g 0) true rules.params in
       let back : s.registers.newest.outs 15 ≡ address_of parts f b j = sym (read_out k.base s.registers 15 (omega arith) (omega arith)) ∙ file.words_are 15 (linked_test (is_defined d 15)) ∙ link in
-      let pushed = call_shows (tests parts d true).location (tests parts (started (cells_at parts g 0)) false).location left.words (opened parts f b j g k start left.words) k.calls s.registers less.location
+      let pushed = call_shows (tests parts d true).location (tests parts (started (cells_at parts g 0)) false).location left.words
+      (opened parts f b j g k start left.words) k.calls s.registers less.location
       (λ l h e. (high_test l (is_defined d l) h (ap (λ (o : Option Entry). is_some o) (sym (kept_entry parts f b j g rules l h)) ∙ e), refl)) back file in
       let rest = shows.rest in
       record {
@@ -94,7 +95,17 @@ module _ (parts : Parts) (f b j g : ℕ) where
       let p : Spot parts w = record { k = k; f = f; b = b; i = suc j; v = straight_visit parts f b (suc j); start = start; at = at } in
       let n = w + weight_of (op_at parts f b (suc j)) in
       let next_k = record (left_by d.left k) { calls = opened parts f b j g k start d.left.words ∷ k.calls } in
-      let next : Spot parts n = record { k = next_k; f = g; b = 0; i = 0; v = straight_visit parts g 0 0; start = numbers d.left.words; at = enters parts f b j g w k start d.left rules d.fits d.stored stays at } in
+      let next : Spot parts n =
+      record {
+        k = next_k;
+        f = g;
+        b = 0;
+        i = 0;
+        v = straight_visit parts g 0 0;
+        start = numbers d.left.words;
+        at =
+            enters parts f b j g w k start d.left rules d.fits d.stored stays at;
+      } in
       let link = linked_back w k (straight_visit parts f b (suc j)) start (d.left.words 15) rules.calls d.link at in
       let shown : (s : State) → Shows (window_of caller b (suc j)) (tests parts (in_slot parts f b j g) (is_call (op_at parts f b j))) (left_by d.left k) s → ShowsSpot parts n next s =
       λ s h. (let h1 = subst (λ x. Shows x (tests parts (in_slot parts f b j g) (is_call (op_at parts f b j))) (left_by d.left k) s) (own_window caller b j rules.framed) h in
@@ -135,7 +146,18 @@ module _ (parts : Parts) where
       let next_k = moved_to (target k.pc displacement) (linked k) in
       let n = w + weight_of o in
       let light : w + 1 ≡ n = ap (λ x. w + weight_of x) (sym op) in
-      let next : Spot parts n = record { k = next_k; f = f; b = b; i = suc i; v = straight_visit parts f b (suc i); start = start; at = subst (λ m. At parts m next_k f b (suc i) (straight_visit parts f b (suc i)) start) light (call_at parts w k f b i displacement g start op callee comes at) } in
+      let next : Spot parts n =
+      record {
+        k = next_k;
+        f = f;
+        b = b;
+        i = suc i;
+        v = straight_visit parts f b (suc i);
+        start = start;
+        at =
+            subst (λ m. At parts m next_k f b (suc i) (straight_visit parts f b (suc i)) start) light
+            (call_at parts w k f b i displacement g start op callee comes at);
+      } in
       let d = state_at parts f b i in
       let size = (function_at parts f).frame in
       let now : Known = linked_known d in
@@ -145,7 +167,10 @@ module _ (parts : Parts) where
       let h2 = subst (λ x. Shows (window_of (function_at parts f) b (suc i)) (tests parts x true) next_k s) (sym (called_known f b i displacement op comes.no_call)) h1 in
       subst (λ x. Shows (window_of (function_at parts f) b (suc i)) (tests parts (state_at parts f b (suc i)) x) next_k s) (sym (ap is_call op)) h2) in
       steps_by parts w p word refl None (λ s h. ap (λ x. reached_by x s) op) (inl next)
-      (λ fresh is_fresh s h. reaches_on _ _ _ shown (reaches_by _ (does parts fresh (Call displacement) s) _ (ap (λ x. does parts fresh x s) op) (call_reaches parts fresh size displacement (tests parts d (is_call (op_before parts f b i))) (tests parts now true) k s (linked_is_fewer d (is_call (op_before parts f b i))) (subst (λ x. Shows x (tests parts d (is_call (op_before parts f b i))) k s) own h))))
+      (λ fresh is_fresh s h. reaches_on _ _ _ shown
+      (reaches_by _ (does parts fresh (Call displacement) s) _ (ap (λ x. does parts fresh x s) op)
+      (call_reaches parts fresh size displacement (tests parts d (is_call (op_before parts f b i))) (tests parts now true) k s
+      (linked_is_fewer d (is_call (op_before parts f b i))) (subst (λ x. Shows x (tests parts d (is_call (op_before parts f b i))) k s) own h))))
     where
       same_window : (function : Function) (b i : ℕ) → ComesStraight parts f b i → window_of function b i ≡ Own function.frame → window_of function b i ≡ window_of function b (suc i)
       same_window function b i comes own = own ∙ sym (own_window function b i (framed_of (is_framed function.kind) own))

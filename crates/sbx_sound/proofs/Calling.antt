@@ -49,10 +49,14 @@ module _ (parts : Parts) (checked : Checked parts) (ordered : IsOrdered parts) (
           let words = n.held.words in
           let there = begins parts checked ordered results start (state_at parts f b (suc i)) f g.t n g.cells in
           let in_cells = near_in_cells (numbers words) (state_at parts f g.t 0) words n.held.icc n.held.y there in
-          let pays = edge_pays (state_at parts f b 0) (state_at parts f b (suc i)) (fuel_at parts f b) (fuel_at parts f g.t) (weight_to parts f b (suc i)) start words n.held.icc n.held.y g.paid begun n.near in
-          paid_left (form_value start (fuel_at parts f b)) (form_value (numbers words) (fuel_at parts f g.t)) (weight_to parts f b (suc i)) pays (positive f g.t 0 (numbers words) g.there.place in_cells))
+          let pays = edge_pays (state_at parts f b 0) (state_at parts f b (suc i)) (fuel_at parts f b) (fuel_at parts f g.t)
+          (weight_to parts f b (suc i)) start words n.held.icc n.held.y g.paid begun n.near in
+          paid_left (form_value start (fuel_at parts f b)) (form_value (numbers words) (fuel_at parts f g.t)) (weight_to parts f b (suc i)) pays
+          (positive f g.t 0 (numbers words) g.there.place in_cells))
 
-  pub call_slots : parts.stack_pages ≤ 16 → PlainWordsDo parts → (w : ℕ) (k : Shared) (f b j displacement : ℕ) (start : Cells) (at : At parts w k f b (suc j) (straight_visit parts f b (suc j)) start) → op_at parts f b j ≡ Call displacement
+  pub call_slots : parts.stack_pages ≤ 16 → PlainWordsDo parts →
+      (w : ℕ) (k : Shared) (f b j displacement : ℕ) (start : Cells) (at : At parts w k f b (suc j) (straight_visit parts f b (suc j)) start) →
+      op_at parts f b j ≡ Call displacement
       → let p : Spot parts w = record { k = k; f = f; b = b; i = suc j; v = straight_visit parts f b (suc j); start = start; at = at } in
       Steps parts w p
   call_slots pages does w k f b j displacement start at is =
@@ -62,7 +66,9 @@ module _ (parts : Parts) (checked : Checked parts) (ordered : IsOrdered parts) (
       let calls : is_call (op_at parts f b j) ≡ true = ap is_call is in
       let callee = some_callee parts f b j (callee_at parts f b j) (calls_later parts checked f b j before calls) in
       let plain = slot_is_plain parts checked f b j place (ap is_transfer is) in
-      let no_restore = not_so (is_restore (op_at parts f b (suc j))) (subst (λ o. same_test (is_framed_return o) (is_restore (op_at parts f b (suc j))) ≡ true) is (restores_in_slot parts checked f b (suc j) place)) in
+      let no_restore =
+      not_so (is_restore (op_at parts f b (suc j)))
+      (subst (λ o. same_test (is_framed_return o) (is_restore (op_at parts f b (suc j))) ≡ true) is (restores_in_slot parts checked f b (suc j) place)) in
       let near : HasNear start (state_at parts f b (suc j)) = record { held = record { words = k.words; icc = k.icc; y = k.y }; near = at.fits.near } in
       let left = left_after f b (suc j) start place at.begun near (ap goes_straight is) plain.straight plain.no_call plain.runs_on in
       call_slot parts f b j callee.0 w k start at (word_is parts checked ordered pages f b (suc j) place) (calls_well parts checked ordered pages f b j callee.0 before calls callee.1)

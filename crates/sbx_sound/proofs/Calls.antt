@@ -103,7 +103,8 @@ module _ (parts : Parts) (f b j g : ℕ) where
   comes_to false r calls way address p q h = absurd (cc)
 
   -- CALL and its slot: the callee begins, and the caller waits
-  pub enters : (w : ℕ) (k : Shared) (start : Cells) (left : Left) → (rules : CallsWell) → Fits start in_slot left.words left.icc left.y → AreStored parts.regions left.memory left.input → pos 0 ≤ℤ left_at parts f b (suc (suc j)) start
+  pub enters : (w : ℕ) (k : Shared) (start : Cells) (left : Left) → (rules : CallsWell) → Fits start in_slot left.words left.icc left.y →
+      AreStored parts.regions left.memory left.input → pos 0 ≤ℤ left_at parts f b (suc (suc j)) start
       → At parts w k f b (suc j) (straight_visit parts f b (suc j)) start
       → At parts (w + weight_of (op_at parts f b (suc j))) (record (left_by left k) { calls = opened k start left.words ∷ k.calls }) g 0 0 (straight_visit parts g 0 0) (numbers left.words)
   unfolding state_at weight_to
@@ -129,6 +130,10 @@ module _ (parts : Parts) (f b j g : ℕ) where
             let h = a.base in let r = a.room in let s = rules.room in
             omega (arith, e, h, r, s);
         stored = stored;
-        ledger = subst (λ t. (pos (w + weight_of (op_at parts f b (suc j))) +ℤ ((form_value (numbers left.words) (fuel_at parts g 0) -ℤ pos 0) +ℤ ((form_value start (fuel_at parts f b) -ℤ pos t) +ℤ left_to_all parts k.calls))) ≤ℤ pos (budget parts)) (sym (weight_then rules))
-            (one_call w (weight_of (op_at parts f b (suc j))) (weight_to parts f b (suc j)) callee.budget (budget parts) (form_value start (fuel_at parts f b)) (form_value (numbers left.words) (fuel_at parts g 0)) (left_to_all parts k.calls) a.ledger (rules.within_budget (numbers left.words) begun));
+        ledger = subst
+            (λ t. (pos (w + weight_of (op_at parts f b (suc j))) +ℤ
+            ((form_value (numbers left.words) (fuel_at parts g 0) -ℤ pos 0) +ℤ
+            ((form_value start (fuel_at parts f b) -ℤ pos t) +ℤ left_to_all parts k.calls))) ≤ℤ pos (budget parts)) (sym (weight_then rules))
+            (one_call w (weight_of (op_at parts f b (suc j))) (weight_to parts f b (suc j)) callee.budget (budget parts) (form_value start (fuel_at parts f b))
+            (form_value (numbers left.words) (fuel_at parts g 0)) (left_to_all parts k.calls) a.ledger (rules.within_budget (numbers left.words) begun));
       }

@@ -146,7 +146,8 @@ takes_two window rd odd high low s free =
     ap (λ (t : Bool). if t then Fails StackPointer else Goes (advanced (with_reg rd high (with_reg odd low s)))) (no_more (rd == 14) (rd == 30) (odd == 14) (odd == 30) p q)
 
 -- a register written, and the same instruction to come
-written_shown : (window : Window) (known now : KnownParts) (n v : ℕ) (k : Shared) (s : State) → IsFree window n → IsFewer known now n → Shows window known k s → Shows window now (with_word_known n v k) (with_reg n v s)
+written_shown : (window : Window) (known now : KnownParts) (n v : ℕ) (k : Shared) (s : State) → IsFree window n → IsFewer known now n → Shows window known k s →
+    Shows window now (with_word_known n v k) (with_reg n v s)
 written_shown window known now n v k s free fewer shows =
     let rest = shows.rest in
     record {
@@ -169,7 +170,8 @@ both true false p q = refl
 both a true p q = absurd (cc)
 both false b p q = absurd (cc)
 
-module _ (parts : Parts) (w : ℕ) (p : Spot parts w) (lent : window_of (function_at parts p.f) p.b p.i ≡ Lent → is_framed (function_at parts p.f).kind ≡ false) (small : length (page_rights parts.regions) ≤ 64) where
+module _ (parts : Parts) (w : ℕ) (p : Spot parts w) (lent : window_of (function_at parts p.f) p.b p.i ≡ Lent →
+    is_framed (function_at parts p.f).kind ≡ false) (small : length (page_rights parts.regions) ≤ 64) where
   abbrev function : Function
   function = function_at parts p.f
 
@@ -218,7 +220,8 @@ module _ (parts : Parts) (w : ℕ) (p : Spot parts w) (lent : window_of (functio
         no_word = ap (word_at_offset function.frame) (no_offset function.frame m.rs1 m.operand2 free);
         place = sum_address (p.k.words m.rs1) (second p.k.words m.operand2);
         address = λ s h. ap (λ x. sum_address x (second (reg s) m.operand2)) (first_is s h) ∙ ap (sum_address (p.k.words m.rs1)) (second_is s h);
-        inside = lies_in_data p.start parts (size_of t) (writes_memory t) a b (p.k.words m.rs1) (second p.k.words m.operand2) (near.are_words m.rs1) (operand_word p.k.words m.operand2 near.are_words operand)
+        inside = lies_in_data p.start parts (size_of t) (writes_memory t) a b (p.k.words m.rs1) (second p.k.words m.operand2) (near.are_words m.rs1)
+            (operand_word p.k.words m.operand2 near.are_words operand)
             (register_has p.start d p.k.words p.k.icc p.k.y m.rs1 near) (operand_has p.start d p.k.words p.k.icc p.k.y m.operand2 near)
             (register_multiple p.start d p.k.words p.k.icc p.k.y m.rs1 p.at.fits) (operand_multiple p.start d p.k.words p.k.icc p.k.y m.operand2 p.at.fits)
             (sym (ap (λ x. is_aligned_at x access) by_address) ∙ aligned) (sym (ap (λ x. is_placed_at parts function.frame x access) by_address) ∙ placed);
@@ -239,7 +242,8 @@ module _ (parts : Parts) (w : ℕ) (p : Spot parts w) (lent : window_of (functio
 
     -- the number there
     pub there : IsThere p.k.memory access.place (bytes_in (size_of t))
-    there = number_is_there parts.regions p.k.memory p.k.input p.at.stored access.place (bytes_in (size_of t)) (λ i less. (slice_index (laid parts.regions) (access.place + i - data_start), region.bytes i less))
+    there = number_is_there parts.regions p.k.memory p.k.input p.at.stored access.place (bytes_in (size_of t))
+        (λ i less. (slice_index (laid parts.regions) (access.place + i - data_start), region.bytes i less))
 
     pub reaches_data : ReachesData parts w p t m access.place there.number
     reaches_data =
@@ -294,12 +298,20 @@ module _ (parts : Parts) (w : ℕ) (p : Spot parts w) (lent : window_of (functio
       let first : IsFewer (tests parts d (linked_at parts w p)) mid odd = record {
         none = refl;
         location = λ l r apart. more_tests l (is_defined (then_knows parts w p o) l) (is_defined d l) (linked_at parts w p)
-            (ap (λ k. is_defined k l) same ∙ other_defined l odd any_word (with_entry rd any_word d) apart ∙ other_defined l rd any_word d (not_same l rd (and_right (after.location l) (not (l == rd)) r)))
+            (ap (λ k. is_defined k l) same ∙ other_defined l odd any_word (with_entry rd any_word d) apart
+            ∙ other_defined l rd any_word d (not_same l rd (and_right (after.location l) (not (l == rd)) r)))
             (and_left (after.location l) (not (l == rd)) r);
         codes = λ r. sym (ap (λ (k : Known). k.icc) same ∙ entry_codes odd any_word (with_entry rd any_word d) ∙ entry_codes rd any_word d) ∙ r;
         y = λ r. sym (ap (λ (k : Known). is_some k.y) same ∙ ap (λ (x : Option Range). is_some x) (entry_y odd any_word (with_entry rd any_word d) ∙ entry_y rd any_word d)) ∙ r;
       } in
-      let then_rd : IsFewer mid after rd = record { none = refl; location = λ l r apart. both (after.location l) (l == rd) r (let e : (l == rd) ≡ false = grind (arith, nat_tests) in e); codes = λ r. r; y = λ r. r } in
+      let then_rd : IsFewer mid after rd =
+      record {
+        none = refl;
+        location = λ l r apart. both (after.location l) (l == rd) r (let e : (l == rd) ≡ false = grind (arith, nat_tests) in e);
+        codes =
+            λ r. r;
+        y = λ r. r;
+      } in
       let words = with_location rd high (with_location odd low p.k.words) in
       let came = (data_keeps_fitting.load function.frame loadings.Double m d held n access.no_word (there t m access).small).fits p.start p.at.fits in
       record {
@@ -315,8 +327,12 @@ module _ (parts : Parts) (w : ℕ) (p : Spot parts w) (lent : window_of (functio
             let turn : does parts fresh (op_of parts w p) s ≡ writes rd high (with_reg odd low s) =
             ap (λ o. does parts fresh o s) access.is ∙ ap (λ x. transfers parts t m x s) (access.address s h) ∙ is_aligned 8 a _ access.inside.multiple
             ∙ ap (λ x. transfers_data t rd a x s) number ∙ takes_two window rd odd high low s free_odd.0 in
-            subst (λ o. Reaches (does parts fresh (op_of parts w p) s) (Shows window (tests parts (then_knows parts w p o) (linked_at parts w p)) (moved_on (with_word_known rd high (with_word_known odd low p.k))))) (sym access.is)
-            (reaches_by _ _ _ turn (writes_reach window mid after rd high (with_word_known odd low p.k) (with_reg odd low s) free.0 then_rd (written_shown window (tests parts d (linked_at parts w p)) mid odd low p.k s free_odd.0 first h))));
+            subst (λ o. Reaches (does parts fresh (op_of parts w p) s)
+            (Shows window (tests parts (then_knows parts w p o) (linked_at parts w p)) (moved_on (with_word_known rd high (with_word_known odd low p.k)))))
+            (sym access.is)
+            (reaches_by _ _ _ turn
+            (writes_reach window mid after rd high (with_word_known odd low p.k) (with_reg odd low s) free.0 then_rd
+            (written_shown window (tests parts d (linked_at parts w p)) mid odd low p.k s free_odd.0 first h))));
       }
 
   pub loads : (l : Loading) (m : MemoryOperand) → AccessesData (Load l) m → Does parts w p
@@ -335,7 +351,8 @@ module _ (parts : Parts) (w : ℕ) (p : Spot parts w) (lent : window_of (functio
       let o = Transfer (Store f) m in
       let same : then_knows parts w p o ≡ d = ap (λ word. with_moved word (Store f) m.rd d) access.no_word in
       stores_data parts w p f m access.place (there (Store f) m access).number (stored p.k.words f m.rd) access.is (reaches_data (Store f) m access)
-      (λ s h. same_number f m.rd (reg s) p.k.words (access.goes_out s h)) ((data_keeps_fitting.store function.frame f m d held access.no_word).fits p.start p.at.fits) (unchanged_is_fewer parts w p o same)
+      (λ s h. same_number f m.rd (reg s) p.k.words (access.goes_out s h))
+      ((data_keeps_fitting.store function.frame f m d held access.no_word).fits p.start p.at.fits) (unchanged_is_fewer parts w p o same)
 
   pub exchanges_data : (e : Exchanging) (m : MemoryOperand) → AccessesData (Exchange e) m → Does parts w p
   unfolding transferred
@@ -353,7 +370,8 @@ module _ (parts : Parts) (w : ℕ) (p : Spot parts w) (lent : window_of (functio
         is = access.is;
         free = free.0;
         apart = free.1;
-        fits = fits_shown p.start (then_knows parts w p o) m.rd n p.k.words p.k.icc p.k.y (omega (arith, rd_low)) ((data_keeps_fitting.exchange function.frame e m d held n (there t m access).small).fits p.start p.at.fits);
+        fits = fits_shown p.start (then_knows parts w p o) m.rd n p.k.words p.k.icc p.k.y (omega (arith, rd_low))
+            ((data_keeps_fitting.exchange function.frame e m d held n (there t m access).small).fits p.start p.at.fits);
         stored = stored_after_store parts.regions a size left p.k.memory p.k.input p.at.stored;
         defined = entry_defined parts w p o m.rd entry refl;
         reached = Some a;

@@ -51,13 +51,21 @@ some_location zero test a b e = absurd (cc)
 some_location (suc l) test a b e = omega arith
 
 -- the same registers, other data
-with_memory_shown : (window : Window) (known now : KnownParts) (k : Shared) (s : State) (m n : Bytes) → ((a : ℕ) → m a ≡ n a) → IsFewer known now 0 → Shows window known k s → Shows window now (moved_on (record k { memory = n })) (advanced (record s { memory = m }))
+with_memory_shown : (window : Window) (known now : KnownParts) (k : Shared) (s : State) (m n : Bytes) → ((a : ℕ) → m a ≡ n a) → IsFewer known now 0 →
+    Shows window known k s → Shows window now (moved_on (record k { memory = n })) (advanced (record s { memory = m }))
 with_memory_shown window known now k s m n same fewer shows =
     let rest = shows.rest in
     let file = shows.file in
     record {
       rest = record { pc = rest.npc; npc = ap following rest.npc; annulled = rest.annulled; memory = same; input = rest.input; output = rest.output; exit = rest.exit };
-      file = record { base_is = file.base_is; words_are = λ l h. file.words_are l (fewer.location l h (some_location l now.location fewer.none h)); calls_are = file.calls_are; slots = file.slots; below = file.below };
+      file = record {
+        base_is = file.base_is;
+        words_are = λ l h. file.words_are l (fewer.location l h (some_location l now.location fewer.none h));
+        calls_are =
+            file.calls_are;
+        slots = file.slots;
+        below = file.below;
+      };
       codes = λ h. shows.codes (fewer.codes h);
       y = λ h. shows.y (fewer.y h);
     }
@@ -91,8 +99,10 @@ module _ (parts : Parts) (w : ℕ) (p : Spot parts w) where
       ∙ number_same s.memory p.k.memory h.rest.memory a (bytes_in (size_of t)) ∙ access.number
 
   -- a load that fills one register
-  pub loads_data : (l : Loading) (m : MemoryOperand) (a n : ℕ) → op_of parts w p ≡ Transfer (transfer.Load l) m → ReachesData (transfer.Load l) m a n → loaded l m.rd n ≡ (m.rd, filled l n) ∷ [] → IsFree window m.rd → 15 ≢ m.rd
-      → Fits p.start (transferred frame (Transfer (transfer.Load l) m) p.v.known) (with_location m.rd (filled l n) p.k.words) p.k.icc p.k.y → IsFewer before (after (Transfer (transfer.Load l) m)) m.rd → Does parts w p
+  pub loads_data : (l : Loading) (m : MemoryOperand) (a n : ℕ) → op_of parts w p ≡ Transfer (transfer.Load l) m → ReachesData (transfer.Load l) m a n →
+      loaded l m.rd n ≡ (m.rd, filled l n) ∷ [] → IsFree window m.rd → 15 ≢ m.rd
+      → Fits p.start (transferred frame (Transfer (transfer.Load l) m) p.v.known) (with_location m.rd (filled l n) p.k.words) p.k.icc p.k.y →
+      IsFewer before (after (Transfer (transfer.Load l) m)) m.rd → Does parts w p
   loads_data l m a n is access one free apart fits fewer =
       let size = bytes_in (size_of (transfer.Load l)) in
       let v = filled l n in
@@ -115,7 +125,8 @@ module _ (parts : Parts) (w : ℕ) (p : Spot parts w) where
       }
 
   -- a store of any size, by the number that goes out
-  pub stores_data : (f : Size) (m : MemoryOperand) (a n v : ℕ) → op_of parts w p ≡ Transfer (transfer.Store f) m → ReachesData (transfer.Store f) m a n → ((s : State) → ShowsSpot parts w p s → stored (reg s) f m.rd ≡ v)
+  pub stores_data : (f : Size) (m : MemoryOperand) (a n v : ℕ) → op_of parts w p ≡ Transfer (transfer.Store f) m → ReachesData (transfer.Store f) m a n →
+      ((s : State) → ShowsSpot parts w p s → stored (reg s) f m.rd ≡ v)
       → Fits p.start (transferred frame (Transfer (transfer.Store f) m) p.v.known) p.k.words p.k.icc p.k.y → IsFewer before (after (Transfer (transfer.Store f) m)) 0 → Does parts w p
   stores_data f m a n v is access value fits fewer =
       let size = bytes_in f in
@@ -137,7 +148,13 @@ module _ (parts : Parts) (w : ℕ) (p : Spot parts w) where
             ∙ ap (λ x. transfers_in parts (transfer.Store f) m.rd a x s) none ∙ ap (λ x. transfers_data (transfer.Store f) m.rd a x s) number
             ∙ ap (λ x. Goes (advanced (record s { memory = with_number s.memory a size x }))) (value s h) in
             subst (λ o. Reaches (does parts fresh (op_of parts w p) s) (Shows window (after o) (moved_on (record p.k { memory = memory })))) (sym is)
-            (record { next = advanced (record s { memory = made }); goes = turn; is = with_memory_shown window before (after o) p.k s made memory (λ x. ap (λ y. if nat_le a x && nat_lt x (a + size) then Some (byte_of size v (x - a)) else y) (h.rest.memory x)) fewer h }));
+            (record {
+              next = advanced (record s { memory = made });
+              goes = turn;
+              is =
+                  with_memory_shown window before (after o) p.k s made memory
+                  (λ x. ap (λ y. if nat_le a x && nat_lt x (a + size) then Some (byte_of size v (x - a)) else y) (h.rest.memory x)) fewer h;
+            }));
       }
 
   -- ---- services
@@ -213,8 +230,25 @@ module _ (parts : Parts) (w : ℕ) (p : Spot parts w) where
               next = advanced (puts s);
               goes = turn;
               is = record {
-                rest = record { pc = rest.npc; npc = ap following rest.npc; annulled = rest.annulled; memory = rest.memory; input = rest.input; output = ap (λ x. x ++ (reg s 8 % 2 ^ 8) ∷ []) rest.output ∙ ap (λ x. p.k.output ++ (x % 2 ^ 8) ∷ []) (value s h); exit = rest.exit };
-                file = record { base_is = file.base_is; words_are = λ l r. file.words_are l (fewer.location l r (some_location l (after (TrapOnCondition t)).location fewer.none r)); calls_are = file.calls_are; slots = file.slots; below = file.below };
+                rest = record {
+                  pc = rest.npc;
+                  npc = ap following rest.npc;
+                  annulled = rest.annulled;
+                  memory = rest.memory;
+                  input = rest.input;
+                  output =
+                      ap (λ x. x ++ (reg s 8 % 2 ^ 8) ∷ []) rest.output ∙ ap (λ x. p.k.output ++ (x % 2 ^ 8) ∷ []) (value s h);
+                  exit = rest.exit;
+                };
+                file = record {
+                  base_is = file.base_is;
+                  words_are =
+                      λ l r. file.words_are l (fewer.location l r (some_location l (after (TrapOnCondition t)).location fewer.none r));
+                  calls_are =
+                      file.calls_are;
+                  slots = file.slots;
+                  below = file.below;
+                };
                 codes = λ r. h.codes (fewer.codes r);
                 y = λ r. h.y (fewer.y r);
               };

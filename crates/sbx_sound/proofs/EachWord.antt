@@ -41,7 +41,8 @@ exit_is (Some n) h = let e : n ≡ 0 = grind (arith, nat_tests) in ap (λ (x : �
 at_zero : (n : ℕ) → (n == 0) ≡ true → n ≡ 0
 at_zero n h = grind (arith, nat_tests)
 
-module _ (parts : Parts) (checked : Checked parts) (ordered : IsOrdered parts) (pages : parts.stack_pages ≤ 16) (small : length (page_rights parts.regions) ≤ 64) (few : (g : ℕ) → length (function_at parts g).results ≤ 6) where
+module _ (parts : Parts) (checked : Checked parts) (ordered : IsOrdered parts) (pages : parts.stack_pages ≤ 16)
+    (small : length (page_rights parts.regions) ≤ 64) (few : (g : ℕ) → length (function_at parts g).results ≤ 6) where
   pub plain_words_do : PlainWordsDo parts
   plain_words_do w p runs plain no_save no_restore =
       does_at parts checked ordered pages small w p runs plain.no_transfer no_save no_restore plain.runs_on
@@ -56,7 +57,8 @@ module _ (parts : Parts) (checked : Checked parts) (ordered : IsOrdered parts) (
 
   module _ (w : ℕ) (k : Shared) (f b i : ℕ) (start : Cells) (at : At parts w k f b i (straight_visit parts f b i) start)
       (before : goes_straight (op_before parts f b i) ≡ true) (no_link : is_call (op_before parts f b i) ≡ false) (no_return : is_return (op_before parts f b i) ≡ false) where
-    plain : goes_straight (op_at parts f b i) ≡ true → is_transfer (op_at parts f b i) ≡ false → is_call (op_at parts f b i) ≡ false → is_save (op_at parts f b i) ≡ false → is_restore (op_at parts f b i) ≡ false → ends_run (op_at parts f b i) ≡ false
+    plain : goes_straight (op_at parts f b i) ≡ true → is_transfer (op_at parts f b i) ≡ false → is_call (op_at parts f b i) ≡ false →
+        is_save (op_at parts f b i) ≡ false → is_restore (op_at parts f b i) ≡ false → ends_run (op_at parts f b i) ≡ false
         → Steps parts w (spot parts w k f b i (straight_visit parts f b i) start at)
     plain straight no_transfer no_call no_save no_restore runs_on =
         straight_steps parts checked ordered pages f b i at.place w k start at before no_link no_return straight no_call runs_on no_save

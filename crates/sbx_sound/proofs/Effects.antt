@@ -62,7 +62,8 @@ pub record IsFewer (known now : KnownParts) (n : ℕ) : Type 0 where
 free_of_stack : (n : ℕ) (t u : Turn) → 14 ≢ n → 30 ≢ n → (if (n == 14) || (n == 30) then t else u) ≡ u
 free_of_stack n t u a b = grind (arith, nat_tests)
 
-pub writes_reach : (window : Window) (known now : KnownParts) (n v : ℕ) (k : Shared) (s : State) → IsFree window n → IsFewer known now n → Shows window known k s → Reaches (writes n v s) (Shows window now (moved_on (with_word_known n v k)))
+pub writes_reach : (window : Window) (known now : KnownParts) (n v : ℕ) (k : Shared) (s : State) → IsFree window n → IsFewer known now n →
+    Shows window known k s → Reaches (writes n v s) (Shows window now (moved_on (with_word_known n v k)))
 writes_reach window known now n v k s free fewer shows =
     let rest = shows.rest in
     record {
@@ -80,7 +81,9 @@ writes_reach window known now n v k s free fewer shows =
 abbrev pub with_codes_known : Icc → ℕ → Shared → Shared
 with_codes_known icc y k = record k { icc = icc; y = y }
 
-pub codes_show : (window : Window) (known now : KnownParts) (k : Shared) (s : State) (i j : Icc) (y z : ℕ) → (now.codes ≡ true → i ≡ j) → (now.y ≡ true → y ≡ z) → ((l : ℕ) → now.location l ≡ known.location l) → Shows window known k s → Shows window now (with_codes_known j z k) (record s { icc = i; y = y })
+pub codes_show : (window : Window) (known now : KnownParts) (k : Shared) (s : State) (i j : Icc) (y z : ℕ) → (now.codes ≡ true → i ≡ j) →
+    (now.y ≡ true → y ≡ z) → ((l : ℕ) → now.location l ≡ known.location l) → Shows window known k s →
+    Shows window now (with_codes_known j z k) (record s { icc = i; y = y })
 codes_show window known now k s i j y z same_codes same_y same shows =
     let rest = shows.rest in
     let file = shows.file in
@@ -103,14 +106,16 @@ pub takes_one : (n v : ℕ) (s : State) → takes ((n, v) ∷ []) s ≡ writes n
 takes_one n v s = ap (λ (t : Bool). if t then Fails StackPointer else Goes (advanced (with_reg n v s))) (or_nothing (n == 14) (n == 30))
 
 -- LD of a frame word: the register takes the word
-pub load_reaches : (parts : Parts) (size : ℕ) (known now : KnownParts) (j rd : ℕ) (k : Shared) (s : State) → 4 * j + 68 ≤ size → k.base % 8 ≡ 0 → known.location (32 + j) ≡ true → IsFree (Own size) rd → IsFewer known now rd → Shows (Own size) known k s
+pub load_reaches : (parts : Parts) (size : ℕ) (known now : KnownParts) (j rd : ℕ) (k : Shared) (s : State) → 4 * j + 68 ≤ size → k.base % 8 ≡ 0 →
+    known.location (32 + j) ≡ true → IsFree (Own size) rd → IsFewer known now rd → Shows (Own size) known k s
     → (m : MemoryOperand) → m.rd ≡ rd → Reaches (transfers parts (transfer.Load loadings.Word) m (k.base + 64 + 4 * j) s) (Shows (Own size) now (moved_on (with_word_known rd (k.words (32 + j)) k)))
 load_reaches parts size known now j rd k s within eight is_known free fewer shows m same =
     let a = k.base + 64 + 4 * j in
     let there : s.registers.newest.slots a ≡ Some (slot_word k.base s.registers.newest j) = shows.file.slots j within in
     let is : slot_word k.base s.registers.newest j ≡ k.words (32 + j) = at_slot k.base s.registers j (k.words (32 + j)) (shows.file.words_are (32 + j) is_known) in
     reaches_by _ (writes rd (k.words (32 + j)) s) _
-    (on_four k.base j eight _ ∙ ap (λ x. transfers_in parts (transfer.Load loadings.Word) m.rd a x s) (there ∙ ap Some is) ∙ takes_one m.rd (k.words (32 + j)) s ∙ ap (λ r. writes r (k.words (32 + j)) s) same)
+    (on_four k.base j eight _ ∙ ap (λ x. transfers_in parts (transfer.Load loadings.Word) m.rd a x s) (there ∙ ap Some is) ∙ takes_one m.rd (k.words (32 + j)) s
+    ∙ ap (λ r. writes r (k.words (32 + j)) s) same)
     (writes_reach (Own size) known now rd (k.words (32 + j)) k s free fewer shows)
   where
     on_four : (base j : ℕ) → base % 8 ≡ 0 → (t : Turn) → aligned 4 (base + 64 + 4 * j) t ≡ t
@@ -127,7 +132,8 @@ abbrev pub linked : Shared → Shared
 linked k = record k { words = with_location 15 k.pc k.words }
 
 -- CALL: its own address goes to %o7
-pub call_reaches : (parts : Parts) (fresh : Fresh) (size displacement : ℕ) (known now : KnownParts) (k : Shared) (s : State) → IsFewer known now 15 → Shows (Own size) known k s → Reaches (does parts fresh (Call displacement) s) (Shows (Own size) now (moved_to (target k.pc displacement) (linked k)))
+pub call_reaches : (parts : Parts) (fresh : Fresh) (size displacement : ℕ) (known now : KnownParts) (k : Shared) (s : State) → IsFewer known now 15 →
+    Shows (Own size) known k s → Reaches (does parts fresh (Call displacement) s) (Shows (Own size) now (moved_to (target k.pc displacement) (linked k)))
 call_reaches parts fresh size displacement known now k s fewer shows =
     let rest = shows.rest in
     let free : IsFree (Own size) 15 = record { register = omega arith; sp = omega arith; fp = omega arith; i7 = omega arith; lent = λ e. absurd (cc) } in
@@ -136,7 +142,8 @@ call_reaches parts fresh size displacement known now k s fewer shows =
       goes = refl;
       is = record {
         rest = record { pc = rest.npc; npc = ap (λ x. target x displacement) rest.pc; annulled = rest.annulled; memory = rest.memory; input = rest.input; output = rest.output; exit = rest.exit };
-        file = subst (λ x. ShowsFile (Own size) now.location k.base (with_location 15 k.pc k.words) k.calls (written 15 x s.registers)) (sym rest.pc) (write_shows (Own size) known.location now.location k.base 15 k.pc k.words k.calls s.registers free fewer.none fewer.location shows.file);
+        file = subst (λ x. ShowsFile (Own size) now.location k.base (with_location 15 k.pc k.words) k.calls (written 15 x s.registers)) (sym rest.pc)
+            (write_shows (Own size) known.location now.location k.base 15 k.pc k.words k.calls s.registers free fewer.none fewer.location shows.file);
         codes = λ h. shows.codes (fewer.codes h);
         y = λ h. shows.y (fewer.y h);
       };
@@ -146,7 +153,9 @@ call_reaches parts fresh size displacement known now k s fewer shows =
 abbrev pub branched_shared : Branch → Shared → Shared
 branched_shared b k = record k { pc = k.npc; npc = if holds b.cond k.icc then target k.pc b.displacement else following k.npc; annulled = annuls b k.icc }
 
-pub branch_reaches : (parts : Parts) (fresh : Fresh) (b : Branch) (window : Window) (known : KnownParts) (k : Shared) (s : State) → ((i j : Icc) → (known.codes ≡ true → i ≡ j) → holds b.cond i ≡ holds b.cond j) → Shows window known k s → Reaches (does parts fresh (BranchOnCondition b) s) (Shows window known (branched_shared b k))
+pub branch_reaches : (parts : Parts) (fresh : Fresh) (b : Branch) (window : Window) (known : KnownParts) (k : Shared) (s : State) →
+    ((i j : Icc) → (known.codes ≡ true → i ≡ j) → holds b.cond i ≡ holds b.cond j) → Shows window known k s →
+    Reaches (does parts fresh (BranchOnCondition b) s) (Shows window known (branched_shared b k))
 branch_reaches parts fresh b window known k s reads shows =
     let rest = shows.rest in
     let file = shows.file in
@@ -157,7 +166,9 @@ branch_reaches parts fresh b window known k s reads shows =
       is = record {
         rest = record {
           pc = rest.npc;
-          npc = ap (λ (t : Bool). if t then target s.pc b.displacement else following s.npc) same ∙ ap (λ x. if holds b.cond k.icc then target x b.displacement else following s.npc) rest.pc ∙ ap (λ x. if holds b.cond k.icc then target k.pc b.displacement else following x) rest.npc;
+          npc = ap (λ (t : Bool). if t then target s.pc b.displacement else following s.npc) same
+              ∙ ap (λ x. if holds b.cond k.icc then target x b.displacement else following s.npc) rest.pc
+              ∙ ap (λ x. if holds b.cond k.icc then target k.pc b.displacement else following x) rest.npc;
           annulled = annuls_same b s.icc k.icc same;
           memory = rest.memory;
           input = rest.input;
@@ -205,7 +216,8 @@ returns_goes : (s : State) (r a : ℕ) → reg s r ≡ a → (a + 8) % 2 ^ 32 % 
 unfolding written
 returns_goes s r a e four = ap (λ x. jumps 0 ((x + 8) % 2 ^ 32) s) e ∙ aligned_goes ((a + 8) % 2 ^ 32) _ four
 
-pub ret_reaches : (parts : Parts) (fresh : Fresh) (size : ℕ) (known : KnownParts) (c : Open) (cs : List Open) (k : Shared) (s : State) → k.calls ≡ c ∷ cs → (c.back + 8) % 2 ^ 32 % 4 ≡ 0 → Shows (Own size) known k s
+pub ret_reaches : (parts : Parts) (fresh : Fresh) (size : ℕ) (known : KnownParts) (c : Open) (cs : List Open) (k : Shared) (s : State) → k.calls ≡ c ∷ cs →
+    (c.back + 8) % 2 ^ 32 % 4 ≡ 0 → Shows (Own size) known k s
     → Reaches (does parts fresh (JumpAndLink (record { rd = 0; rs1 = 31; operand2 = Immediate 8 })) s) (Shows (Own size) known (moved_to ((c.back + 8) % 2 ^ 32) k))
 ret_reaches parts fresh size known c cs k s is four shows = record {
   next = transferred ((c.back + 8) % 2 ^ 32) s;
@@ -244,14 +256,17 @@ save_reaches parts fresh frame size known now f k s rd b sum below big eight bot
       };
     }
   where
-    may_save : (parts : Parts) (fresh : Fresh) (rd x b : ℕ) (s : State) (base size : ℕ) → rd ≡ 14 → x ≡ b → reg s 14 ≡ base → base ≡ b + size → 64 ≤ size → b % 8 ≡ 0 → 0x100000 - 4096 * parts.stack_pages ≤ b → saves parts fresh rd x s ≡ Goes (advanced (record s { registers = pushed fresh b s.registers }))
+    may_save : (parts : Parts) (fresh : Fresh) (rd x b : ℕ) (s : State) (base size : ℕ) → rd ≡ 14 → x ≡ b → reg s 14 ≡ base → base ≡ b + size → 64 ≤ size →
+        b % 8 ≡ 0 → 0x100000 - 4096 * parts.stack_pages ≤ b → saves parts fresh rd x s ≡ Goes (advanced (record s { registers = pushed fresh b s.registers }))
     may_save parts fresh rd x b s base size p q r below big eight bottom =
         let test : ((rd == 14) && is_base parts (reg s 14) x) ≡ true = grind (arith, nat_tests) in
-        ap (λ (t : Bool). if t then Goes (advanced (record s { registers = pushed fresh x s.registers })) else Fails BadFrame) test ∙ ap (λ y. Goes (advanced (record s { registers = pushed fresh y s.registers }))) q
+        ap (λ (t : Bool). if t then Goes (advanced (record s { registers = pushed fresh x s.registers })) else Fails BadFrame) test
+        ∙ ap (λ y. Goes (advanced (record s { registers = pushed fresh y s.registers }))) q
 
 -- RESTORE: the caller's frame, and then rd
 pub restore_reaches : (parts : Parts) (fresh : Fresh) (size : ℕ) (known mid now : KnownParts) (f : Three) (c : Open) (cs : List Open) (k : Shared) (s : State) → k.calls ≡ c ∷ cs
-    → (v : ℕ) → address (reg s) f.rs1 f.operand2 ≡ v → IsFree (Own c.frame) f.rd → IsGivenBack c known.location mid.location → (mid.codes ≡ true → known.codes ≡ true) → (mid.y ≡ true → known.y ≡ true) → IsFewer mid now f.rd → Shows (Own size) known k s
+    → (v : ℕ) → address (reg s) f.rs1 f.operand2 ≡ v → IsFree (Own c.frame) f.rd → IsGivenBack c known.location mid.location →
+    (mid.codes ≡ true → known.codes ≡ true) → (mid.y ≡ true → known.y ≡ true) → IsFewer mid now f.rd → Shows (Own size) known k s
     → Reaches (does parts fresh (Restore f) s) (Shows (Own c.frame) now (moved_on (with_word_known f.rd v (record k { base = c.base; words = given_back c k.words; calls = cs }))))
 restore_reaches parts fresh size known mid now f c cs k s is v sum free gives codes y fewer shows =
     let rest = shows.rest in

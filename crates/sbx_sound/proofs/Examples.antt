@@ -45,7 +45,13 @@ loop_typed : IsTypedBlock (record { address = 0x40008; fuel = pos 4; cells = cel
 loop_typed = record { address = omega arith; fuel = record { sfits = omega arith }; cells = (range_typed 1 1000 (omega arith) (omega arith), tt); terms = (record { sfits = omega arith }, tt) }
 
 body_typed : IsTypedBlock (record { address = 0x40018; fuel = negsuc 3; cells = cell 8 (pos 0) (pos 255) ∷ cell 16 (pos 1) (pos 1000) ∷ []; terms = sixteen_turns })
-body_typed = record { address = omega arith; fuel = record { sfits = omega arith }; cells = (range_typed 0 255 (omega arith) (omega arith), (range_typed 1 1000 (omega arith) (omega arith), tt)); terms = (record { sfits = omega arith }, tt) }
+body_typed = record {
+  address = omega arith;
+  fuel = record { sfits = omega arith };
+  cells =
+      (range_typed 0 255 (omega arith) (omega arith), (range_typed 1 1000 (omega arith) (omega arith), tt));
+  terms = (record { sfits = omega arith }, tt);
+}
 
 echo_typed : IsTyped echo
 echo_typed = record {
@@ -73,7 +79,17 @@ call_typed = record {
   regions = tt;
   functions = (
     record { entry = omega arith; params = tt; results = tt; depth = omega arith; blocks = (block_typed 0x40000 39 (omega arith) (omega arith), tt) },
-    (record { entry = omega arith; params = (range_typed 0 254 (omega arith) (omega arith), tt); results = (range_typed 1 255 (omega arith) (omega arith), tt); depth = omega arith; blocks = (block_typed 0x4001C 2 (omega arith) (omega arith), tt) }, tt),
+    (
+      record {
+        entry = omega arith;
+        params = (range_typed 0 254 (omega arith) (omega arith), tt);
+        results =
+            (range_typed 1 255 (omega arith) (omega arith), tt);
+        depth = omega arith;
+        blocks = (block_typed 0x4001C 2 (omega arith) (omega arith), tt);
+      },
+      tt,
+    ),
   );
 }
 

@@ -23,7 +23,9 @@ use Rattle.sbx_image.specs.Region.{Region}
 use Rattle.sbx_image.specs.Regions.{pages_for}
 use Rattle.sbx_image.specs.Term.{Term}
 use Rattle.sbx_image.specs.Services.{Services}
-use Rattle.sbx_image.specs.Reading.{block_at, block_head_at, bounds_at, cell_at, counts_at, data_count_at, data_length_at, function_at, function_head_at, header_at, items_at, kind_at, location_at, number_at, number_in, parts_at, range_at, reading, regions_at, services_at, shape_at, shape_of, shapes_at, signed_at, term_at}
+use Rattle.sbx_image.specs.Reading.{block_at, block_head_at, bounds_at, cell_at, counts_at, data_count_at, data_length_at, function_at, function_head_at}
+use Rattle.sbx_image.specs.Reading.{header_at, items_at, kind_at, location_at, number_at, number_in, parts_at, range_at, reading, regions_at, services_at}
+use Rattle.sbx_image.specs.Reading.{shape_at, shape_of, shapes_at, signed_at, term_at}
 use Rattle.sbx_image.specs.Rules.{◌>>=◌, Place, admits, code_start, in_order, is_coefficient, is_fuel, is_known, is_version, is_data_length, is_length_behind}
 use Rattle.sbx_image.specs.Spelling.{IsBytes, IsTyped, IsTypedBlock, IsTypedCell, IsTypedFunction, IsTypedRange, IsTypedRegion, IsTypedTerm}
 use Rattle.sbx_image.proofs.Fields.{bind_ok, bytes_take, is_between, number_in_takes, number_takes, ok_is, wanted, wide16, wide32, wide64, wide8}
@@ -73,7 +75,8 @@ fuel_fits z h = fits_signed_from_abs w64 z (small z h)
 
 -- ---- items
 
-module _ {A C : Type 0} (item : C → Result (A × C) ImageFault) (bytes_of : C → List ℕ) (P : A → Type 0) (one : (c : C) (x : A × C) → IsBytes (bytes_of c) → item c ≡ Ok x → P x.0 × IsBytes (bytes_of x.1)) where
+module _ {A C : Type 0} (item : C → Result (A × C) ImageFault) (bytes_of : C → List ℕ) (P : A → Type 0) (one : (c : C) (x : A × C) → IsBytes (bytes_of c) →
+    item c ≡ Ok x → P x.0 × IsBytes (bytes_of x.1)) where
   items_typed : (n : ℕ) (c : C) (x : List A × C) → IsBytes (bytes_of c) → items_at item n c ≡ Ok x → AllByRecursion P x.0 × IsBytes (bytes_of x.1)
   unfolding items_at
   items_typed zero c x fits e = subst (λ (y : List A × C). AllByRecursion P y.0 × IsBytes (bytes_of y.1)) (ok_is ([], c) x e) (tt, fits)
@@ -195,7 +198,8 @@ depth_typed true bytes x fits e =
     (omega (arith, few), t.0.rest_fits)
 depth_typed false bytes x fits e = subst (λ (y : ℕ × List ℕ). (y.0 < 2 ^ 16) × IsBytes y.1) (ok_is (0, bytes) x e) (omega arith, fits)
 
-function_head_typed : (version end : ℕ) (place : Place) (bytes : List ℕ) (x : FunctionHead × List ℕ) → IsBytes bytes → function_head_at version end place bytes ≡ Ok x → (x.0.entry < 2 ^ 32) × (x.0.depth < 2 ^ 16) × IsBytes x.1
+function_head_typed : (version end : ℕ) (place : Place) (bytes : List ℕ) (x : FunctionHead × List ℕ) → IsBytes bytes →
+    function_head_at version end place bytes ≡ Ok x → (x.0.entry < 2 ^ 32) × (x.0.depth < 2 ^ 16) × IsBytes x.1
 unfolding function_head_at
 function_head_typed version end place bytes x fits e =
     let counts = bind_ok _ _ _ e in
@@ -208,7 +212,21 @@ function_head_typed version end place bytes x fits e =
     let t2 = bounds_left entry.0.1 bounds.0 t1.left bounds.1 in
     let t3 = depth_typed (version == 3) bounds.0.1 depth.0 t2 depth.1 in
     let t4 = number_in_takes w16 (2 ^ 16) wide16 1 (4096 - place.1) fault.Limit depth.0.1 blocks.0 t3.1 blocks.1 in
-    let made : FunctionHead × List ℕ = (record { kind = counts.0.0.kind; params = counts.0.0.params; results = counts.0.0.results; entry = entry.0.0; frame = bounds.0.0.frame; stack_room = bounds.0.0.stack_room; budget = bounds.0.0.budget; depth = depth.0.0; blocks = blocks.0.0 }, blocks.0.1) in
+    let made : FunctionHead × List ℕ = (
+      record {
+        kind = counts.0.0.kind;
+        params = counts.0.0.params;
+        results = counts.0.0.results;
+        entry = entry.0.0;
+        frame = bounds.0.0.frame;
+        stack_room =
+            bounds.0.0.stack_room;
+        budget = bounds.0.0.budget;
+        depth = depth.0.0;
+        blocks = blocks.0.0;
+      },
+      blocks.0.1,
+    ) in
     subst (λ (y : FunctionHead × List ℕ). (y.0.entry < 2 ^ 32) × (y.0.depth < 2 ^ 16) × IsBytes y.1) (ok_is made x blocks.2) (t1.typed, t3.0, t4.0.rest_fits)
 
 function_typed : (version end : ℕ) (c : Place × List ℕ) (x : Function × (Place × List ℕ)) → IsBytes c.1 → function_at version end c ≡ Ok x → IsTypedFunction x.0 × IsBytes x.1.1
@@ -222,7 +240,21 @@ function_typed version end c x fits e =
     let p = items_typed range_at (λ y. y) IsTypedRange range_typed head.0.0.params head.0.1 params.0 h.2 params.1 in
     let r = items_typed range_at (λ y. y) IsTypedRange range_typed head.0.0.results params.0.1 results.0 p.1 results.1 in
     let b = items_typed (block_at end) (λ y. y.1) IsTypedBlock (block_typed end) head.0.0.blocks (Exactly head.0.0.entry, results.0.1) blocks.0 r.1 blocks.1 in
-    let made : Function × (Place × List ℕ) = (record { kind = head.0.0.kind; params = params.0.0; results = results.0.0; entry = head.0.0.entry; frame = head.0.0.frame; stack_room = head.0.0.stack_room; budget = head.0.0.budget; depth = head.0.0.depth; blocks = blocks.0.0 }, ((blocks.0.1.0, c.0.1 + head.0.0.blocks), blocks.0.1.1)) in
+    let made : Function × (Place × List ℕ) = (
+      record {
+        kind = head.0.0.kind;
+        params = params.0.0;
+        results = results.0.0;
+        entry = head.0.0.entry;
+        frame = head.0.0.frame;
+        stack_room =
+            head.0.0.stack_room;
+        budget = head.0.0.budget;
+        depth = head.0.0.depth;
+        blocks = blocks.0.0;
+      },
+      ((blocks.0.1.0, c.0.1 + head.0.0.blocks), blocks.0.1.1),
+    ) in
     subst (λ (y : Function × (Place × List ℕ)). IsTypedFunction y.0 × IsBytes y.1.1) (ok_is made x blocks.2) (record { entry = h.0; params = p.0; results = r.0; depth = h.1; blocks = b.0 }, b.1)
 
 -- ---- the whole
@@ -267,7 +299,18 @@ header_typed bytes x fits e =
     let t2 = data_count_left (services.0.0.0 == 1) words.0.1 data_count.0 t1.0.rest_fits data_count.1 in
     let t3 = number_in_takes w16 (2 ^ 16) wide16 1 16 fault.Limit data_count.0.1 stack_pages.0 t2 stack_pages.1 in
     let t4 = number_in_takes w16 (2 ^ 16) wide16 1 256 fault.Limit stack_pages.0.1 functions.0 t3.0.rest_fits functions.1 in
-    let made : Header × List ℕ = (record { version = services.0.0.0; services = services.0.0.1; words = words.0.0; data_count = data_count.0.0; stack_pages = stack_pages.0.0; functions = functions.0.0 }, functions.0.1) in
+    let made : Header × List ℕ = (
+      record {
+        version = services.0.0.0;
+        services = services.0.0.1;
+        words = words.0.0;
+        data_count = data_count.0.0;
+        stack_pages =
+            stack_pages.0.0;
+        functions = functions.0.0;
+      },
+      functions.0.1,
+    ) in
     subst (λ (y : Header × List ℕ). IsTypedStart (y.0.version, y.0.services) × IsBytes y.1) (ok_is made x functions.2) (t0.0, t4.0.rest_fits)
 
 shape_left : (c : ℕ × List ℕ) (x : Shape × (ℕ × List ℕ)) → IsBytes c.1 → shape_at c ≡ Ok x → any Shape x.0 × IsBytes x.1.1
@@ -320,8 +363,20 @@ parts_typed bytes x fits e =
     let s = shapes_left (header.0.0.version == 1) header.0.0.data_count header.0.1 shapes.0 h.1 shapes.1 in
     let w = items_typed (number_at w32) (λ y. y) (λ n. n < 2 ^ 32) word_typed header.0.0.words shapes.0.1 words.0 s words.1 in
     let r = regions_typed shapes.0.0 words.0.1 regions.0 w.1 regions.1 in
-    let f = items_typed (function_at header.0.0.version end) (λ y. y.1) IsTypedFunction (function_typed header.0.0.version end) header.0.0.functions ((Exactly code_start, 0), regions.0.1) functions.0 r.1 functions.1 in
-    let made : Parts × List ℕ = (record { version = header.0.0.version; services = header.0.0.services; words = words.0.0; regions = regions.0.0; stack_pages = header.0.0.stack_pages; functions = functions.0.0 }, functions.0.1.1) in
+    let f = items_typed (function_at header.0.0.version end) (λ y. y.1) IsTypedFunction (function_typed header.0.0.version end) header.0.0.functions
+    ((Exactly code_start, 0), regions.0.1) functions.0 r.1 functions.1 in
+    let made : Parts × List ℕ = (
+      record {
+        version = header.0.0.version;
+        services = header.0.0.services;
+        words = words.0.0;
+        regions = regions.0.0;
+        stack_pages =
+            header.0.0.stack_pages;
+        functions = functions.0.0;
+      },
+      functions.0.1.1,
+    ) in
     subst (λ (y : Parts × List ℕ). IsTyped y.0) (ok_is made x functions.2)
     (record { version = h.0.version; services = h.0.services; words = w.0; regions = r.0; functions = f.0 })
   where

@@ -52,7 +52,8 @@ counts_from : (frame rs1 : ℕ) (operand2 : Operand) (offset : ℤ) → offset_f
 counts_from frame rs1 (Register r) offset h = absurd (cc)
 counts_from frame rs1 (Immediate w) offset h = by_tests (rs1 == 14) (rs1 == 30) refl refl h
   where
-    by_tests : (s t : Bool) → (rs1 == 14) ≡ s → (rs1 == 30) ≡ t → (if s then Some (signed w) else (if t then Some (signed w +ℤ pos frame) else None)) ≡ Some offset → CountsFrom frame rs1 (Immediate w) offset
+    by_tests : (s t : Bool) → (rs1 == 14) ≡ s → (rs1 == 30) ≡ t →
+        (if s then Some (signed w) else (if t then Some (signed w +ℤ pos frame) else None)) ≡ Some offset → CountsFrom frame rs1 (Immediate w) offset
     by_tests true t p q e = FromSp w refl (let x : rs1 ≡ 14 = grind (arith, nat_tests) in x) (sym (same_some (signed w) offset e))
     by_tests false true p q e = FromFp w refl (let x : rs1 ≡ 30 = grind (arith, nat_tests) in x) (sym (same_some (signed w +ℤ pos frame) offset e))
     by_tests false false p q e = absurd (cc)
@@ -86,16 +87,19 @@ module _ (parts : Parts) (w : ℕ) (p : Spot parts w) (lent : window_of (functio
       let is = word.is in
       let small : n < 2 ^ 32 = subst LowOperand immediate low in
       let sum : sum_address p.k.base n ≡ p.k.base + (64 + 4 * word.word) = by_sp p.k.base n (64 + 4 * word.word) small (sym counts ∙ word.is) (omega (arith, top, within)) in
-      ap (λ r. address (reg s) r m.operand2) first ∙ ap (λ o. address (reg s) 14 o) immediate ∙ ap (λ x. sum_address x n) (read_sp s p.k.base h.file.base_is) ∙ sum ∙ (let e : p.k.base + (64 + 4 * word.word) ≡ p.k.base + 64 + 4 * word.word = omega arith in e)
+      ap (λ r. address (reg s) r m.operand2) first ∙ ap (λ o. address (reg s) 14 o) immediate ∙ ap (λ x. sum_address x n) (read_sp s p.k.base h.file.base_is)
+      ∙ sum ∙ (let e : p.k.base + (64 + 4 * word.word) ≡ p.k.base + 64 + 4 * word.word = omega arith in e)
   word_address has m low offset word (FromFp n immediate first counts) s h =
       let top = base_of has in
       let within = word.within in
       let small : n < 2 ^ 32 = subst LowOperand immediate low in
       let below : p.k.base + function.frame ≡ base_below p.k.calls = ap (λ x. p.k.base + x) (sym has.bytes) ∙ p.at.base in
       let mine = subst (λ x. Shows x (tests parts d (linked_at parts w p)) p.k s) has.own h in
-      let sum : sum_address (p.k.base + function.frame) n ≡ p.k.base + (64 + 4 * word.word) = by_fp p.k.base function.frame n (64 + 4 * word.word) small (sym counts ∙ word.is) (omega (arith, top)) (omega (arith, within)) in
+      let sum : sum_address (p.k.base + function.frame) n ≡ p.k.base + (64 + 4 * word.word) =
+      by_fp p.k.base function.frame n (64 + 4 * word.word) small (sym counts ∙ word.is) (omega (arith, top)) (omega (arith, within)) in
       ap (λ r. address (reg s) r m.operand2) first ∙ ap (λ o. address (reg s) 30 o) immediate
-      ∙ ap (λ x. sum_address x n) (read_fp function.frame (tests parts d (linked_at parts w p)) p.k s mine ∙ sym below) ∙ sum ∙ (let e : p.k.base + (64 + 4 * word.word) ≡ p.k.base + 64 + 4 * word.word = omega arith in e)
+      ∙ ap (λ x. sum_address x n) (read_fp function.frame (tests parts d (linked_at parts w p)) p.k s mine ∙ sym below) ∙ sum
+      ∙ (let e : p.k.base + (64 + 4 * word.word) ≡ p.k.base + 64 + 4 * word.word = omega arith in e)
 
   -- What the rules say of an LD or ST by %sp or %fp.
   pub record AccessesFrame (t : Moving) (m : MemoryOperand) : Type 0 where
@@ -114,14 +118,27 @@ module _ (parts : Parts) (w : ℕ) (p : Spot parts w) (lent : window_of (functio
     word : IsWordOffset function.frame access.offset
     unfolding access_of
     word =
-        let reached : Access = record { size = bytes_in (size_of t); writes = writes_memory t; offset = frame_offset function t m; range = address_of (register_entry d m.rs1) (operand_entry d m.operand2) } in
-        lies_in_frame function.frame access.offset (sym (ap (λ x. is_aligned_at x reached) access.by_offset) ∙ access.aligned) (sym (ap (λ x. is_placed_at parts function.frame x reached) access.by_offset) ∙ access.placed)
+        let reached : Access =
+        record {
+          size = bytes_in (size_of t);
+          writes = writes_memory t;
+          offset = frame_offset function t m;
+          range =
+              address_of (register_entry d m.rs1) (operand_entry d m.operand2);
+        } in
+        lies_in_frame function.frame access.offset (sym (ap (λ x. is_aligned_at x reached) access.by_offset) ∙ access.aligned)
+        (sym (ap (λ x. is_placed_at parts function.frame x reached) access.by_offset) ∙ access.placed)
 
     location_is : frame_word_of function.frame m ≡ Some (32 + word.word)
     location_is = ap (word_at_offset function.frame) access.offset_is ∙ word_at function.frame word.word access.offset access.has.small word.is word.within
 
     names : NamesWord parts w p m word.word
-    names = record { own = access.has.own; within = word.within; address = word_address access.has m access.low.operand_low access.offset word (counts_from function.frame m.rs1 m.operand2 access.offset access.offset_is) }
+    names = record {
+      own = access.has.own;
+      within = word.within;
+      address =
+          word_address access.has m access.low.operand_low access.offset word (counts_from function.frame m.rs1 m.operand2 access.offset access.offset_is);
+    }
 
     low_location : 32 + word.word < 1040
     low_location = let within = word.within in let small = access.has.small in omega (arith, within, small)
@@ -137,7 +154,8 @@ module _ (parts : Parts) (w : ℕ) (p : Spot parts w) (lent : window_of (functio
       let is = location_is t m access in
       let same : then_knows parts w p o ≡ with_entry l (register_entry d m.rd) d = ap (λ x. with_moved x t m.rd d) is in
       let list : reads_of function o ≡ m.rd ∷ [] = ap (λ x. moved_reads t m.rd ++ address_reads x m) access.by_offset in
-      stores_word parts w p m j v access.is (names t m access) (register_shown parts w p lent m.rd access.low.rd_low (read_known function o d access.known access.kept 0 m.rd (ap (λ xs. slice_get xs 0) list)))
+      stores_word parts w p m j v access.is (names t m access)
+      (register_shown parts w p lent m.rd access.low.rd_low (read_known function o d access.known access.kept 0 m.rd (ap (λ xs. slice_get xs 0) list)))
       (fits_shown p.start (then_knows parts w p o) l v p.k.words p.k.icc p.k.y (low_location t m access) ((frame_words_keep_fitting.store function.frame l m d held is).fits p.start p.at.fits))
       (is_fewer parts w p o l (register_entry d m.rd) same)
 
@@ -155,5 +173,6 @@ module _ (parts : Parts) (w : ℕ) (p : Spot parts w) (lent : window_of (functio
       let defined : is_defined d l ≡ true = undone (is_defined d l) (subst (λ x. is_undefined_word d x ≡ false) read (word_known function o d access.known access.kept)) in
       let free = free_register (Own function.frame) (is_framed function.kind) m.rd rd_low (write_allowed function o d access.known access.kept 0 m.rd refl) (λ e. absurd (cc)) in
       loads_word parts w p m j access.is (names t m access) defined free.0 free.1
-      (fits_shown p.start (then_knows parts w p o) m.rd (p.k.words l) p.k.words p.k.icc p.k.y (omega (arith, rd_low)) ((frame_words_keep_fitting.load function.frame l m d held is).fits p.start p.at.fits))
+      (fits_shown p.start (then_knows parts w p o) m.rd (p.k.words l) p.k.words p.k.icc p.k.y (omega (arith, rd_low))
+      ((frame_words_keep_fitting.load function.frame l m d held is).fits p.start p.at.fits))
       (is_fewer parts w p o m.rd (d.entry l) same)

@@ -41,7 +41,8 @@ on_four : (base j : ℕ) → base % 8 ≡ 0 → (t : Turn) → aligned 4 (base +
 on_four base j e t = let f : (base + 64 + 4 * j) % 4 == 0 ≡ true = grind (arith, nat_tests) in ap (λ (b : Bool). if b then t else Fails Misaligned) f
 
 -- ST of a frame word: the slot takes the word
-pub store_reaches : (parts : Parts) (size : ℕ) (known now : KnownParts) (j v : ℕ) (k : Shared) (s : State) → 4 * j + 68 ≤ size → k.base % 8 ≡ 0 → IsFewer known now (32 + j) → Shows (Own size) known k s
+pub store_reaches : (parts : Parts) (size : ℕ) (known now : KnownParts) (j v : ℕ) (k : Shared) (s : State) → 4 * j + 68 ≤ size → k.base % 8 ≡ 0 →
+    IsFewer known now (32 + j) → Shows (Own size) known k s
     → (m : MemoryOperand) → reg s m.rd ≡ v → Reaches (transfers parts (transfer.Store sizes.Word) m (k.base + 64 + 4 * j) s) (Shows (Own size) now (moved_on (with_word_known (32 + j) v k)))
 store_reaches parts size known now j v k s within eight fewer shows m value =
     let a = k.base + 64 + 4 * j in
@@ -49,7 +50,8 @@ store_reaches parts size known now j v k s within eight fewer shows m value =
     let there : s.registers.newest.slots a ≡ Some (slot_word k.base s.registers.newest j) = shows.file.slots j within in
     record {
       next = advanced (record s { registers = with_slot a v s.registers });
-      goes = on_four k.base j eight _ ∙ ap (λ x. transfers_in parts (transfer.Store sizes.Word) m.rd a x s) there ∙ ap (λ x. Goes (advanced (record s { registers = with_slot a x s.registers }))) value;
+      goes = on_four k.base j eight _ ∙ ap (λ x. transfers_in parts (transfer.Store sizes.Word) m.rd a x s) there
+          ∙ ap (λ x. Goes (advanced (record s { registers = with_slot a x s.registers }))) value;
       is = record {
         rest = record { pc = rest.npc; npc = ap following rest.npc; annulled = rest.annulled; memory = rest.memory; input = rest.input; output = rest.output; exit = rest.exit };
         file = slot_shows size known.location now.location k.base j v k.words k.calls s.registers within fewer.none fewer.location shows.file;
@@ -82,10 +84,18 @@ module _ (parts : Parts) (w : ℕ) (p : Spot parts w) where
         reaches = λ s h. ap (λ o. reached_by o s) is ∙ ap Some (names.address s h);
         goes = λ fresh s h.
             (let mine = subst (λ x. Shows x (tests parts p.v.known linked) p.k s) names.own h in
-            let made = store_reaches parts frame (tests parts p.v.known linked) (tests parts (transferred frame (Transfer (transfer.Store sizes.Word) m) p.v.known) linked) j v p.k s names.within p.at.eight fewer mine m (value s h) in
-            let turn : does parts fresh (op_of parts w p) s ≡ transfers parts (transfer.Store sizes.Word) m (p.k.base + 64 + 4 * j) s = ap (λ o. does parts fresh o s) is ∙ ap (λ a. transfers parts (transfer.Store sizes.Word) m a s) (names.address s h) in
-            let there = subst (λ x. Reaches (does parts fresh (op_of parts w p) s) (Shows x (tests parts (transferred frame (Transfer (transfer.Store sizes.Word) m) p.v.known) linked) (moved_on (with_word_known (32 + j) v p.k)))) (sym names.own) (reaches_by _ _ _ turn made) in
-            subst (λ o. Reaches (does parts fresh (op_of parts w p) s) (Shows (window_of (function_at parts p.f) p.b p.i) (tests parts (transferred frame o p.v.known) linked) (moved_on (with_word_known (32 + j) v p.k)))) (sym is) there);
+            let made = store_reaches parts frame (tests parts p.v.known linked)
+            (tests parts (transferred frame (Transfer (transfer.Store sizes.Word) m) p.v.known) linked) j v p.k s names.within p.at.eight fewer mine m
+            (value s h) in
+            let turn : does parts fresh (op_of parts w p) s ≡ transfers parts (transfer.Store sizes.Word) m (p.k.base + 64 + 4 * j) s =
+            ap (λ o. does parts fresh o s) is ∙ ap (λ a. transfers parts (transfer.Store sizes.Word) m a s) (names.address s h) in
+            let there = subst
+            (λ x. Reaches (does parts fresh (op_of parts w p) s)
+            (Shows x (tests parts (transferred frame (Transfer (transfer.Store sizes.Word) m) p.v.known) linked)
+            (moved_on (with_word_known (32 + j) v p.k)))) (sym names.own) (reaches_by _ _ _ turn made) in
+            subst (λ o. Reaches (does parts fresh (op_of parts w p) s)
+            (Shows (window_of (function_at parts p.f) p.b p.i) (tests parts (transferred frame o p.v.known) linked)
+            (moved_on (with_word_known (32 + j) v p.k)))) (sym is) there);
       }
     where
       no_link : (j v : ℕ) (words : Words) → with_location (32 + j) v words 15 ≡ words 15
@@ -93,7 +103,8 @@ module _ (parts : Parts) (w : ℕ) (p : Spot parts w) where
 
   pub loads_word : (m : MemoryOperand) (j : ℕ) → op_of parts w p ≡ Transfer (transfer.Load loadings.Word) m → NamesWord m j → is_defined p.v.known (32 + j) ≡ true → IsFree (Own frame) m.rd → 15 ≢ m.rd
       → (let after = transferred frame (Transfer (transfer.Load loadings.Word) m) p.v.known in
-      Fits p.start after (with_location m.rd (p.k.words (32 + j)) p.k.words) p.k.icc p.k.y → IsFewer (tests parts p.v.known (linked_at parts w p)) (tests parts after (linked_at parts w p)) m.rd → Does parts w p)
+      Fits p.start after (with_location m.rd (p.k.words (32 + j)) p.k.words) p.k.icc p.k.y →
+      IsFewer (tests parts p.v.known (linked_at parts w p)) (tests parts after (linked_at parts w p)) m.rd → Does parts w p)
   loads_word m j is names defined free apart fits fewer =
       let linked = linked_at parts w p in
       let v = p.k.words (32 + j) in
@@ -106,10 +117,18 @@ module _ (parts : Parts) (w : ℕ) (p : Spot parts w) where
         reaches = λ s h. ap (λ o. reached_by o s) is ∙ ap Some (names.address s h);
         goes = λ fresh s h.
             (let mine = subst (λ x. Shows x (tests parts p.v.known linked) p.k s) names.own h in
-            let made = load_reaches parts frame (tests parts p.v.known linked) (tests parts (transferred frame (Transfer (transfer.Load loadings.Word) m) p.v.known) linked) j m.rd p.k s names.within p.at.eight (slot_test j (is_defined p.v.known (32 + j)) linked defined) free fewer mine m refl in
-            let turn : does parts fresh (op_of parts w p) s ≡ transfers parts (transfer.Load loadings.Word) m (p.k.base + 64 + 4 * j) s = ap (λ o. does parts fresh o s) is ∙ ap (λ a. transfers parts (transfer.Load loadings.Word) m a s) (names.address s h) in
-            let there = subst (λ x. Reaches (does parts fresh (op_of parts w p) s) (Shows x (tests parts (transferred frame (Transfer (transfer.Load loadings.Word) m) p.v.known) linked) (moved_on (with_word_known m.rd v p.k)))) (sym names.own) (reaches_by _ _ _ turn made) in
-            subst (λ o. Reaches (does parts fresh (op_of parts w p) s) (Shows (window_of (function_at parts p.f) p.b p.i) (tests parts (transferred frame o p.v.known) linked) (moved_on (with_word_known m.rd v p.k)))) (sym is) there);
+            let made = load_reaches parts frame (tests parts p.v.known linked)
+            (tests parts (transferred frame (Transfer (transfer.Load loadings.Word) m) p.v.known) linked) j m.rd p.k s names.within p.at.eight
+            (slot_test j (is_defined p.v.known (32 + j)) linked defined) free fewer mine m refl in
+            let turn : does parts fresh (op_of parts w p) s ≡ transfers parts (transfer.Load loadings.Word) m (p.k.base + 64 + 4 * j) s =
+            ap (λ o. does parts fresh o s) is ∙ ap (λ a. transfers parts (transfer.Load loadings.Word) m a s) (names.address s h) in
+            let there = subst
+            (λ x. Reaches (does parts fresh (op_of parts w p) s)
+            (Shows x (tests parts (transferred frame (Transfer (transfer.Load loadings.Word) m) p.v.known) linked) (moved_on (with_word_known m.rd v p.k))))
+            (sym names.own) (reaches_by _ _ _ turn made) in
+            subst (λ o. Reaches (does parts fresh (op_of parts w p) s)
+            (Shows (window_of (function_at parts p.f) p.b p.i) (tests parts (transferred frame o p.v.known) linked)
+            (moved_on (with_word_known m.rd v p.k)))) (sym is) there);
       }
     where
       no_link : (n v : ℕ) (words : Words) → 15 ≢ n → with_location n v words 15 ≡ words 15

@@ -4,13 +4,15 @@ use Rattle.std.proofs.lemmas.Bool.{cases_lt}
 use Rattle.std.specs.Prelude.{◌==◌, nat_lt, nat_le, if◌then◌else◌, unwrap_or}
 use Rattle.std.proofs.lemmas.Bool.Decides.{nat_tests}
 use Rattle.sbx_flat.specs.Registers.{Frame, Registers, Words, Fresh, with_word, word_in, ins_of, written, is_slot, pushed, popped, with_slot}
-use Rattle.sbx_sound.proofs.Shared.{HasNoSlotsBelow, HasSlots, Open, ShowsCalls, ShowsFile, Window, Own, Lent, frame_word, frames_of_callers, kept_word, own_bytes, slot_word, word_at_location, with_location}
+use Rattle.sbx_sound.proofs.Shared.{HasNoSlotsBelow, HasSlots, Open, ShowsCalls, ShowsFile, Window, Own, Lent, frame_word, frames_of_callers, kept_word}
+use Rattle.sbx_sound.proofs.Shared.{own_bytes, slot_word, word_at_location, with_location}
 
 -- a write to the outs of the first of these frames, but to %sp and %o7
 other_word : (words : Words) (m v n : ℕ) → n ≢ m → with_word words m v n ≡ words n
 other_word words m v n apart = grind (arith, nat_tests)
 
-pub first_changed : (calls : List Open) (f : Frame) (fs : List Frame) (oldest : Words) (m v : ℕ) → 14 ≢ m → 15 ≢ m → ShowsCalls calls (f ∷ fs) oldest → ShowsCalls calls (record f { outs = with_word f.outs m v } ∷ fs) oldest
+pub first_changed : (calls : List Open) (f : Frame) (fs : List Frame) (oldest : Words) (m v : ℕ) → 14 ≢ m → 15 ≢ m → ShowsCalls calls (f ∷ fs) oldest →
+    ShowsCalls calls (record f { outs = with_word f.outs m v } ∷ fs) oldest
 first_changed [] f [] oldest m v a b h = other_word f.outs m v 14 a ∙ h
 first_changed [] f (g ∷ fs) oldest m v a b h = absurd h
 first_changed (c ∷ cs) f fs oldest m v a b h =
@@ -59,12 +61,14 @@ unfolding written
 wrote_local n v file g h = grind (arith, nat_tests)
 
 wrote_in : (n v : ℕ) (globals : Words) (newest f : Frame) (fs : List Frame) (oldest : Words) → 24 ≤ n →
-    written n v (record { globals = globals; newest = newest; older = f ∷ fs; oldest_ins = oldest }) ≡ record { globals = globals; newest = newest; older = record f { outs = with_word f.outs (n - 16) v } ∷ fs; oldest_ins = oldest }
+    written n v (record { globals = globals; newest = newest; older = f ∷ fs; oldest_ins = oldest }) ≡
+    record { globals = globals; newest = newest; older = record f { outs = with_word f.outs (n - 16) v } ∷ fs; oldest_ins = oldest }
 unfolding written
 wrote_in n v globals newest f fs oldest g = grind (arith, nat_tests)
 
 -- what a location reads after a write to a register
-word_written : (base n v : ℕ) (file : Registers) (l : ℕ) → n < 32 → word_at_location base (written n v file) l ≡ (if n == 0 then word_at_location base file l else (if l == n then v else word_at_location base file l))
+word_written : (base n v : ℕ) (file : Registers) (l : ℕ) → n < 32 →
+    word_at_location base (written n v file) l ≡ (if n == 0 then word_at_location base file l else (if l == n then v else word_at_location base file l))
 unfolding written
 word_written base n v file l h = grind (arith, nat_tests)
 
@@ -82,15 +86,25 @@ record Stands (window : Window) (base : ℕ) (calls : List Open) (file : Registe
   slots : HasSlots base (own_bytes window) file.newest
   below : HasNoSlotsBelow file.newest
 
-outs_stand : (window : Window) (base n v : ℕ) (calls : List Open) (file : Registers) → IsFree window n → Stands window base calls file → Stands window base calls (record file { newest = record file.newest { outs = with_word file.newest.outs n v } })
+outs_stand : (window : Window) (base n v : ℕ) (calls : List Open) (file : Registers) → IsFree window n → Stands window base calls file →
+    Stands window base calls (record file { newest = record file.newest { outs = with_word file.newest.outs n v } })
 outs_stand (Own size) base n v calls file free s = record { base_is = other_word file.newest.outs n v 14 free.sp ∙ s.base_is; calls_are = s.calls_are; slots = s.slots; below = s.below }
-outs_stand Lent base n v calls file free s = record { base_is = other_word file.newest.outs n v 14 free.sp ∙ s.base_is; calls_are = first_changed calls file.newest file.older file.oldest_ins n v free.sp ((free.lent refl).1) s.calls_are; slots = s.slots; below = s.below }
+outs_stand Lent base n v calls file free s =
+    record {
+      base_is = other_word file.newest.outs n v 14 free.sp ∙ s.base_is;
+      calls_are =
+          first_changed calls file.newest file.older file.oldest_ins n v free.sp ((free.lent refl).1) s.calls_are;
+      slots = s.slots;
+      below = s.below;
+    }
 
-globals_stand : (window : Window) (base n v : ℕ) (calls : List Open) (file : Registers) → Stands window base calls file → Stands window base calls (record file { globals = with_word file.globals n v })
+globals_stand : (window : Window) (base n v : ℕ) (calls : List Open) (file : Registers) → Stands window base calls file →
+    Stands window base calls (record file { globals = with_word file.globals n v })
 globals_stand (Own size) base n v calls file s = record { base_is = s.base_is; calls_are = s.calls_are; slots = s.slots; below = s.below }
 globals_stand Lent base n v calls file s = record { base_is = s.base_is; calls_are = s.calls_are; slots = s.slots; below = s.below }
 
-locals_stand : (window : Window) (base n v : ℕ) (calls : List Open) (file : Registers) → 16 ≤ n → IsFree window n → Stands window base calls file → Stands window base calls (record file { newest = record file.newest { locals = with_word file.newest.locals n v } })
+locals_stand : (window : Window) (base n v : ℕ) (calls : List Open) (file : Registers) → 16 ≤ n → IsFree window n → Stands window base calls file →
+    Stands window base calls (record file { newest = record file.newest { locals = with_word file.newest.locals n v } })
 locals_stand (Own size) base n v calls file above free s = record { base_is = s.base_is; calls_are = s.calls_are; slots = s.slots; below = s.below }
 locals_stand Lent base n v calls file above free s = absurd (let low = (free.lent refl).0 in omega arith)
 
@@ -120,7 +134,8 @@ write_stands window base n v calls file free s =
     (λ a. ins_stand window base n v calls file.globals file.newest file.older file.oldest_ins a free s)
 
 -- a register written
-pub write_shows : (window : Window) (known now : ℕ → Bool) (base n v : ℕ) (words : Words) (calls : List Open) (file : Registers) → IsFree window n → now 0 ≡ false → ((l : ℕ) → now l ≡ true → l ≢ n → known l ≡ true)
+pub write_shows : (window : Window) (known now : ℕ → Bool) (base n v : ℕ) (words : Words) (calls : List Open) (file : Registers) → IsFree window n →
+    now 0 ≡ false → ((l : ℕ) → now l ≡ true → l ≢ n → known l ≡ true)
     → ShowsFile window known base words calls file → ShowsFile window now base (with_location n v words) calls (written n v file)
 write_shows window known now base n v words calls file free none fewer s =
     let stands = write_stands window base n v calls file free (record { base_is = s.base_is; calls_are = s.calls_are; slots = s.slots; below = s.below }) in
@@ -158,7 +173,9 @@ slot_read : (base j v : ℕ) (file : Registers) (l : ℕ) → word_at_location b
 slot_read base j v file l =
     ⊎_elim
     (λ h. low_location base (with_slot (base + 64 + 4 * j) v file) l h ∙ sym (low_location base file l h) ∙ not_this (word_at_location base file l) h)
-    (λ h. high_location base (with_slot (base + 64 + 4 * j) v file) l h ∙ same_if (base + 64 + 4 * (l - 32) == base + 64 + 4 * j) (l == 32 + j) v (frame_word base file.newest (l - 32)) (same_slot base j l h) ∙ ap (λ x. if l == 32 + j then v else x) (sym (high_location base file l h)))
+    (λ h. high_location base (with_slot (base + 64 + 4 * j) v file) l h
+    ∙ same_if (base + 64 + 4 * (l - 32) == base + 64 + 4 * j) (l == 32 + j) v (frame_word base file.newest (l - 32)) (same_slot base j l h)
+    ∙ ap (λ x. if l == 32 + j then v else x) (sym (high_location base file l h)))
     (cases_lt l 32)
   where
     not_this : (x : ℕ) → l < 32 → x ≡ (if l == 32 + j then v else x)
@@ -168,7 +185,8 @@ chosen_slot : (j l v x y : ℕ) → (l ≢ 32 + j → x ≡ y) → (if l == 32 +
 chosen_slot j l v x y same = grind (arith, nat_tests)
 
 -- a slot that is there isn't below the stack
-none_below : (place a v : ℕ) (slots : ℕ → Option ℕ) → a < 0x000F0000 → slots place ≡ Some (unwrap_or (slots place) 0) → ((a : ℕ) → a < 0x000F0000 → slots a ≡ None) → (if a == place then Some v else slots a) ≡ None
+none_below : (place a v : ℕ) (slots : ℕ → Option ℕ) → a < 0x000F0000 → slots place ≡ Some (unwrap_or (slots place) 0) →
+    ((a : ℕ) → a < 0x000F0000 → slots a ≡ None) → (if a == place then Some v else slots a) ≡ None
 none_below place a v slots low there none = by_test (a == place) refl
   where
     by_test : (t : Bool) → (a == place) ≡ t → (if t then Some v else slots a) ≡ None
@@ -176,7 +194,8 @@ none_below place a v slots low there none = by_test (a == place) refl
     by_test false e = none a low
 
 -- a frame word written
-pub slot_shows : (size : ℕ) (known now : ℕ → Bool) (base j v : ℕ) (words : Words) (calls : List Open) (file : Registers) → 4 * j + 68 ≤ size → now 0 ≡ false → ((l : ℕ) → now l ≡ true → l ≢ 32 + j → known l ≡ true)
+pub slot_shows : (size : ℕ) (known now : ℕ → Bool) (base j v : ℕ) (words : Words) (calls : List Open) (file : Registers) → 4 * j + 68 ≤ size → now 0 ≡ false →
+    ((l : ℕ) → now l ≡ true → l ≢ 32 + j → known l ≡ true)
     → ShowsFile (Own size) known base words calls file → ShowsFile (Own size) now base (with_location (32 + j) v words) calls (with_slot (base + 64 + 4 * j) v file)
 slot_shows size known now base j v words calls file within none fewer s = record {
   base_is = s.base_is;
@@ -260,7 +279,8 @@ pop_these n known now base words c cs globals newest (f ∷ fs) oldest gives s =
         base_is = call.base;
         words_are = λ l h. by_third (word_at_location c.base left l ≡ given_back c words l) l
             (λ a. read_global c.base left l a ∙ sym (read_global base file l a) ∙ s.words_are l (gives.globals l h a) ∙ sym (back_global c words l a))
-            (λ a b. read_out c.base left l a b ∙ ap f.outs (let e : l ≡ l + 16 - 16 = omega arith in e) ∙ sym (read_in base file (l + 16) (omega arith) (omega arith)) ∙ s.words_are (l + 16) (gives.outs l h a b) ∙ sym (back_out c words l a b))
+            (λ a b. read_out c.base left l a b ∙ ap f.outs (let e : l ≡ l + 16 - 16 = omega arith in e)
+            ∙ sym (read_in base file (l + 16) (omega arith) (omega arith)) ∙ s.words_are (l + 16) (gives.outs l h a b) ∙ sym (back_out c words l a b))
             (λ a. read_kept c.base left l a ∙ call.kept l (grind (arith, nat_tests)) (gives.kept l h a) ∙ sym (back_kept c words l a));
         calls_are = s.calls_are.1;
         slots = call.slots;
@@ -268,7 +288,8 @@ pop_these n known now base words c cs globals newest (f ∷ fs) oldest gives s =
       };
     }
 
-pub pop_shows : (n : ℕ) (known now : ℕ → Bool) (base : ℕ) (words : Words) (c : Open) (cs : List Open) (file : Registers) → IsGivenBack c known now → ShowsFile (Own n) known base words (c ∷ cs) file → Popped (Own c.frame) now c.base (given_back c words) cs file
+pub pop_shows : (n : ℕ) (known now : ℕ → Bool) (base : ℕ) (words : Words) (c : Open) (cs : List Open) (file : Registers) → IsGivenBack c known now →
+    ShowsFile (Own n) known base words (c ∷ cs) file → Popped (Own c.frame) now c.base (given_back c words) cs file
 pop_shows n known now base words c cs file gives s = pop_these n known now base words c cs file.globals file.newest file.older file.oldest_ins gives s
 
 -- ---- calls and returns without a window of their own

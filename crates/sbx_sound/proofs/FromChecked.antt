@@ -49,13 +49,21 @@ module _ (parts : Parts) (checked : Checked parts) (f b i : ℕ) (in_f : f < len
   none cause h = checked f (address_of parts f b i) cause (record { block = b; word = i; place = record { function = in_f; block = in_b; word = in_i }; lies = refl; holds = h })
 
   -- OutOfFuel on an edge
-  pub edge_is_paid : (v : Visit) (t : ℕ) → IsVisit parts f b i v → v.way ≡ To t → IsPaid (state_at parts f b 0) (fuel_at parts f b) (weight_to parts f b (suc i)) (now parts f b i v) (fuel_at parts f t)
-  edge_is_paid v t is to = paid_holds (state_at parts f b 0) (now parts f b i v) (fuel_at parts f b) (fuel_at parts f t) (weight_to parts f b (suc i)) (λ unpaid. none OutOfFuel (inl (v, t, record { place = is.0; visit = is.1; to = to }, unpaid)))
+  pub edge_is_paid : (v : Visit) (t : ℕ) → IsVisit parts f b i v → v.way ≡ To t →
+      IsPaid (state_at parts f b 0) (fuel_at parts f b) (weight_to parts f b (suc i)) (now parts f b i v) (fuel_at parts f t)
+  edge_is_paid v t is to =
+      paid_holds (state_at parts f b 0) (now parts f b i v) (fuel_at parts f b) (fuel_at parts f t) (weight_to parts f b (suc i))
+      (λ unpaid. none OutOfFuel (inl (v, t, record { place = is.0; visit = is.1; to = to }, unpaid)))
 
   -- OutOfFuel at a return and at the exit
   pub return_is_paid : (v : Visit) → IsVisit parts f b i v → is_back v.way ≡ true → IsEnough (state_at parts f b 0) (fuel_at parts f b) (weight_to parts f b (suc i))
   return_is_paid v is back = enough_holds (state_at parts f b 0) (fuel_at parts f b) (weight_to parts f b (suc i))
-      (λ unpaid. none OutOfFuel (inr (inl (or_left (list_any (λ v. is_back v.way) (visits_at parts f b i)) (ends_run (op_at parts f b i)) (any_one (λ v. is_back v.way) (visits_at parts f b i) is.0 v is.1 back), unpaid))))
+      (λ unpaid. none OutOfFuel
+      (inr (inl (
+        or_left (list_any (λ v. is_back v.way) (visits_at parts f b i)) (ends_run (op_at parts f b i))
+            (any_one (λ v. is_back v.way) (visits_at parts f b i) is.0 v is.1 back),
+        unpaid,
+      ))))
 
   pub exit_is_paid : ends_run (op_at parts f b i) ≡ true → IsEnough (state_at parts f b 0) (fuel_at parts f b) (weight_to parts f b (suc i))
   exit_is_paid ends = enough_holds (state_at parts f b 0) (fuel_at parts f b) (weight_to parts f b (suc i))

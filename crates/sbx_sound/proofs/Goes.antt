@@ -25,11 +25,13 @@ pub record FallsTo (blocks b : ℕ) (way : Way) : Type 0 where
   pub way_is : way ≡ To (b + 1)
   pub within : b + 1 < blocks
 
-pub falls_by : (end : Bool) (words blocks b i : ℕ) → end ≡ false → FallsNext words i (falls_to end words blocks b i) ⊎ (FallsTo blocks b (falls_to end words blocks b i) ⊎ (falls_to end words blocks b i ≡ Past))
+pub falls_by : (end : Bool) (words blocks b i : ℕ) → end ≡ false →
+    FallsNext words i (falls_to end words blocks b i) ⊎ (FallsTo blocks b (falls_to end words blocks b i) ⊎ (falls_to end words blocks b i ≡ Past))
 falls_by true words blocks b i e = absurd (cc)
 falls_by false words blocks b i e = by_words (nat_lt (i + 1) words) refl
   where
-    by_blocks : (t : Bool) → nat_lt (b + 1) blocks ≡ t → FallsNext words i (if t then To (b + 1) else Past) ⊎ (FallsTo blocks b (if t then To (b + 1) else Past) ⊎ ((if t then To (b + 1) else Past) ≡ Past))
+    by_blocks : (t : Bool) → nat_lt (b + 1) blocks ≡ t →
+        FallsNext words i (if t then To (b + 1) else Past) ⊎ (FallsTo blocks b (if t then To (b + 1) else Past) ⊎ ((if t then To (b + 1) else Past) ≡ Past))
     by_blocks true h = inr (inl (record { way_is = refl; within = less_of (b + 1) blocks h }))
     by_blocks false h = inr (inr refl)
 
@@ -56,7 +58,8 @@ module _ (parts : Parts) (checked : Checked parts) (ordered : IsOrdered parts) w
         past : (way : Way) → way ≡ Past → is_past way ≡ false → ⊥
         past way e h = let g : is_past way ≡ true = ap is_past e in cc
 
-    to_next : goes_straight (op_at parts f b i) ≡ true → is_call (op_at parts f b i) ≡ false → FallsNext (words_in parts f b) i (falls parts f b i) → GoesNext parts f b i (state_at parts f b (suc i)) (falls parts f b i)
+    to_next : goes_straight (op_at parts f b i) ≡ true → is_call (op_at parts f b i) ≡ false → FallsNext (words_in parts f b) i (falls parts f b i) →
+        GoesNext parts f b i (state_at parts f b (suc i)) (falls parts f b i)
     to_next on no_call n = record {
       way_is = n.way_is;
       known = refl;
@@ -77,11 +80,14 @@ module _ (parts : Parts) (checked : Checked parts) (ordered : IsOrdered parts) w
     }
 
     -- a word that neither transfers control nor ends the run goes on
-    pub goes_on : goes_straight (op_at parts f b i) ≡ true → is_call (op_at parts f b i) ≡ false → ends_run (op_at parts f b i) ≡ false → GoesOn parts f b i (state_at parts f b (suc i)) (falls parts f b i)
+    pub goes_on : goes_straight (op_at parts f b i) ≡ true → is_call (op_at parts f b i) ≡ false → ends_run (op_at parts f b i) ≡ false →
+        GoesOn parts f b i (state_at parts f b (suc i)) (falls parts f b i)
     unfolding falls
     goes_on on no_call runs_on = by_way (falls_by (ends_run (op_at parts f b i)) (words_in parts f b) (length (function_at parts f).blocks) b i runs_on)
       where
-        by_way : FallsNext (words_in parts f b) i (falls parts f b i) ⊎ (FallsTo (length (function_at parts f).blocks) b (falls parts f b i) ⊎ (falls parts f b i ≡ Past)) → GoesOn parts f b i (state_at parts f b (suc i)) (falls parts f b i)
+        by_way : FallsNext (words_in parts f b) i (falls parts f b i)
+            ⊎ (FallsTo (length (function_at parts f).blocks) b (falls parts f b i) ⊎ (falls parts f b i ≡ Past)) →
+            GoesOn parts f b i (state_at parts f b (suc i)) (falls parts f b i)
         by_way (inl n) = inl (to_next on no_call n)
         by_way (inr (inl n)) = inr (to_block n)
         by_way (inr (inr e)) = absurd (not_past e)

@@ -36,7 +36,8 @@ pub one_edge : (w t budget : ℕ) (fuel next rest : ℤ) → (pos w +ℤ ((fuel 
 one_edge w t budget fuel next rest h paid = omega (arith, ints)
 
 -- a call: the callee's budget was counted with the slot
-pub one_call : (w a t callee budget : ℕ) (fuel next rest : ℤ) → (pos w +ℤ ((fuel -ℤ pos t) +ℤ rest)) ≤ℤ pos budget → next ≤ℤ pos callee → (pos (w + a) +ℤ ((next -ℤ pos 0) +ℤ ((fuel -ℤ pos (t + (a + callee))) +ℤ rest))) ≤ℤ pos budget
+pub one_call : (w a t callee budget : ℕ) (fuel next rest : ℤ) → (pos w +ℤ ((fuel -ℤ pos t) +ℤ rest)) ≤ℤ pos budget → next ≤ℤ pos callee →
+    (pos (w + a) +ℤ ((next -ℤ pos 0) +ℤ ((fuel -ℤ pos (t + (a + callee))) +ℤ rest))) ≤ℤ pos budget
 one_call w a t callee budget fuel next rest h within = omega (arith, ints)
 
 -- a return
@@ -81,7 +82,8 @@ pub near_in_cells : (start : Cells) (d : Known) (words : Words) (icc : Icc) (y :
 near_in_cells start d words icc y near l r e = let i = in_range (range_at d l) r (words l) e (near.intervals l) in (i.low, i.high)
 
 -- what an edge asks, at the numbers that are there
-pub edge_pays : (first now : Known) (fuel next : Form) (weight : ℕ) (start : Cells) (words : Words) (icc : Icc) (y : ℕ) → IsPaid first fuel weight now next → InCells first start → Near start now words icc y
+pub edge_pays : (first now : Known) (fuel next : Form) (weight : ℕ) (start : Cells) (words : Words) (icc : Icc) (y : ℕ) → IsPaid first fuel weight now next →
+    InCells first start → Near start now words icc y
     → (pos weight +ℤ form_value (numbers words) next) ≤ℤ form_value start fuel
 edge_pays first now fuel next weight start words icc y paid begun near =
     let e = same_line (numbers_now start now (numbers words)) (numbers words) next (λ l. same_number start (form_at now l) (words l) (near.forms l)) in
@@ -157,11 +159,13 @@ starts_have d P cells l h none some = by_test (is_location l)
     by_test true = cells_have d P cells l h none some
     by_test false = none
 
-pub begins : (d : Known) (cells : List Cell) (words : Words) → has_cells d cells ≡ true → ((l : ℕ) → HasInterval (range_at d l) (words l)) → ((l : ℕ) → HasAlignment (range_at d l) (words l)) → Begins d cells words
+pub begins : (d : Known) (cells : List Cell) (words : Words) → has_cells d cells ≡ true → ((l : ℕ) → HasInterval (range_at d l) (words l)) →
+    ((l : ℕ) → HasAlignment (range_at d l) (words l)) → Begins d cells words
 unfolding started
 begins d cells words h ranges multiples = record {
   ranges = λ l. starts_have d (λ k e. HasInterval (range_of_entry e) (words k)) cells l h tt (λ c here. interval_within (range_at d c.location) c.range (words c.location) here (ranges c.location));
-  multiples = λ l. starts_have d (λ k e. HasAlignment (range_of_entry e) (words k)) cells l h tt (λ c here. multiple_within (range_at d c.location) c.range (words c.location) here (multiples c.location));
+  multiples = λ l. starts_have d (λ k e. HasAlignment (range_of_entry e) (words k)) cells l h tt
+      (λ c here. multiple_within (range_at d c.location) c.range (words c.location) here (multiples c.location));
   forms = λ l. starts_have d (λ k e. HasForm (numbers words) (form_of_entry e) (words k)) cells l h tt (λ c here. own_number (numbers words) c.location);
   relation = refl;
   y = refl;
@@ -172,7 +176,8 @@ relates_nothing : (words : Words) (icc : Icc) (r : Option Relation) → r ≡ No
 relates_nothing words icc r e = subst (Relates words icc) (sym e) tt
 
 -- where words fit, they fit the beginning of a block whose cells hold there
-pub fits_begin : (start : Cells) (d : Known) (cells : List Cell) (words : Words) (icc : Icc) (y : ℕ) → has_cells d cells ≡ true → Fits start d words icc y → Fits (numbers words) (started cells) words icc y
+pub fits_begin : (start : Cells) (d : Known) (cells : List Cell) (words : Words) (icc : Icc) (y : ℕ) → has_cells d cells ≡ true → Fits start d words icc y →
+    Fits (numbers words) (started cells) words icc y
 fits_begin start d cells words icc y h fits =
     let near = fits.near in
     let b = begins d cells words h near.intervals fits.multiples in

@@ -28,7 +28,8 @@ use Rattle.sbx_sound.proofs.Order.{IsOrdered}
 use Rattle.sbx_sound.proofs.Onward.{HaveResults}
 
 -- what each item keeps with its fields, each item of a list keeps
-each_good : {A S : Type 0} (keeps : S → A → Result S ImageFault) (P Q : A → Type 0) (one : (s : S) (a : A) (t : S) → keeps s a ≡ Ok t → P a → Q a) (xs : List A) (s t : S) → each keeps s xs ≡ Ok t → AllByRecursion P xs → AllByRecursion Q xs
+each_good : {A S : Type 0} (keeps : S → A → Result S ImageFault) (P Q : A → Type 0) (one : (s : S) (a : A) (t : S) → keeps s a ≡ Ok t → P a →
+    Q a) (xs : List A) (s t : S) → each keeps s xs ≡ Ok t → AllByRecursion P xs → AllByRecursion Q xs
 unfolding each
 each_good keeps P Q one [] s t e h = tt
 each_good keeps P Q one (x ∷ xs) s t e h =
@@ -159,7 +160,8 @@ module _ (parts : Parts) (kept : parts_keep parts ≡ Ok tt) (typed : IsTyped pa
   functions_good : AllByRecursion IsGoodFunction parts.functions
   functions_good =
       let k = parts_kept parts kept in
-      each_good (function_keeps parts.version (code_start + 4 * length parts.words)) IsTypedFunction IsGoodFunction (good_function parts.version (code_start + 4 * length parts.words)) parts.functions (Exactly code_start, 0) k.last k.functions typed.functions
+      each_good (function_keeps parts.version (code_start + 4 * length parts.words)) IsTypedFunction IsGoodFunction
+      (good_function parts.version (code_start + 4 * length parts.words)) parts.functions (Exactly code_start, 0) k.last k.functions typed.functions
 
   pub function_good : (f : ℕ) → IsGoodFunction (function_at parts f)
   function_good f = by_number IsGoodFunction or_function parts.functions f (λ x h. h) no_good_function functions_good

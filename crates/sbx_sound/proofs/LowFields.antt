@@ -80,7 +80,13 @@ second_low true n r a p q = p
 second_low false n r a p q = q
 
 low_alternate : (w : ℕ) → LowThree (rd w) (rs1 w) (second_of (place w))
-low_alternate w = record { rd_low = low_bits w 25; rs1_low = low_bits w 14; operand_low = second_low (is_immediate w) (sign_extend 13 (bits_of w 0 13)) (rs2 w) (bits_of w 5 8) (extended w) (low_bits w 0) }
+low_alternate w =
+    record {
+      rd_low = low_bits w 25;
+      rs1_low = low_bits w 14;
+      operand_low =
+          second_low (is_immediate w) (sign_extend 13 (bits_of w 0 13)) (rs2 w) (bits_of w 5 8) (extended w) (low_bits w 0);
+    }
 
 -- what each row gives, and an undefined word, holds of every word
 by_match : (t : Bool) (P : Instr → Type 0) (x y : Instr) → P x → P y → P (if t then x else y)

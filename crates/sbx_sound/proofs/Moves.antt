@@ -90,7 +90,8 @@ no_zero true b h = refl
 no_zero false true h = refl
 no_zero false false h = absurd (cc)
 
-has_quotient : (start : Cells) (op : Division) (e : Option Entry) (x y : ℕ) (icc : Icc) (high : ℕ) → y < 2 ^ 32 → Has start e y → holds_zero e ≡ false → division_of op x y icc high ≡ Some (divided op x y icc high)
+has_quotient : (start : Cells) (op : Division) (e : Option Entry) (x y : ℕ) (icc : Icc) (high : ℕ) → y < 2 ^ 32 → Has start e y → holds_zero e ≡ false →
+    division_of op x y icc high ≡ Some (divided op x y icc high)
 has_quotient start op None x y icc high small has h = absurd (cc)
 has_quotient start op (Some e) x y icc high small has h = divisions_have_results op e.range x y icc high small has.interval (no_zero (int_lt (pos 0) e.range.lo) (int_lt e.range.hi (pos 0)) h)
 
@@ -147,7 +148,9 @@ module _ (parts : Parts) (w : ℕ) (p : Spot parts w) (lent : window_of (functio
 
   -- a register that is known, in each state
   pub register_shown : (r : ℕ) → r < 32 → (r ≢ 0 → is_defined d r ≡ true) → (s : State) → ShowsSpot parts w p s → reg s r ≡ p.k.words r
-  register_shown r low known s h = read_shown window (tests parts d (linked_at parts w p)) p.k s r low p.at.fits.near.zero (λ some. is_test r (is_defined d r) (linked_at parts w p) some (known some)) h
+  register_shown r low known s h =
+      read_shown window (tests parts d (linked_at parts w p)) p.k s r low p.at.fits.near.zero
+      (λ some. is_test r (is_defined d r) (linked_at parts w p) some (known some)) h
 
   -- an operation whose turn writes this word, and changes no more
   pub moves_one : (o : Operation) (rd v : ℕ) (e : Option Entry) → op_of parts w p ≡ o → IsFree window rd × (15 ≢ rd) → then_knows parts w p o ≡ with_entry rd e d
@@ -176,18 +179,21 @@ module _ (parts : Parts) (w : ℕ) (p : Spot parts w) (lent : window_of (functio
   unfolding writes_of transferred
   sets_high f is low known kept =
       let free = free_register window (is_framed function.kind) f.rd low (write_allowed function (SetHigh f) d known kept 0 f.rd refl) lent in
-      let fits = fits_shown p.start (then_knows parts w p (SetHigh f)) f.rd (high_word f) p.k.words p.k.icc p.k.y (omega (arith, low)) ((moves_keep_fitting.set_high function.frame f d held).fits p.start p.at.fits) in
+      let fits = fits_shown p.start (then_knows parts w p (SetHigh f)) f.rd (high_word f) p.k.words p.k.icc p.k.y (omega (arith, low))
+      ((moves_keep_fitting.set_high function.frame f d held).fits p.start p.at.fits) in
       moves_one (SetHigh f) f.rd (high_word f) (Some (constant_entry (high_word f))) is free refl fits None (λ s h. refl) (λ fresh s h. refl)
 
   pub reads_the_y : (rd : ℕ) → op_of parts w p ≡ ReadY rd → rd < 32 → reads_undefined function (ReadY rd) d ≡ false → touches_reserved function (ReadY rd) ≡ false → Does parts w p
   unfolding writes_of transferred
   reads_the_y rd is low known kept =
       let free = free_register window (is_framed function.kind) rd low (write_allowed function (ReadY rd) d known kept 0 rd refl) lent in
-      let fits = fits_shown p.start (then_knows parts w p (ReadY rd)) rd p.k.y p.k.words p.k.icc p.k.y (omega (arith, low)) ((moves_keep_fitting.read_y function.frame rd d held).fits p.start p.at.fits) in
+      let fits = fits_shown p.start (then_knows parts w p (ReadY rd)) rd p.k.y p.k.words p.k.icc p.k.y (omega (arith, low))
+      ((moves_keep_fitting.read_y function.frame rd d held).fits p.start p.at.fits) in
       moves_one (ReadY rd) rd p.k.y (entry_of_y d.y) is free refl fits None (λ s h. refl) (λ fresh s h. ap (λ y. writes rd y s) (h.y (y_known function (ReadY rd) d known kept refl)))
 
   -- WRY writes no register
-  pub writes_the_y : (f : Two) → op_of parts w p ≡ WriteY f → f.rs1 < 32 → LowOperand f.operand2 → reads_undefined function (WriteY f) d ≡ false → touches_reserved function (WriteY f) ≡ false → Does parts w p
+  pub writes_the_y : (f : Two) → op_of parts w p ≡ WriteY f → f.rs1 < 32 → LowOperand f.operand2 → reads_undefined function (WriteY f) d ≡ false →
+      touches_reserved function (WriteY f) ≡ false → Does parts w p
   unfolding reads_of transferred written
   writes_the_y f is low low_operand known kept =
       let o = WriteY f in
@@ -213,7 +219,8 @@ module _ (parts : Parts) (w : ℕ) (p : Spot parts w) (lent : window_of (functio
       })
 
   -- a divisor isn't 0
-  pub divides : (op : Division) (f : Three) → op_of parts w p ≡ Divide op f → LowThree f.rd f.rs1 f.operand2 → reads_undefined function (Divide op f) d ≡ false → touches_reserved function (Divide op f) ≡ false
+  pub divides : (op : Division) (f : Three) → op_of parts w p ≡ Divide op f → LowThree f.rd f.rs1 f.operand2 →
+      reads_undefined function (Divide op f) d ≡ false → touches_reserved function (Divide op f) ≡ false
       → may_divide_by_zero (Divide op f) d ≡ false → Does parts w p
   unfolding reads_of writes_of transferred
   divides op f is low known kept some =
@@ -230,7 +237,8 @@ module _ (parts : Parts) (w : ℕ) (p : Spot parts w) (lent : window_of (functio
       let e = quotient_of d.y (register_entry d f.rs1) (operand_entry d f.operand2) in
       let t = division_sets_codes op in
       let same_y : (s : State) → ShowsSpot parts w p s → s.y ≡ p.k.y = λ s h. h.y (y_known function o d known kept refl) in
-      let fits = fits_shown p.start (then_knows parts w p o) f.rd result.value p.k.words result.icc result.y (omega (arith, small)) ((quotients_keep_fitting function.frame op f d held operand).fits p.start p.at.fits) in
+      let fits = fits_shown p.start (then_knows parts w p o) f.rd result.value p.k.words result.icc result.y (omega (arith, small))
+      ((quotients_keep_fitting function.frame op f d held operand).fits p.start p.at.fits) in
       writes_one parts w p o f.rd result.value result.icc p.k.y p.k.memory (record {
         is = is;
         free = free.0;
@@ -250,14 +258,17 @@ module _ (parts : Parts) (w : ℕ) (p : Spot parts w) (lent : window_of (functio
             (let y = same_y s h in
             ap (λ x. writes_some f.rd ZeroDivisor (division_of op x (operand_value s f.operand2) s.icc s.y) s) (register_shown f.rs1 low.rs1_low (λ some. reads 0 f.rs1 refl some) s h)
             ∙ ap (λ x. writes_some f.rd ZeroDivisor (division_of op a x s.icc s.y) s) (second_is s h)
-            ∙ ap (λ x. writes_some f.rd ZeroDivisor x s) (has_quotient p.start op (operand_entry d f.operand2) a b s.icc s.y (operand_word p.k.words f.operand2 near.are_words operand) (operand_has p.start d p.k.words p.k.icc p.k.y f.operand2 near) some)
+            ∙ ap (λ x. writes_some f.rd ZeroDivisor x s)
+            (has_quotient p.start op (operand_entry d f.operand2) a b s.icc s.y (operand_word p.k.words f.operand2 near.are_words operand)
+            (operand_has p.start d p.k.words p.k.icc p.k.y f.operand2 near) some)
             ∙ ap (λ x. writes f.rd (divided op a b s.icc s.y).value (record s { icc = (divided op a b s.icc s.y).icc; y = x })) (divided_y op a b s.icc s.y)
             ∙ ap (λ x. writes f.rd (divided op a b s.icc x).value (record s { icc = (divided op a b s.icc x).icc })) y
             ∙ ap (λ x. writes f.rd x (record s { icc = (divided op a b s.icc p.k.y).icc })) (divided_value op a b s.icc p.k.icc p.k.y));
       })
 
   -- a tagged operation doesn't overflow
-  pub tags : (op : TaggedOp) (f : Three) → op_of parts w p ≡ TaggedTrap op f → LowThree f.rd f.rs1 f.operand2 → reads_undefined function (TaggedTrap op f) d ≡ false → touches_reserved function (TaggedTrap op f) ≡ false
+  pub tags : (op : TaggedOp) (f : Three) → op_of parts w p ≡ TaggedTrap op f → LowThree f.rd f.rs1 f.operand2 →
+      reads_undefined function (TaggedTrap op f) d ≡ false → touches_reserved function (TaggedTrap op f) ≡ false
       → may_overflow (TaggedTrap op f) d ≡ false → Does parts w p
   unfolding reads_of writes_of transferred
   tags op f is low known kept fit =
@@ -273,15 +284,19 @@ module _ (parts : Parts) (w : ℕ) (p : Spot parts w) (lent : window_of (functio
       let codes = flags op a b in
       let small = low.rd_low in
       let e = tagged_entry op (register_entry d f.rs1) (operand_entry d f.operand2) in
-      let none : codes.v ≡ false = has_tagged p.start op (register_entry d f.rs1) (operand_entry d f.operand2) a b p.k.icc p.k.y (near.are_words f.rs1) (operand_word p.k.words f.operand2 near.are_words operand)
+      let none : codes.v ≡ false =
+      has_tagged p.start op (register_entry d f.rs1) (operand_entry d f.operand2) a b p.k.icc p.k.y (near.are_words f.rs1)
+      (operand_word p.k.words f.operand2 near.are_words operand)
       (register_has p.start d p.k.words p.k.icc p.k.y f.rs1 near) (operand_has p.start d p.k.words p.k.icc p.k.y f.operand2 near)
-      (register_multiple p.start d p.k.words p.k.icc p.k.y f.rs1 p.at.fits) (operand_multiple p.start d p.k.words p.k.icc p.k.y f.operand2 p.at.fits) (undone (tagged_ranges_fit op (register_entry d f.rs1) (operand_entry d f.operand2)) fit) in
+      (register_multiple p.start d p.k.words p.k.icc p.k.y f.rs1 p.at.fits) (operand_multiple p.start d p.k.words p.k.icc p.k.y f.operand2 p.at.fits)
+      (undone (tagged_ranges_fit op (register_entry d f.rs1) (operand_entry d f.operand2)) fit) in
       let gives : (icc : Icc) (y : ℕ) → tagged_outcome op a b icc y ≡ Some (out v codes y) = λ icc y. tagged_by op a b icc y ∙ ap (λ (x : Bool). if x then None else Some (out v codes y)) none in
       writes_one parts w p o f.rd v codes p.k.y p.k.memory (record {
         is = is;
         free = free.0;
         apart = free.1;
-        fits = fits_shown p.start (then_knows parts w p o) f.rd v p.k.words codes p.k.y (omega (arith, small)) ((tagged_results_keep_fitting.fits function.frame op f d held (out v codes p.k.y) operand (gives p.k.icc p.k.y)).fits p.start p.at.fits);
+        fits = fits_shown p.start (then_knows parts w p o) f.rd v p.k.words codes p.k.y (omega (arith, small))
+            ((tagged_results_keep_fitting.fits function.frame op f d held (out v codes p.k.y) operand (gives p.k.icc p.k.y)).fits p.start p.at.fits);
         stored = p.at.stored;
         defined = λ l apart. other_defined l f.rd e d apart;
         reached = None;

@@ -80,13 +80,16 @@ module _ (start : Cells) (frame : ℕ) (d : Known) (n : HasNear start d) where
 
   -- a load of data brings any number, as 0
   load_data : (size : ℕ) (l : Loading) (m : MemoryOperand) → frame_word_of size m ≡ None → HasNear start (transferred size (Transfer (Load l) m) d)
-  load_data size l m none = after (transferred size (Transfer (Load l) m) d) (with_pairs (loaded l m.rd 0) n.held) (data_keeps_fitting.load size l m d n.held 0 none (pow_pos (8 * bytes_in (loaded_size l))))
+  load_data size l m none =
+      after (transferred size (Transfer (Load l) m) d) (with_pairs (loaded l m.rd 0) n.held)
+      (data_keeps_fitting.load size l m d n.held 0 none (pow_pos (8 * bytes_in (loaded_size l))))
 
   load_plainly : (l : Loading) (m : MemoryOperand) → (l ≡ loadings.Word → ⊥) → HasNear start (transferred frame (Transfer (Load l) m) d)
   unfolding transferred
   load_plainly l m other =
       let zero_is = no_word (offset_from_sp 0 m.rs1 m.operand2) in
-      let same : with_moved (frame_word_of 0 m) (Load l) m.rd d ≡ with_moved (frame_word_of frame m) (Load l) m.rd d = ap (λ w. with_moved w (Load l) m.rd d) zero_is ∙ sym (load_anywhere l (frame_word_of frame m) m d other) in
+      let same : with_moved (frame_word_of 0 m) (Load l) m.rd d ≡ with_moved (frame_word_of frame m) (Load l) m.rd d =
+      ap (λ w. with_moved w (Load l) m.rd d) zero_is ∙ sym (load_anywhere l (frame_word_of frame m) m d other) in
       subst (HasNear start) same (load_data 0 l m zero_is)
 
   load_word : (m : MemoryOperand) → HasNear start (transferred frame (Transfer (Load loadings.Word) m) d)
@@ -133,7 +136,9 @@ module _ (start : Cells) (frame : ℕ) (d : Known) (n : HasNear start d) where
   near_moved : (t : Moving) (m : MemoryOperand) → HasNear start (transferred frame (Transfer t m) d)
   near_moved (Load l) m = near_load l m
   near_moved (Store size) m = near_store size m
-  near_moved (Exchange e) m = after (transferred frame (Transfer (Exchange e) m) d) (with_location m.rd 0 n.held) (data_keeps_fitting.exchange frame e m d n.held 0 (pow_pos (8 * bytes_in (exchanged_size e))))
+  near_moved (Exchange e) m =
+      after (transferred frame (Transfer (Exchange e) m) d) (with_location m.rd 0 n.held)
+      (data_keeps_fitting.exchange frame e m d n.held 0 (pow_pos (8 * bytes_in (exchanged_size e))))
 
   -- ---- windows
 
@@ -178,14 +183,17 @@ module _ (start : Cells) (frame : ℕ) (d : Known) (n : HasNear start d) where
   restored_words : AreRestored n.held.words restore_words
   unfolding restore_words
   restored_words = record {
-    are_words = λ l. word_or (is_global l) (n.held.words l) (if is_out l then n.held.words (l + 16) else 0) (n.near.are_words l) (word_or_zero (is_out l) (n.held.words (l + 16)) (n.near.are_words (l + 16)));
+    are_words = λ l. word_or (is_global l) (n.held.words l) (if is_out l then n.held.words (l + 16) else 0) (n.near.are_words l)
+        (word_or_zero (is_out l) (n.held.words (l + 16)) (n.near.are_words (l + 16)));
     zero = n.near.zero;
     globals = λ l h. pick (is_global l) (n.held.words l) (if is_out l then n.held.words (l + 16) else 0) h;
     outs = λ l h. skip (is_global l) (n.held.words l) (if is_out l then n.held.words (l + 16) else 0) (outs_not_global l h) ∙ pick (is_out l) (n.held.words (l + 16)) 0 h;
   }
 
   near_restore : (f : Three) → IsOperand f.operand2 → HasNear start (transferred frame (Restore f) d)
-  near_restore f is = after (transferred frame (Restore f) d) (record n.held { words = with_word f.rd (address n.held.words f.rs1 f.operand2) restore_words }) (frames_keep_fitting.restore frame f d n.held restore_words is restored_words)
+  near_restore f is =
+      after (transferred frame (Restore f) d) (record n.held { words = with_word f.rd (address n.held.words f.rs1 f.operand2) restore_words })
+      (frames_keep_fitting.restore frame f d n.held restore_words is restored_words)
 
   -- ---- services
 
@@ -218,12 +226,19 @@ module _ (start : Cells) (frame : ℕ) (d : Known) (n : HasNear start d) where
 
   pub near_after : (op : Operation) → LowFields op → HasNear start (transferred frame op d)
   unfolding transferred
-  near_after (Compute op f) low = after (transferred frame (Compute op f) d) (with_result f.rd (outcome op (n.held.words f.rs1) (second n.held.words f.operand2) n.held.icc n.held.y) n.held) (results_keep_fitting frame op f d n.held (fields_of f low))
-  near_after (Divide op f) low = after (transferred frame (Divide op f) d) (with_result f.rd (divided op (n.held.words f.rs1) (second n.held.words f.operand2) n.held.icc n.held.y) n.held) (quotients_keep_fitting frame op f d n.held (operand_of f.operand2 low.operand_low))
+  near_after (Compute op f) low =
+      after (transferred frame (Compute op f) d)
+      (with_result f.rd (outcome op (n.held.words f.rs1) (second n.held.words f.operand2) n.held.icc n.held.y) n.held)
+      (results_keep_fitting frame op f d n.held (fields_of f low))
+  near_after (Divide op f) low =
+      after (transferred frame (Divide op f) d) (with_result f.rd (divided op (n.held.words f.rs1) (second n.held.words f.operand2) n.held.icc n.held.y) n.held)
+      (quotients_keep_fitting frame op f d n.held (operand_of f.operand2 low.operand_low))
   near_after (TaggedTrap op f) low = near_tagged op f (operand_of f.operand2 low.operand_low)
   near_after (SetHigh f) low = after (transferred frame (SetHigh f) d) (with_location f.rd (high_word f) n.held) (moves_keep_fitting.set_high frame f d n.held)
   near_after (ReadY rd) low = after (transferred frame (ReadY rd) d) (with_location rd n.held.y n.held) (moves_keep_fitting.read_y frame rd d n.held)
-  near_after (WriteY f) low = after (transferred frame (WriteY f) d) (record n.held { y = bit_xor (n.held.words f.rs1) (second n.held.words f.operand2) }) (moves_keep_fitting.write_y frame f d n.held (operand_of f.operand2 low.operand_low))
+  near_after (WriteY f) low =
+      after (transferred frame (WriteY f) d) (record n.held { y = bit_xor (n.held.words f.rs1) (second n.held.words f.operand2) })
+      (moves_keep_fitting.write_y frame f d n.held (operand_of f.operand2 low.operand_low))
   near_after (Transfer t m) low = near_moved t m
   near_after (Save f) low = near_save f
   near_after (Restore f) low = near_restore f (operand_of f.operand2 low.operand_low)

@@ -7,7 +7,8 @@ use Rattle.v8_meaning.specs.Admitted.{is_admitted}
 use Rattle.v8_meaning.specs.declared.operation.Loading.TheVariants as loadings
 use Rattle.v8_meaning.specs.declared.operation.MemoryOperand.{MemoryOperand}
 use Rattle.v8_meaning.specs.declared.operation.Operation.{Operation}
-use Rattle.v8_meaning.specs.declared.operation.Operation.TheVariants.{Compute, Divide, TaggedTrap, SetHigh, ReadY, WriteY, Transfer, Save, Restore, Call, BranchOnCondition, JumpAndLink, TrapOnCondition}
+use Rattle.v8_meaning.specs.declared.operation.Operation.TheVariants.{Compute, Divide, TaggedTrap, SetHigh, ReadY, WriteY, Transfer, Save, Restore, Call}
+use Rattle.v8_meaning.specs.declared.operation.Operation.TheVariants.{BranchOnCondition, JumpAndLink, TrapOnCondition}
 use Rattle.v8_meaning.specs.declared.operation.Transfer.{Transfer as Moving}
 use Rattle.v8_meaning.specs.declared.operation.Transfer.TheVariants.{Load, Store, Exchange}
 use Rattle.sbx_image.specs.Function.{Function}
@@ -103,11 +104,38 @@ module _ (parts : Parts) (w : ℕ) (p : Spot parts w) where
   moves : length (page_rights parts.regions) ≤ 64 → (t : Moving) (m : MemoryOperand) → Obeys (Transfer t m) → Does parts w p
   moves small t m r = by_offset (frame_offset function t m) refl
     where
-      by_frame : (z : ℤ) → (t : Moving) → Obeys (Transfer t m) → frame_offset function t m ≡ Some z → is_framed function.kind ≡ true → moves_word t ≡ true → offset_from_sp function.frame m.rs1 m.operand2 ≡ Some z → Does parts w p
+      by_frame : (z : ℤ) → (t : Moving) → Obeys (Transfer t m) → frame_offset function t m ≡ Some z → is_framed function.kind ≡ true → moves_word t ≡ true →
+          offset_from_sp function.frame m.rs1 m.operand2 ≡ Some z → Does parts w p
       by_frame z (Load loadings.Word) r e framed word is =
-          loads_frame_word parts w p r.lent m (record { is = r.is; has = r.has_frame framed; low = r.low; offset = z; by_offset = e; offset_is = is; known = r.known; kept = r.kept; aligned = r.aligned; placed = r.placed })
+          loads_frame_word parts w p r.lent m
+          (record {
+            is = r.is;
+            has = r.has_frame framed;
+            low = r.low;
+            offset = z;
+            by_offset = e;
+            offset_is = is;
+            known = r.known;
+            kept = r.kept;
+            aligned =
+                r.aligned;
+            placed = r.placed;
+          })
       by_frame z (Store sizes.Word) r e framed word is =
-          stores_frame_word parts w p r.lent m (record { is = r.is; has = r.has_frame framed; low = r.low; offset = z; by_offset = e; offset_is = is; known = r.known; kept = r.kept; aligned = r.aligned; placed = r.placed })
+          stores_frame_word parts w p r.lent m
+          (record {
+            is = r.is;
+            has = r.has_frame framed;
+            low = r.low;
+            offset = z;
+            by_offset = e;
+            offset_is = is;
+            known = r.known;
+            kept = r.kept;
+            aligned =
+                r.aligned;
+            placed = r.placed;
+          })
       by_frame z _ r e framed word is = absurd (cc)
 
       in_data : (t : Moving) → Obeys (Transfer t m) → frame_offset function t m ≡ None → Does parts w p
@@ -151,7 +179,8 @@ module _ (parts : Parts) (checked : Checked parts) (ordered : IsOrdered parts) (
       let shape = enters_framed function (op_at parts f 0 0) framed (enters parts checked f 0 0 entry refl) in
       frame_small function.frame (and_right (is_save_of function.frame (op_at parts f 0 0)) (is_frame_size function.frame) shape)
 
-  pub obeys : (w : ℕ) (p : Spot parts w) → p.v.annulled ≡ false → is_transfer (op_of parts w p) ≡ false → is_save (op_of parts w p) ≡ false → is_restore (op_of parts w p) ≡ false → ends_run (op_of parts w p) ≡ false → Obeys parts w p (op_of parts w p)
+  pub obeys : (w : ℕ) (p : Spot parts w) → p.v.annulled ≡ false → is_transfer (op_of parts w p) ≡ false → is_save (op_of parts w p) ≡ false →
+      is_restore (op_of parts w p) ≡ false → ends_run (op_of parts w p) ≡ false → Obeys parts w p (op_of parts w p)
   obeys w p runs no_transfer no_save no_restore runs_on =
       let f = p.f in let b = p.b in let i = p.i in let v = p.v in
       let place = p.at.place in
@@ -172,9 +201,16 @@ module _ (parts : Parts) (checked : Checked parts) (ordered : IsOrdered parts) (
         no_overflow = fits_tagged parts checked f b i place v visit runs;
         declared = asks_declared parts checked f b i place;
         lent = lent_leaf (function_at parts f) b i within;
-        has_frame = λ framed. record { framed = framed; own = own_inside (function_at parts f) b i within framed; bytes = bytes_inside (function_at parts f) b i within framed; small = small_frame f place.function framed };
+        has_frame = λ framed. record {
+          framed = framed;
+          own = own_inside (function_at parts f) b i within framed;
+          bytes =
+              bytes_inside (function_at parts f) b i within framed;
+          small = small_frame f place.function framed;
+        };
       }
 
   -- a word that neither transfers control, nor changes frames, nor ends the run, wherever it runs
-  pub does_at : length (page_rights parts.regions) ≤ 64 → (w : ℕ) (p : Spot parts w) → p.v.annulled ≡ false → is_transfer (op_of parts w p) ≡ false → is_save (op_of parts w p) ≡ false → is_restore (op_of parts w p) ≡ false → ends_run (op_of parts w p) ≡ false → Does parts w p
+  pub does_at : length (page_rights parts.regions) ≤ 64 → (w : ℕ) (p : Spot parts w) → p.v.annulled ≡ false → is_transfer (op_of parts w p) ≡ false →
+      is_save (op_of parts w p) ≡ false → is_restore (op_of parts w p) ≡ false → ends_run (op_of parts w p) ≡ false → Does parts w p
   does_at small w p runs no_transfer no_save no_restore runs_on = does_it parts w p small (op_of parts w p) (obeys w p runs no_transfer no_save no_restore runs_on)

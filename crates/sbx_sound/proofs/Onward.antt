@@ -129,12 +129,15 @@ module _ (parts : Parts) (checked : Checked parts) (ordered : IsOrdered parts) (
   pub before_straight : (f b i : ℕ) → IsPlace parts f b i → nat_lt (i + 1) (words_in parts f b) ≡ true → goes_straight (op_before parts f b i) ≡ true
   before_straight f b i place more =
       let before = op_before parts f b i in
-      straight_of before (left_false (is_transfer before && not (is_call before)) (nat_le (words_in parts f b) (i + 1)) (has_shape parts checked f b i place).after_slot (not_last (words_in parts f b) i more))
+      straight_of before
+      (left_false (is_transfer before && not (is_call before)) (nat_le (words_in parts f b) (i + 1)) (has_shape parts checked f b i place).after_slot
+      (not_last (words_in parts f b) i more))
 
   pub next_word : (p : Point parts) → nat_lt (p.i + 1) (words_in parts p.f p.b) ≡ true → NextWord parts p
   next_word p more =
       let straight = visit_is_straight parts p.f p.b p.i p.v (before_straight p.f p.b p.i p.there more) p.is_visit in
-      let near : HasNear p.start (state_at parts p.f p.b p.i) = subst (λ (v : Visit). HasNear p.start v.known) straight (record { held = record { words = p.words; icc = p.icc; y = p.y }; near = p.near }) in
+      let near : HasNear p.start (state_at parts p.f p.b p.i) =
+      subst (λ (v : Visit). HasNear p.start v.known) straight (record { held = record { words = p.words; icc = p.icc; y = p.y }; near = p.near }) in
       let onward = visit_then p.start p.f p.b p.i near in
       record {
         next = record {
@@ -166,7 +169,8 @@ module _ (parts : Parts) (checked : Checked parts) (ordered : IsOrdered parts) (
       by_test true = n
       by_test false = near_word start f b i v.known n
 
-  pub begins : (start : Cells) (d : Known) (f t : ℕ) (n : HasNear start d) → has_cells d (cells_at parts f t) ≡ true → Near (numbers n.held.words) (state_at parts f t 0) n.held.words n.held.icc n.held.y
+  pub begins : (start : Cells) (d : Known) (f t : ℕ) (n : HasNear start d) → has_cells d (cells_at parts f t) ≡ true →
+      Near (numbers n.held.words) (state_at parts f t 0) n.held.words n.held.icc n.held.y
   unfolding state_at
   begins start d f t n h =
       let words = n.held.words in
@@ -241,7 +245,9 @@ module _ (parts : Parts) (checked : Checked parts) (ordered : IsOrdered parts) (
       blocks : ℕ
       blocks = length (function_at parts p.f).blocks
 
-      falls_on : p.v.way ≡ falls parts p.f p.b p.i → FallsNext (words_in parts p.f p.b) p.i (falls parts p.f p.b p.i) ⊎ (FallsTo (length (function_at parts p.f).blocks) p.b (falls parts p.f p.b p.i) ⊎ (falls parts p.f p.b p.i ≡ Past)) → NextBlock parts p
+      falls_on : p.v.way ≡ falls parts p.f p.b p.i →
+          FallsNext (words_in parts p.f p.b) p.i (falls parts p.f p.b p.i)
+          ⊎ (FallsTo (length (function_at parts p.f).blocks) p.b (falls parts p.f p.b p.i) ⊎ (falls parts p.f p.b p.i ≡ Past)) → NextBlock parts p
       falls_on e (inl n) = absurd (no_more (words_in parts p.f p.b) p.i last n.within)
       falls_on e (inr (inl n)) = next_block p (record { block = p.b + 1; way_is = e ∙ n.way_is; within = n.within })
       falls_on e (inr (inr n)) = absurd (past_no p.v.way (e ∙ n) (goes_somewhere parts checked p.f p.b p.i p.there.function p.there.block p.there.word p.v p.is_visit))

@@ -52,10 +52,12 @@ base_small parts f (c ∷ cs) h = let rest = base_small parts c.function cs h.1 
 new_base : (x base frame : ℕ) → x ≡ base → frame ≤ base → base < 2 ^ 32 → 1 ≤ frame → (x + (2 ^ 32 - frame)) % 2 ^ 32 ≡ base - frame
 new_base x base frame e below small some = omega (arith, e)
 
-saved_test : (l : ℕ) (d : Known) → (not (l == 0) && (is_some (if is_in l then d.entry (l - 16) else None) || ((l == 15) && false))) ≡ true → (24 ≤ l) × (l < 32) × ((not (l - 16 == 0) && (is_defined d (l - 16) || ((l - 16 == 15) && false))) ≡ true)
+saved_test : (l : ℕ) (d : Known) → (not (l == 0) && (is_some (if is_in l then d.entry (l - 16) else None) || ((l == 15) && false))) ≡ true →
+    (24 ≤ l) × (l < 32) × ((not (l - 16 == 0) && (is_defined d (l - 16) || ((l - 16 == 15) && false))) ≡ true)
 saved_test l d h = by_test (is_in l) refl h
   where
-    by_test : (t : Bool) → is_in l ≡ t → (not (l == 0) && (is_some (if t then d.entry (l - 16) else None) || ((l == 15) && false))) ≡ true → (24 ≤ l) × (l < 32) × ((not (l - 16 == 0) && (is_defined d (l - 16) || ((l - 16 == 15) && false))) ≡ true)
+    by_test : (t : Bool) → is_in l ≡ t → (not (l == 0) && (is_some (if t then d.entry (l - 16) else None) || ((l == 15) && false))) ≡ true →
+        (24 ≤ l) × (l < 32) × ((not (l - 16 == 0) && (is_defined d (l - 16) || ((l - 16 == 15) && false))) ≡ true)
     by_test true e q = (grind (arith, nat_tests), grind (arith, nat_tests), grind (arith, nat_tests))
     by_test false e q = absurd (let p : (not (l == 0) && (false || ((l == 15) && false))) ≡ true = q in grind (arith, nat_tests))
 
@@ -94,7 +96,9 @@ module _ (parts : Parts) where
       let after = after_save parts w k f (straight_visit parts f 0 0) start base rules.framed refl (sym below) eight saves at in
       let there = subst (λ x. After parts n next_k f 0 0 x (falls parts f 0 0) start) saves after in
       let arrived = arrives parts n next_k f 0 0 (saved d) (falls parts f 0 0) start rules.framed rules.follows there in
-      let sum : (s : State) → ShowsSpot parts w p s → address (reg s) 14 (Immediate (2 ^ 32 - frame)) ≡ base = λ s h. new_base (reg s 14) k.base frame (read_sp s k.base h.file.base_is) (omega (arith, below)) (omega (arith, small, at_base)) (omega (arith, big)) in
+      let sum : (s : State) → ShowsSpot parts w p s → address (reg s) 14 (Immediate (2 ^ 32 - frame)) ≡ base =
+      λ s h. new_base (reg s 14) k.base frame (read_sp s k.base h.file.base_is) (omega (arith, below)) (omega (arith, small, at_base))
+      (omega (arith, big)) in
       steps_by parts w p word refl None (λ s h. ap (λ x. reached_by x s) rules.op) (inl arrived.spot)
       (λ fresh is_fresh s h. reaches_on _ _ _ arrived.shows (reaches_by _ (does parts fresh (Save t) s) _ (ap (λ x. does parts fresh x s) rules.op)
       (save_reaches parts fresh frame frame (tests parts d false) (tests parts (saved d) false) t k s refl base (sum s h) below big eight bottom rules.pages (λ l e. saved_test l d e) refl refl
@@ -136,7 +140,17 @@ module _ (parts : Parts) where
 
       goes : (o : Cond) (r : Refines o d start k.words k.icc k.y) (v : Visit) → v.known ≡ r.known → At parts (w + 1) (branched_shared c k) f b (suc i) v start → Steps parts w p
       goes o r v same next_at =
-          let next : Spot parts n = record { k = branched_shared c k; f = f; b = b; i = suc i; v = v; start = start; at = subst (λ m. At parts m (branched_shared c k) f b (suc i) v start) light next_at } in
+          let next : Spot parts n =
+          record {
+            k = branched_shared c k;
+            f = f;
+            b = b;
+            i = suc i;
+            v = v;
+            start = start;
+            at =
+                subst (λ m. At parts m (branched_shared c k) f b (suc i) v start) light next_at;
+          } in
           let shown : (s : State) → Shows (window_of (function_at parts f) b i) (tests parts d false) (branched_shared c k) s → ShowsSpot parts n next s =
           λ s h. (let h1 = subst (λ x. Shows x (tests parts d false) (branched_shared c k) s) same_window h in
           let h2 = less_shows (window_of (function_at parts f) b (suc i)) (tests parts d false) (tests parts r.known false) (branched_shared c k) s (refined_less o d start k.words k.icc k.y r) h1 in
@@ -144,7 +158,8 @@ module _ (parts : Parts) where
           subst (λ x. Shows (window_of (function_at parts f) b (suc i)) (tests parts v.known x) (branched_shared c k) s) (sym (ap is_call op)) h3) in
           steps_by parts w p word refl None (λ s h. ap (λ x. reached_by x s) op) (inl next)
           (λ fresh is_fresh s h. reaches_on _ _ _ shown (reaches_by _ (does parts fresh (BranchOnCondition c) s) _ (ap (λ x. does parts fresh x s) op)
-          (branch_reaches parts fresh c (window_of (function_at parts f) b i) (tests parts d false) k s reads (subst (λ x. Shows (window_of (function_at parts f) b i) (tests parts d x) k s) comes.no_call h))))
+          (branch_reaches parts fresh c (window_of (function_at parts f) b i) (tests parts d false) k s reads
+          (subst (λ x. Shows (window_of (function_at parts f) b i) (tests parts d x) k s) comes.no_call h))))
 
       by_held : (t : Bool) → holds c.cond k.icc ≡ t → Steps parts w p
       by_held true e = (let r = on_true e in goes c.cond r (taken parts c f b i r.known) refl (branch_taken parts w k f b i c start op comes e r at))
@@ -166,7 +181,17 @@ module _ (parts : Parts) where
       let next_k = record k { pc = k.npc; npc = following k.npc; annulled = false } in
       let after = after_annulled parts w k f b i v start no_call no_return light same_bytes at in
       let there = subst (λ y. After parts (w + 1) next_k f b i v.known y start) way after in
-      let next : Spot parts (w + 1) = record { k = next_k; f = f; b = t; i = 0; v = straight_visit parts f t 0; start = numbers k.words; at = after_edge parts (w + 1) next_k f b i t v.known start some cells paid follows there } in
+      let next : Spot parts (w + 1) =
+      record {
+        k = next_k;
+        f = f;
+        b = t;
+        i = 0;
+        v = straight_visit parts f t 0;
+        start = numbers k.words;
+        at =
+            after_edge parts (w + 1) next_k f b i t v.known start some cells paid follows there;
+      } in
       let linked = is_call (op_before parts f b i) in
       record {
         place = record { pc = k.pc; annulled = true; address = None };
@@ -185,7 +210,8 @@ module _ (parts : Parts) where
                 y = h.y;
               } in
               let h1 = subst (λ x. Shows x (tests parts v.known linked) next_k (advanced (record s { annulled = false }))) same_window moved in
-              less_shows (window_of (function_at parts f) t 0) (tests parts v.known linked) (tests parts (state_at parts f t 0) false) next_k (advanced (record s { annulled = false })) (starts_with_less parts v.known (cells_at parts f t) linked cells) h1);
+              less_shows (window_of (function_at parts f) t 0) (tests parts v.known linked) (tests parts (state_at parts f t 0) false) next_k
+              (advanced (record s { annulled = false })) (starts_with_less parts v.known (cells_at parts f t) linked cells) h1);
         };
       }
 
@@ -206,12 +232,24 @@ module _ (parts : Parts) where
       let before = one_word w weight (weight_to parts f b i) (budget parts) (form_value start (fuel_at parts f b)) (left_to_all parts k.calls) at.ledger in
       let after = subst (λ m. (pos n +ℤ ((form_value start (fuel_at parts f b) -ℤ pos m) +ℤ left_to_all parts k.calls)) ≤ℤ pos (budget parts)) (sym (weight_next parts f b i no_call)) before in
       let fuel = enough start at.begun in
-      let end : Exit parts n = record { status = k.words 8; output = k.output; bound = within_budget n (budget parts) (form_value start (fuel_at parts f b) -ℤ pos (weight_to parts f b (suc i))) (left_to_all parts k.calls) after (is_left (form_value start (fuel_at parts f b)) (weight_to parts f b (suc i)) fuel) (all_left parts f k.calls at.calls) } in
+      let end : Exit parts n =
+      record {
+        status = k.words 8;
+        output = k.output;
+        bound =
+            within_budget n (budget parts) (form_value start (fuel_at parts f b) -ℤ pos (weight_to parts f b (suc i))) (left_to_all parts k.calls) after
+            (is_left (form_value start (fuel_at parts f b)) (weight_to parts f b (suc i)) fuel) (all_left parts f k.calls at.calls);
+      } in
       steps_by parts w p word runs None (λ s h. ap (λ x. reached_by x s) op) (inr end)
       (λ fresh is_fresh s h. record {
         next = advanced (exits s);
         goes = ap (λ x. does parts fresh x s) op ∙ declared_exits s (service_of t) service declared;
-        is = record { status = ap Some (read_shown (window_of (function_at parts f) b i) (tests parts v.known (is_call (op_before parts f b i))) k s 8 (omega arith) at.fits.near.zero (λ some. known_8 (is_defined v.known 8) (is_call (op_before parts f b i)) defined) h); output = h.rest.output };
+        is = record {
+          status =
+              ap Some (read_shown (window_of (function_at parts f) b i) (tests parts v.known (is_call (op_before parts f b i))) k s 8
+              (omega arith) at.fits.near.zero (λ some. known_8 (is_defined v.known 8) (is_call (op_before parts f b i)) defined) h);
+          output = h.rest.output;
+        };
       })
     where
       known_8 : (x linked : Bool) → x ≡ true → (not (8 == 0) && (x || ((8 == 15) && linked))) ≡ true

@@ -38,7 +38,8 @@ use Rattle.v8_alu.specs.declared.Op.TheVariants as ops
 
 -- ---- results look at the codes and at Y only where the rules say so
 
-same_value : (op : Op) (t : Three) (a b : ℕ) (f g : Icc) (y z : ℕ) → (reads_codes (Compute op t) ≡ true → f ≡ g) → (reads_y (Compute op t) ≡ true → y ≡ z) → (outcome op a b f y).value ≡ (outcome op a b g z).value
+same_value : (op : Op) (t : Three) (a b : ℕ) (f g : Icc) (y z : ℕ) → (reads_codes (Compute op t) ≡ true → f ≡ g) → (reads_y (Compute op t) ≡ true → y ≡ z) →
+    (outcome op a b f y).value ≡ (outcome op a b g z).value
 unfolding outcome
 same_value ops.Addx t a b f g y z p q = ap (λ (i : Icc). (outcome ops.Addx a b i y).value) (p refl)
 same_value ops.AddxCc t a b f g y z p q = ap (λ (i : Icc). (outcome ops.AddxCc a b i y).value) (p refl)
@@ -47,7 +48,8 @@ same_value ops.SubxCc t a b f g y z p q = ap (λ (i : Icc). (outcome ops.SubxCc 
 same_value ops.MulsCc t a b f g y z p q = ap (λ (i : Icc). (outcome ops.MulsCc a b i y).value) (p refl) ∙ ap (λ x. (outcome ops.MulsCc a b g x).value) (q refl)
 same_value _ t a b f g y z p q = refl
 
-same_codes : (op : Op) (t : Three) (a b : ℕ) (f g : Icc) (y z : ℕ) → (reads_codes (Compute op t) ≡ true → f ≡ g) → (reads_y (Compute op t) ≡ true → y ≡ z) → (sets_codes op ≡ false → f ≡ g) → (outcome op a b f y).icc ≡ (outcome op a b g z).icc
+same_codes : (op : Op) (t : Three) (a b : ℕ) (f g : Icc) (y z : ℕ) → (reads_codes (Compute op t) ≡ true → f ≡ g) → (reads_y (Compute op t) ≡ true → y ≡ z) →
+    (sets_codes op ≡ false → f ≡ g) → (outcome op a b f y).icc ≡ (outcome op a b g z).icc
 unfolding outcome
 same_codes ops.AddxCc t a b f g y z p q r = ap (λ (i : Icc). (outcome ops.AddxCc a b i y).icc) (p refl)
 same_codes ops.SubxCc t a b f g y z p q r = ap (λ (i : Icc). (outcome ops.SubxCc a b i y).icc) (p refl)
@@ -153,18 +155,27 @@ module _ (parts : Parts) (w : ℕ) (p : Spot parts w) where
             let s_out = outcome op a b s.icc s.y in
             let mid : KnownParts = record { location = (tests parts d linked).location; codes = after.icc; y = is_some after.y } in
             let shown = codes_show window (tests parts d linked) mid p.k s s_out.icc out.icc s_out.y out.y
-            (λ r. same_codes op t a b s.icc p.k.icc s.y p.k.y codes y (λ u. h.codes (sym (entry_codes t.rd e d) ∙ known_codes (writes_y op) (sets_codes op) (relation_of op t) (with_entry t.rd e d) r u)))
-            (λ r. same_y op t a b s.icc p.k.icc s.y p.k.y y (λ u. h.y (ap (λ (x : Option Range). is_some x) (sym (entry_y t.rd e d)) ∙ known_y (writes_y op) (sets_codes op) (relation_of op t) (with_entry t.rd e d) r u)))
+            (λ r. same_codes op t a b s.icc p.k.icc s.y p.k.y codes y
+            (λ u. h.codes (sym (entry_codes t.rd e d) ∙ known_codes (writes_y op) (sets_codes op) (relation_of op t) (with_entry t.rd e d) r u)))
+            (λ r. same_y op t a b s.icc p.k.icc s.y p.k.y y
+            (λ u. h.y (ap (λ (x : Option Range). is_some x) (sym (entry_y t.rd e d))
+            ∙ known_y (writes_y op) (sets_codes op) (relation_of op t) (with_entry t.rd e d) r u)))
             (λ l. refl) h in
             let fewer : IsFewer mid (tests parts after linked) t.rd = record {
               none = refl;
-              location = λ l r apart. more_tests l (is_defined after l) (is_defined d l) linked (ap (λ (x : Option Entry). is_some x) (known_entry (writes_y op) (sets_codes op) (relation_of op t) (with_entry t.rd e d) l) ∙ other_defined l t.rd e d apart) r;
+              location = λ l r apart. more_tests l (is_defined after l) (is_defined d l) linked
+                  (ap (λ (x : Option Entry). is_some x) (known_entry (writes_y op) (sets_codes op) (relation_of op t) (with_entry t.rd e d) l)
+                  ∙ other_defined l t.rd e d apart) r;
               codes = λ r. r;
               y = λ r. r;
             } in
             let made = writes_reach window mid (tests parts after linked) t.rd out.value shared_codes (record s { icc = s_out.icc; y = s_out.y }) free fewer shown in
-            let same_out : outcome op (reg s t.rs1) (operand_value s t.operand2) s.icc s.y ≡ s_out = ap (λ x. outcome op x (operand_value s t.operand2) s.icc s.y) same_a ∙ ap (λ x. outcome op a x s.icc s.y) same_b in
+            let same_out : outcome op (reg s t.rs1) (operand_value s t.operand2) s.icc s.y ≡ s_out =
+            ap (λ x. outcome op x (operand_value s t.operand2) s.icc s.y) same_a ∙ ap (λ x. outcome op a x s.icc s.y) same_b in
             let turn : does parts fresh (op_of parts w p) s ≡ writes t.rd out.value (record s { icc = s_out.icc; y = s_out.y }) =
-            ap (λ o. does parts fresh o s) is ∙ ap (λ (x : AluOut). writes_result t.rd x s) same_out ∙ ap (λ v. writes t.rd v (record s { icc = s_out.icc; y = s_out.y })) (same_value op t a b s.icc p.k.icc s.y p.k.y codes y) in
-            subst (λ o. Reaches (does parts fresh (op_of parts w p) s) (Shows window (tests parts (transferred frame o d) linked) (moved_on (with_word_known t.rd out.value shared_codes)))) (sym is) (reaches_by _ _ _ turn made));
+            ap (λ o. does parts fresh o s) is ∙ ap (λ (x : AluOut). writes_result t.rd x s) same_out
+            ∙ ap (λ v. writes t.rd v (record s { icc = s_out.icc; y = s_out.y })) (same_value op t a b s.icc p.k.icc s.y p.k.y codes y) in
+            subst (λ o. Reaches (does parts fresh (op_of parts w p) s)
+            (Shows window (tests parts (transferred frame o d) linked) (moved_on (with_word_known t.rd out.value shared_codes)))) (sym is)
+            (reaches_by _ _ _ turn made));
       }

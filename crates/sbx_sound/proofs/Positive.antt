@@ -101,17 +101,24 @@ module _ (parts : Parts) where
   at_start f b start = refl
 
   goes_down : (p : Point) → EndsHere p ⊎ (NextWord p ⊎ NextBlock p) → (pos 1 ≤ℤ left_of p) ⊎ ((q : Point) × ((left_of q +ℤ pos 1) ≤ℤ left_of p))
-  goes_down p (inl e) = inl (enough_left (form_value p.start (fuel_at parts p.f p.b)) (weight_to parts p.f p.b p.i) (weight_to parts p.f p.b (suc p.i)) (weighs_more p.f p.b p.i) (e.enough p.start p.begun))
+  goes_down p (inl e) =
+      inl (enough_left (form_value p.start (fuel_at parts p.f p.b)) (weight_to parts p.f p.b p.i) (weight_to parts p.f p.b (suc p.i)) (weighs_more p.f p.b p.i)
+      (e.enough p.start p.begun))
   goes_down p (inr (inl n)) = inr (
     n.next,
     (let same = same_left n.next.f p.f n.next.b p.b n.next.i (suc p.i) n.next.start p.start n.function n.block n.place n.start_is in
-        subst (λ x. (x +ℤ pos 1) ≤ℤ left_of p) (sym same) (falls_by_word (form_value p.start (fuel_at parts p.f p.b)) (weight_to parts p.f p.b p.i) (weight_to parts p.f p.b (suc p.i)) (weighs_more p.f p.b p.i))),
+        subst (λ x. (x +ℤ pos 1) ≤ℤ left_of p) (sym same)
+        (falls_by_word (form_value p.start (fuel_at parts p.f p.b)) (weight_to parts p.f p.b p.i) (weight_to parts p.f p.b (suc p.i))
+        (weighs_more p.f p.b p.i))),
   )
   goes_down p (inr (inr n)) = inr (
     n.next,
     (let same = same_left n.next.f p.f n.next.b n.next.b n.next.i 0 n.next.start (numbers n.words) n.function refl n.place n.start_is ∙ at_start p.f n.next.b (numbers n.words) in
-        let pays = edge_pays (state_at parts p.f p.b 0) n.now (fuel_at parts p.f p.b) (fuel_at parts p.f n.next.b) (weight_to parts p.f p.b (suc p.i)) p.start n.words n.icc n.y n.paid p.begun n.near in
-        subst (λ x. (x +ℤ pos 1) ≤ℤ left_of p) (sym same) (falls_by_edge (form_value p.start (fuel_at parts p.f p.b)) (form_value (numbers n.words) (fuel_at parts p.f n.next.b)) (weight_to parts p.f p.b p.i) (weight_to parts p.f p.b (suc p.i)) (weighs_more p.f p.b p.i) pays)),
+        let pays = edge_pays (state_at parts p.f p.b 0) n.now (fuel_at parts p.f p.b) (fuel_at parts p.f n.next.b)
+        (weight_to parts p.f p.b (suc p.i)) p.start n.words n.icc n.y n.paid p.begun n.near in
+        subst (λ x. (x +ℤ pos 1) ≤ℤ left_of p) (sym same)
+        (falls_by_edge (form_value p.start (fuel_at parts p.f p.b)) (form_value (numbers n.words) (fuel_at parts p.f n.next.b))
+        (weight_to parts p.f p.b p.i) (weight_to parts p.f p.b (suc p.i)) (weighs_more p.f p.b p.i) pays)),
   )
 
   some_bound : (z : ℤ) → (n : ℕ) × (z <ℤ pos n)
@@ -140,7 +147,8 @@ module _ (parts : Parts) where
       by_test true (Some r) h = (let x = h r refl in (x.word, x.small, x.within))
 
   -- after a call with any results some words lie in the intervals
-  pub near_after_call : (start : Cells) (d : Known) (words : Words) (icc : Icc) (y : ℕ) (results : List Range) → ((n : ℕ) (r : Range) → slice_get results n ≡ Some r → HasWord r) → Near start d words icc y
+  pub near_after_call : (start : Cells) (d : Known) (words : Words) (icc : Icc) (y : ℕ) (results : List Range) →
+      ((n : ℕ) (r : Range) → slice_get results n ≡ Some r → HasWord r) → Near start d words icc y
       → (now : Words) × Near start (called results d) now icc y
   unfolding any_word called
   near_after_call start d words icc y results has near =
@@ -171,10 +179,12 @@ module _ (parts : Parts) where
       formless (Some r) true b = tt
       formless o false b = tt
 
-      range : (t : Bool) (o : Option Entry) (p : Option Range) (u : Bool) (a b : ℕ) → HasInterval (range_of_entry o) a → HasInterval (if u then p else None) b → HasInterval (range_of_entry (if t then o else (if u then plain_entry_of p else None))) (if t then a else b)
+      range : (t : Bool) (o : Option Entry) (p : Option Range) (u : Bool) (a b : ℕ) → HasInterval (range_of_entry o) a → HasInterval (if u then p else None) b →
+          HasInterval (range_of_entry (if t then o else (if u then plain_entry_of p else None))) (if t then a else b)
       range true o p u a b x y = x
       range false o p u a b x y = plain p u b y
 
-      form : (t : Bool) (o : Option Entry) (p : Option Range) (u : Bool) (a b : ℕ) → HasForm start (form_of_entry o) a → HasForm start (form_of_entry (if t then o else (if u then plain_entry_of p else None))) (if t then a else b)
+      form : (t : Bool) (o : Option Entry) (p : Option Range) (u : Bool) (a b : ℕ) → HasForm start (form_of_entry o) a →
+          HasForm start (form_of_entry (if t then o else (if u then plain_entry_of p else None))) (if t then a else b)
       form true o p u a b x = x
       form false o p u a b x = formless p u b

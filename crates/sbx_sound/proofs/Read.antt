@@ -56,7 +56,9 @@ module _ (function : Function) (o : Operation) (d : Known) (known : reads_undefi
   parts_known : (list_any (λ r. not (r == 0) && not (is_reserved r) && not (is_defined d r)) (reads_of function o) ≡ false) × (is_undefined_word d (frame_word_read function o) ≡ false)
       × ((reads_codes o && not d.icc) ≡ false) × ((reads_y o && not (is_some d.y)) ≡ false)
   unfolding reads_undefined
-  parts_known = four (list_any (λ r. not (r == 0) && not (is_reserved r) && not (is_defined d r)) (reads_of function o)) (is_undefined_word d (frame_word_read function o)) (reads_codes o && not d.icc) (reads_y o && not (is_some d.y)) known
+  parts_known =
+      four (list_any (λ r. not (r == 0) && not (is_reserved r) && not (is_defined d r)) (reads_of function o))
+      (is_undefined_word d (frame_word_read function o)) (reads_codes o && not d.icc) (reads_y o && not (is_some d.y)) known
 
   parts_kept : (list_any is_reserved (reads_of function o) ≡ false) × (list_any (λ r. not (may_write function o r)) (writes_of o) ≡ false)
   unfolding touches_reserved
@@ -76,7 +78,9 @@ module _ (function : Function) (o : Operation) (d : Known) (known : reads_undefi
 
   pub read_known : (n r : ℕ) → slice_get (reads_of function o) n ≡ Some r → r ≢ 0 → is_defined d r ≡ true
   read_known n r is some =
-      known_of (r == 0) (is_reserved r) (is_defined d r) (none_of (λ x. not (x == 0) && not (is_reserved x) && not (is_defined d x)) (reads_of function o) n r is parts_known.0) (some_number r some) (none_of is_reserved (reads_of function o) n r is parts_kept.0)
+      known_of (r == 0) (is_reserved r) (is_defined d r)
+      (none_of (λ x. not (x == 0) && not (is_reserved x) && not (is_defined d x)) (reads_of function o) n r is parts_known.0) (some_number r some)
+      (none_of is_reserved (reads_of function o) n r is parts_kept.0)
 
   -- nor is it one of the reserved ones
   pub read_free : (n r : ℕ) → slice_get (reads_of function o) n ≡ Some r → is_reserved r ≡ false
@@ -106,9 +110,11 @@ module _ (parts : Parts) (w : ℕ) (p : Spot parts w) where
   is_test l a linked some h = grind (arith, nat_tests)
 
   -- a second operand reads the same in every state
-  pub second_shown : (operand2 : Operand) → LowOperand operand2 → ((r : ℕ) → operand2 ≡ Register r → r ≢ 0 → is_defined p.v.known r ≡ true) → (s : State) → ShowsSpot parts w p s → second (reg s) operand2 ≡ second p.k.words operand2
+  pub second_shown : (operand2 : Operand) → LowOperand operand2 → ((r : ℕ) → operand2 ≡ Register r → r ≢ 0 → is_defined p.v.known r ≡ true) → (s : State) →
+      ShowsSpot parts w p s → second (reg s) operand2 ≡ second p.k.words operand2
   second_shown (Register r) low known s h =
-      read_shown (window_of (function_at parts p.f) p.b p.i) (tests parts p.v.known (linked_at parts w p)) p.k s r low p.at.fits.near.zero (λ some. is_test r (is_defined p.v.known r) (linked_at parts w p) some (known r refl some)) h
+      read_shown (window_of (function_at parts p.f) p.b p.i) (tests parts p.v.known (linked_at parts w p)) p.k s r low p.at.fits.near.zero
+      (λ some. is_test r (is_defined p.v.known r) (linked_at parts w p) some (known r refl some)) h
   second_shown (Immediate n) low known s h = refl
 
   second_read : (rs1 : ℕ) (operand2 : Operand) (r : ℕ) → operand2 ≡ Register r → slice_get (rs1 ∷ second_reads operand2) 1 ≡ Some r

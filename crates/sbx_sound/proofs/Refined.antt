@@ -52,7 +52,9 @@ same_known a b e = cc
 
 of_pair : (x y : Related) (d e : Known) (o : Option Pair) → with_pair x y d o ≡ Some e → IsNarrowed e d
 of_pair x y d e None h = absurd (cc)
-of_pair x y d e (Some p) h = subst (λ k. IsNarrowed k d) (same_known (narrowed_related x p.left (narrowed_related y p.right d)) e h) (at_related x p.left (narrowed_related y p.right d) d (at_related y p.right d d (as_it_is d)))
+of_pair x y d e (Some p) h =
+    subst (λ k. IsNarrowed k d) (same_known (narrowed_related x p.left (narrowed_related y p.right d)) e h)
+    (at_related x p.left (narrowed_related y p.right d) d (at_related y p.right d d (as_it_is d)))
 
 of_ranges : (c : Cond) (x y : Related) (a b : Option Range) (d e : Known) → refined_pair c x y a b d ≡ Some e → IsNarrowed e d
 of_ranges c x y (Some a) (Some b) d e h = of_pair x y d e (in_both (is_same x y) (refine c a b)) h

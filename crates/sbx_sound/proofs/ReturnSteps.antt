@@ -82,10 +82,21 @@ module _ (parts : Parts) where
     pub spot : Spot parts n
     pub shows : (s : State) → Shows window (tests parts d false) k s → ShowsSpot parts n spot s
 
-  pub arrives_next : (n : ℕ) (k : Shared) (f b i : ℕ) (d : Known) (way : Way) (start : Cells) → is_framed (function_at parts f).kind ≡ true → GoesNext f b i d way → After parts n k f b i d way start → Arrives n k d (Own (function_at parts f).frame)
+  pub arrives_next : (n : ℕ) (k : Shared) (f b i : ℕ) (d : Known) (way : Way) (start : Cells) → is_framed (function_at parts f).kind ≡ true →
+      GoesNext f b i d way → After parts n k f b i d way start → Arrives n k d (Own (function_at parts f).frame)
   arrives_next n k f b i d way start framed g a =
       let there = subst (λ x. After parts n k f b i (state_at parts f b (suc i)) x start) g.way_is (subst (λ x. After parts n k f b i x way start) g.known a) in
-      let spot : Spot parts n = record { k = k; f = f; b = b; i = suc i; v = straight_visit parts f b (suc i); start = start; at = after_next parts n k f b i start g.straight g.no_call g.there there } in
+      let spot : Spot parts n =
+      record {
+        k = k;
+        f = f;
+        b = b;
+        i = suc i;
+        v = straight_visit parts f b (suc i);
+        start = start;
+        at =
+            after_next parts n k f b i start g.straight g.no_call g.there there;
+      } in
       record {
         spot = spot;
         shows = λ s h. (let h1 = subst (λ x. Shows x (tests parts d false) k s) (sym (own_window (function_at parts f) b i framed)) h in
@@ -100,22 +111,35 @@ module _ (parts : Parts) where
       inside : (x : Bool) (t : ℕ) → x ≡ true → (x && not ((suc t == 0) && (0 == 0))) ≡ true
       inside x t h = grind (arith, nat_tests)
 
-  pub arrives_block : (n : ℕ) (k : Shared) (f b i : ℕ) (d : Known) (way : Way) (start : Cells) → is_framed (function_at parts f).kind ≡ true → GoesToBlock f b i d way → After parts n k f b i d way start → Arrives n k d (Own (function_at parts f).frame)
+  pub arrives_block : (n : ℕ) (k : Shared) (f b i : ℕ) (d : Known) (way : Way) (start : Cells) → is_framed (function_at parts f).kind ≡ true →
+      GoesToBlock f b i d way → After parts n k f b i d way start → Arrives n k d (Own (function_at parts f).frame)
   unfolding state_at
   arrives_block n k f b i d way start framed g a =
       let there = subst (λ x. After parts n k f b i d x start) g.way_is a in
-      let spot : Spot parts n = record { k = k; f = f; b = g.t; i = 0; v = straight_visit parts f g.t 0; start = numbers k.words; at = after_edge parts n k f b i g.t d start g.some g.cells g.paid g.there there } in
+      let spot : Spot parts n =
+      record {
+        k = k;
+        f = f;
+        b = g.t;
+        i = 0;
+        v = straight_visit parts f g.t 0;
+        start = numbers k.words;
+        at =
+            after_edge parts n k f b i g.t d start g.some g.cells g.paid g.there there;
+      } in
       record {
         spot = spot;
         shows = λ s h. (let h1 = subst (λ x. Shows x (tests parts d false) k s) (sym (block_window (function_at parts f) g.t framed g.some)) h in
-            less_shows (window_of (function_at parts f) g.t 0) (tests parts d false) (tests parts (state_at parts f g.t 0) false) k s (starts_with_less parts d (cells_at parts f g.t) false g.cells) h1);
+            less_shows (window_of (function_at parts f) g.t 0) (tests parts d false) (tests parts (state_at parts f g.t 0) false) k s
+            (starts_with_less parts d (cells_at parts f g.t) false g.cells) h1);
       }
 
   -- either of them
   abbrev pub GoesOn : ℕ → ℕ → ℕ → Known → Way → Type 0
   GoesOn f b i d way = GoesNext f b i d way ⊎ GoesToBlock f b i d way
 
-  pub arrives : (n : ℕ) (k : Shared) (f b i : ℕ) (d : Known) (way : Way) (start : Cells) → is_framed (function_at parts f).kind ≡ true → GoesOn f b i d way → After parts n k f b i d way start → Arrives n k d (Own (function_at parts f).frame)
+  pub arrives : (n : ℕ) (k : Shared) (f b i : ℕ) (d : Known) (way : Way) (start : Cells) → is_framed (function_at parts f).kind ≡ true → GoesOn f b i d way →
+      After parts n k f b i d way start → Arrives n k d (Own (function_at parts f).frame)
   arrives n k f b i d way start framed (inl g) a = arrives_next n k f b i d way start framed g a
   arrives n k f b i d way start framed (inr g) a = arrives_block n k f b i d way start framed g a
 
@@ -128,7 +152,9 @@ module _ (parts : Parts) where
   -- a return, where the word's effect is to go to the caller
   return_word : (w : ℕ) (k : Shared) (f b i : ℕ) (t : Three) (c : Open) (cs : List Open) (start : Cells) (at : At parts w k f b i (straight_visit parts f b i) start)
       → IsWord parts f b i → op_at parts f b i ≡ JumpAndLink t → k.calls ≡ c ∷ cs → ComesStraight parts f b i → window_of (function_at parts f) b i ≡ window_of (function_at parts f) b (suc i)
-      → ((fresh : Fresh) (s : State) → Shows (window_of (function_at parts f) b i) (tests parts (state_at parts f b i) false) k s → Reaches (does parts fresh (JumpAndLink t) s) (Shows (window_of (function_at parts f) b i) (tests parts (state_at parts f b i) false) (moved_to ((c.back + 8) % 2 ^ 32) k)))
+      → ((fresh : Fresh) (s : State) → Shows (window_of (function_at parts f) b i) (tests parts (state_at parts f b i) false) k s →
+      Reaches (does parts fresh (JumpAndLink t) s)
+      (Shows (window_of (function_at parts f) b i) (tests parts (state_at parts f b i) false) (moved_to ((c.back + 8) % 2 ^ 32) k)))
       → let p : Spot parts w = record { k = k; f = f; b = b; i = i; v = straight_visit parts f b i; start = start; at = at } in
       Steps parts w p
   return_word w k f b i t c cs start at word op is comes_straight same_window does_it =
@@ -137,22 +163,39 @@ module _ (parts : Parts) where
       let n = w + weight_of (op_at parts f b i) in
       let light : w + 1 ≡ n = ap (λ x. w + weight_of x) (sym op) in
       let d = state_at parts f b i in
-      let next : Spot parts n = record { k = next_k; f = f; b = b; i = suc i; v = return_visit parts f b (suc i); start = start; at = subst (λ m. At parts m next_k f b (suc i) (return_visit parts f b (suc i)) start) light (return_at parts w k f b i t c cs start op is comes_straight at) } in
+      let next : Spot parts n =
+      record {
+        k = next_k;
+        f = f;
+        b = b;
+        i = suc i;
+        v = return_visit parts f b (suc i);
+        start = start;
+        at =
+            subst (λ m. At parts m next_k f b (suc i) (return_visit parts f b (suc i)) start) light
+            (return_at parts w k f b i t c cs start op is comes_straight at);
+      } in
       let shown : (s : State) → Shows (window_of (function_at parts f) b i) (tests parts d false) next_k s → ShowsSpot parts n next s =
       λ s h. (let h1 = subst (λ x. Shows x (tests parts d false) next_k s) same_window h in
       let h2 = subst (λ x. Shows (window_of (function_at parts f) b (suc i)) (tests parts x false) next_k s) (sym (return_known f b i t op comes_straight.no_call)) h1 in
       subst (λ x. Shows (window_of (function_at parts f) b (suc i)) (tests parts (state_at parts f b (suc i)) x) next_k s) (sym (ap is_call op)) h2) in
       steps_by parts w p word refl None (λ s h. ap (λ x. reached_by x s) op) (inl next)
-      (λ fresh is_fresh s h. reaches_on _ _ _ shown (reaches_by _ (does parts fresh (JumpAndLink t) s) _ (ap (λ x. does parts fresh x s) op) (does_it fresh s (subst (λ x. Shows (window_of (function_at parts f) b i) (tests parts d x) k s) comes_straight.no_call h))))
+      (λ fresh is_fresh s h. reaches_on _ _ _ shown
+      (reaches_by _ (does parts fresh (JumpAndLink t) s) _ (ap (λ x. does parts fresh x s) op)
+      (does_it fresh s (subst (λ x. Shows (window_of (function_at parts f) b i) (tests parts d x) k s) comes_straight.no_call h))))
 
   pub ret_word : (w : ℕ) (k : Shared) (f b i : ℕ) (c : Open) (cs : List Open) (start : Cells) (at : At parts w k f b i (straight_visit parts f b i) start)
-      → IsWord parts f b i → op_at parts f b i ≡ JumpAndLink (record { rd = 0; rs1 = 31; operand2 = Immediate 8 }) → k.calls ≡ c ∷ cs → ComesStraight parts f b i → window_of (function_at parts f) b i ≡ Own (function_at parts f).frame → is_framed (function_at parts f).kind ≡ true → (c.back + 8) % 2 ^ 32 % 4 ≡ 0
+      → IsWord parts f b i → op_at parts f b i ≡ JumpAndLink (record { rd = 0; rs1 = 31; operand2 = Immediate 8 }) → k.calls ≡ c ∷ cs →
+      ComesStraight parts f b i → window_of (function_at parts f) b i ≡ Own (function_at parts f).frame → is_framed (function_at parts f).kind ≡ true →
+      (c.back + 8) % 2 ^ 32 % 4 ≡ 0
       → let p : Spot parts w = record { k = k; f = f; b = b; i = i; v = straight_visit parts f b i; start = start; at = at } in
       Steps parts w p
   ret_word w k f b i c cs start at word op is comes_straight own framed four =
       let d = state_at parts f b i in
       return_word w k f b i (record { rd = 0; rs1 = 31; operand2 = Immediate 8 }) c cs start at word op is comes_straight (own ∙ sym (own_window (function_at parts f) b i framed))
-      (λ fresh s h. subst (λ x. Reaches (does parts fresh (JumpAndLink (record { rd = 0; rs1 = 31; operand2 = Immediate 8 })) s) (Shows x (tests parts d false) (moved_to ((c.back + 8) % 2 ^ 32) k))) (sym own)
+      (λ fresh s h. subst
+      (λ x. Reaches (does parts fresh (JumpAndLink (record { rd = 0; rs1 = 31; operand2 = Immediate 8 })) s)
+      (Shows x (tests parts d false) (moved_to ((c.back + 8) % 2 ^ 32) k))) (sym own)
       (ret_reaches parts fresh (function_at parts f).frame (tests parts d false) c cs k s is four (subst (λ x. Shows x (tests parts d false) k s) own h)))
 
   -- ---- the slot of a return
@@ -161,10 +204,12 @@ module _ (parts : Parts) where
   pub after_high : (f : ℕ) (c : Open) (cs : List Open) (l : ℕ) → IsOpen parts f c cs → nat_le 16 l ≡ true → is_defined (known_after parts c) l ≡ true → c.known l ≡ true
   after_high f c cs l open_call h e = open_call.is_known l h ∙ e
 
-  pub after_low : (f : ℕ) (c : Open) (cs : List Open) (l : ℕ) → IsOpen parts f c cs → nat_le 16 l ≡ false → is_defined (known_after parts c) l ≡ true → is_some (result_at (function_at parts f).results l) ≡ true
+  pub after_low : (f : ℕ) (c : Open) (cs : List Open) (l : ℕ) → IsOpen parts f c cs → nat_le 16 l ≡ false → is_defined (known_after parts c) l ≡ true →
+      is_some (result_at (function_at parts f).results l) ≡ true
   after_low f c cs l open_call h e =
       let rs = (function_at parts f).results in
-      sym (ap (λ (k : Known). is_some (k.entry l)) (known_is parts f c open_call.calls) ∙ ap (λ (x : Option Entry). is_some x) (called_low rs (in_slot_of parts c) l h) ∙ some_of_result (is_out l) (slice_get rs (l - 8))) ∙ e
+      sym (ap (λ (k : Known). is_some (k.entry l)) (known_is parts f c open_call.calls)
+      ∙ ap (λ (x : Option Entry). is_some x) (called_low rs (in_slot_of parts c) l h) ∙ some_of_result (is_out l) (slice_get rs (l - 8))) ∙ e
 
   after_codes : (f : ℕ) (c : Open) (cs : List Open) → IsOpen parts f c cs → (known_after parts c).icc ≡ false
   unfolding called
@@ -175,7 +220,8 @@ module _ (parts : Parts) where
   after_y f c cs open_call = ap (λ (k : Known). is_some k.y) (known_is parts f c open_call.calls)
 
   -- a result that is known is an out that the callee knows
-  pub result_out : (f : ℕ) (c : Open) (cs : List Open) (d : Known) (l : ℕ) → IsOpen parts f c cs → has_outs 8 (function_at parts f).results d ≡ true → nat_le 16 l ≡ false → is_defined (known_after parts c) l ≡ true → (8 ≤ l) × (is_defined d l ≡ true)
+  pub result_out : (f : ℕ) (c : Open) (cs : List Open) (d : Known) (l : ℕ) → IsOpen parts f c cs → has_outs 8 (function_at parts f).results d ≡ true →
+      nat_le 16 l ≡ false → is_defined (known_after parts c) l ≡ true → (8 ≤ l) × (is_defined d l ≡ true)
   result_out f c cs d l open_call results low e =
       result_known (function_at parts f).results d l results (after_low f c cs l open_call low e)
 
@@ -209,17 +255,20 @@ module _ (parts : Parts) where
       let next_k = record (left_by brought k) { base = c.base; calls = cs } in
       let after = comes parts w k f b j (return_visit parts f b (suc j)) start c cs brought now is rules refl d.fits.near.y_word brings d.stored follows at in
       let arrived = arrives n next_k c.function c.block (suc c.place) (known_after parts c) (falls parts c.function c.block (suc c.place)) c.start call.framed goes after in
-      let shown : (s : State) → Shows (window_of (function_at parts f) b (suc j)) (tests parts now (is_call (op_at parts f b j))) (left_by d.left k) s → Shows (Own (function_at parts c.function).frame) (tests parts (known_after parts c) false) next_k s =
+      let shown : (s : State) → Shows (window_of (function_at parts f) b (suc j)) (tests parts now (is_call (op_at parts f b j))) (left_by d.left k) s →
+      Shows (Own (function_at parts c.function).frame) (tests parts (known_after parts c) false) next_k s =
       λ s h. (let h1 = subst (λ x. Shows x (tests parts now (is_call (op_at parts f b j))) (left_by d.left k) s) lent h in
       let h2 = subst (λ x. Shows Lent (tests parts now x) (left_by d.left k) s) rules.no_call h1 in
       subst (λ x. Shows (Own x) (tests parts (known_after parts c) false) next_k s) call.is_frame (leaf_shown f c cs now d.left k s is call rules.results h2)) in
       steps_by parts w p word refl d.reached d.reaches (inl arrived.spot) (λ fresh is_fresh s h. reaches_on _ _ _ (λ s h. arrived.shows s (shown s h)) (d.goes fresh s h))
     where
-      leaf_brings : (f : ℕ) (c : Open) (cs : List Open) (now : Known) (words : Words) → IsOpen parts f c cs → ((l : ℕ) → words l < 2 ^ 32) → words 0 ≡ 0 → ((l : ℕ) → HasInterval (range_at now l) (words l) × HasAlignment (range_at now l) (words l)) → Brings parts c now (left_by_leaf c words)
+      leaf_brings : (f : ℕ) (c : Open) (cs : List Open) (now : Known) (words : Words) → IsOpen parts f c cs → ((l : ℕ) → words l < 2 ^ 32) → words 0 ≡ 0 →
+          ((l : ℕ) → HasInterval (range_at now l) (words l) × HasAlignment (range_at now l) (words l)) → Brings parts c now (left_by_leaf c words)
       leaf_brings f c cs now words call small none fits = record {
         are_words = λ l. word_either (nat_lt l 16) (words l) (c.words l) (2 ^ 32) (small l) (call.are_words l);
         zero = none;
-        outs = λ l g h. (let e : left_by_leaf c words l ≡ words l = if_true (nat_lt l 16) ℕ (words l) (c.words l) (below l h) in record { range = subst (HasInterval (range_at now l)) (sym e) (fits l).0; multiple = subst (HasAlignment (range_at now l)) (sym e) (fits l).1 });
+        outs = λ l g h. (let e : left_by_leaf c words l ≡ words l = if_true (nat_lt l 16) ℕ (words l) (c.words l) (below l h) in
+            record { range = subst (HasInterval (range_at now l)) (sym e) (fits l).0; multiple = subst (HasAlignment (range_at now l)) (sym e) (fits l).1 });
         kept = λ l h. if_false (nat_lt l 16) ℕ (words l) (c.words l) (above l h);
       }
         where
@@ -233,8 +282,22 @@ module _ (parts : Parts) where
           above : (l : ℕ) → nat_le 16 l ≡ true → nat_lt l 16 ≡ false
           above l h = grind (arith, nat_tests)
 
-      leaf_shown : (f : ℕ) (c : Open) (cs : List Open) (now : Known) (left : Left) (k : Shared) (s : State) → k.calls ≡ c ∷ cs → IsOpen parts f c cs → has_outs 8 (function_at parts f).results now ≡ true → Shows Lent (tests parts now false) (left_by left k) s
-          → Shows (Own c.frame) (tests parts (known_after parts c) false) (record k { pc = k.npc; npc = following k.npc; words = left_by_leaf c left.words; icc = left.icc; y = left.y; memory = left.memory; input = left.input; output = left.output; base = c.base; calls = cs }) s
+      leaf_shown : (f : ℕ) (c : Open) (cs : List Open) (now : Known) (left : Left) (k : Shared) (s : State) → k.calls ≡ c ∷ cs → IsOpen parts f c cs →
+          has_outs 8 (function_at parts f).results now ≡ true → Shows Lent (tests parts now false) (left_by left k) s
+          → Shows (Own c.frame) (tests parts (known_after parts c) false)
+          (record k {
+            pc = k.npc;
+            npc = following k.npc;
+            words = left_by_leaf c left.words;
+            icc = left.icc;
+            y = left.y;
+            memory = left.memory;
+            input =
+                left.input;
+            output = left.output;
+            base = c.base;
+            calls = cs;
+          }) s
       leaf_shown f c cs now left k s is call results shows =
           let file = subst (λ x. ShowsFile Lent (tests parts now false).location k.base left.words x s.registers) is shows.file in
           let rest = shows.rest in
@@ -242,7 +305,8 @@ module _ (parts : Parts) where
           record {
             rest = record { pc = rest.pc; npc = rest.npc; annulled = rest.annulled; memory = rest.memory; input = rest.input; output = rest.output; exit = rest.exit };
             file = leaf_shows (tests parts now false).location (tests parts after false).location k.base left.words c cs s.registers
-                (λ l h low. (let r = result_out f c cs now l call results (low_false l low) (test_parts l (is_defined after l) h) in let some = r.0 in test_whole l (is_defined now l) false (omega arith) r.1))
+                (λ l h low. (let r = result_out f c cs now l call results (low_false l low) (test_parts l (is_defined after l) h) in let some = r.0 in
+                test_whole l (is_defined now l) false (omega arith) r.1))
                 (λ l h high. after_high f c cs l call (high_true l high) (test_parts l (is_defined after l) h)) file;
             codes = λ h. absurd (let e = after_codes f c cs call in cc);
             y = λ h. absurd (let e = after_y f c cs call in cc);
@@ -279,17 +343,21 @@ module _ (parts : Parts) where
       let e : (l == t.rd) ≡ false = ap (λ x. l == x) same ∙ apart in
       sym (ap (λ (x : Option Entry). is_some x) (with_entry_other t.rd (result_of ops.Add (register_entry d t.rs1) (operand_entry d t.operand2)) (restored d) l e ∙ restored_out d l low high)) ∙ h
 
-  given_tests : (f : ℕ) (frame : ℕ) (t : Three) (c : Open) (cs : List Open) (d : Known) (linked : Bool) → IsOpen parts f c cs → has_outs 8 (function_at parts f).results (transferred frame (Restore t) d) ≡ true
+  given_tests : (f : ℕ) (frame : ℕ) (t : Three) (c : Open) (cs : List Open) (d : Known) (linked : Bool) → IsOpen parts f c cs →
+      has_outs 8 (function_at parts f).results (transferred frame (Restore t) d) ≡ true
       → IsGivenBack c (tests parts d linked).location (popped_tests t.rd (tests parts (known_after parts c) false)).location
   given_tests f frame t c cs d linked call results =
       let after = known_after parts c in
       let now = tests parts after false in
       let mid = popped_tests t.rd now in
       let known : (l : ℕ) → mid.location l ≡ true → is_defined after l ≡ true = λ l h. test_parts l (is_defined after l) (and_left (now.location l) (not (l == t.rd)) h) in
-      let out : (l : ℕ) → mid.location l ≡ true → l < 16 → (8 ≤ l) × (is_defined (transferred frame (Restore t) d) l ≡ true) = λ l h low. result_out f c cs (transferred frame (Restore t) d) l call results (low_false l low) (known l h) in
+      let out : (l : ℕ) → mid.location l ≡ true → l < 16 → (8 ≤ l) × (is_defined (transferred frame (Restore t) d) l ≡ true) =
+      λ l h low. result_out f c cs (transferred frame (Restore t) d) l call results (low_false l low) (known l h) in
       record {
         globals = λ l h low. absurd (let r = (out l h (omega arith)).0 in omega arith);
-        outs = λ l h low high. (let r = out l h high in test_whole (l + 16) (is_defined d (l + 16)) linked (omega arith) (in_of_out frame t.rd t d l refl (not_rd (now.location l) (l == t.rd) h) low high r.1));
+        outs = λ l h low high. (let r = out l h high in
+            test_whole (l + 16) (is_defined d (l + 16)) linked (omega arith)
+            (in_of_out frame t.rd t d l refl (not_rd (now.location l) (l == t.rd) h) low high r.1));
         kept = λ l h high. after_high f c cs l call (high_true l high) (known l h);
       }
 
@@ -336,11 +404,15 @@ module _ (parts : Parts) where
       high_kept rd v c words l low h = grind (arith, nat_tests)
 
   pub retl_word : (w : ℕ) (k : Shared) (f b i : ℕ) (c : Open) (cs : List Open) (start : Cells) (at : At parts w k f b i (straight_visit parts f b i) start)
-      → IsWord parts f b i → op_at parts f b i ≡ JumpAndLink (record { rd = 0; rs1 = 15; operand2 = Immediate 8 }) → k.calls ≡ c ∷ cs → ComesStraight parts f b i → window_of (function_at parts f) b i ≡ Lent → window_of (function_at parts f) b (suc i) ≡ Lent → (c.back + 8) % 2 ^ 32 % 4 ≡ 0
+      → IsWord parts f b i → op_at parts f b i ≡ JumpAndLink (record { rd = 0; rs1 = 15; operand2 = Immediate 8 }) → k.calls ≡ c ∷ cs →
+      ComesStraight parts f b i → window_of (function_at parts f) b i ≡ Lent → window_of (function_at parts f) b (suc i) ≡ Lent →
+      (c.back + 8) % 2 ^ 32 % 4 ≡ 0
       → let p : Spot parts w = record { k = k; f = f; b = b; i = i; v = straight_visit parts f b i; start = start; at = at } in
       Steps parts w p
   retl_word w k f b i c cs start at word op is comes_straight lent lent_after four =
       let d = state_at parts f b i in
       return_word w k f b i (record { rd = 0; rs1 = 15; operand2 = Immediate 8 }) c cs start at word op is comes_straight (lent ∙ sym lent_after)
-      (λ fresh s h. subst (λ x. Reaches (does parts fresh (JumpAndLink (record { rd = 0; rs1 = 15; operand2 = Immediate 8 })) s) (Shows x (tests parts d false) (moved_to ((c.back + 8) % 2 ^ 32) k))) (sym lent)
+      (λ fresh s h. subst
+      (λ x. Reaches (does parts fresh (JumpAndLink (record { rd = 0; rs1 = 15; operand2 = Immediate 8 })) s)
+      (Shows x (tests parts d false) (moved_to ((c.back + 8) % 2 ^ 32) k))) (sym lent)
       (retl_reaches parts fresh (tests parts d false) c cs k s is four (subst (λ x. Shows x (tests parts d false) k s) lent h)))

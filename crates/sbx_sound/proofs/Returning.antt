@@ -78,7 +78,8 @@ plain_word (TrapOnCondition t) h g = absurd (cc)
 plain_word _ h g = record { no_transfer = refl; straight = refl; no_call = refl; no_return = refl; runs_on = refl }
 
 -- the slot of a transfer, by the rule of shape
-pub slot_keeps_on : (parts : Parts) (checked : Checked parts) (f b j : ℕ) → IsPlace parts f b (suc j) → is_transfer (op_at parts f b j) ≡ true → (is_transfer (op_at parts f b (suc j)) ≡ false) × (is_trap (op_at parts f b (suc j)) ≡ false)
+pub slot_keeps_on : (parts : Parts) (checked : Checked parts) (f b j : ℕ) → IsPlace parts f b (suc j) → is_transfer (op_at parts f b j) ≡ true →
+    (is_transfer (op_at parts f b (suc j)) ≡ false) × (is_trap (op_at parts f b (suc j)) ≡ false)
 slot_keeps_on parts checked f b j place transfers =
     let op = op_at parts f b (suc j) in
     or_parts (is_transfer op) (is_trap op) (and_denied (is_transfer (op_at parts f b j)) (is_transfer op || is_trap op) (has_shape parts checked f b (suc j) place).slot transfers)
@@ -109,7 +110,8 @@ jump_by rs1 = record { rd = 0; rs1 = rs1; operand2 = Immediate 8 }
 
 same_three : (rd rs1 n : ℕ) (o : Operand) → rd ≡ 0 → rs1 ≡ n → o ≡ Immediate 8 → JumpAndLink (record { rd = rd; rs1 = rs1; operand2 = o }) ≡ JumpAndLink (jump_by n)
 same_three rd rs1 n o a b c =
-    ap (λ (x : ℕ). JumpAndLink (record { rd = x; rs1 = rs1; operand2 = o })) a ∙ ap (λ (x : ℕ). JumpAndLink (record { rd = 0; rs1 = x; operand2 = o })) b ∙ ap (λ (x : Operand). JumpAndLink (record { rd = 0; rs1 = n; operand2 = x })) c
+    ap (λ (x : ℕ). JumpAndLink (record { rd = x; rs1 = rs1; operand2 = o })) a ∙ ap (λ (x : ℕ). JumpAndLink (record { rd = 0; rs1 = x; operand2 = o })) b
+    ∙ ap (λ (x : Operand). JumpAndLink (record { rd = 0; rs1 = n; operand2 = x })) c
 
 jump_is : (n : ℕ) (t : Three) → (t.rd == 0 && t.rs1 == n && is_immediate_of 8 t.operand2) ≡ true → JumpAndLink t ≡ JumpAndLink (jump_by n)
 jump_is n t h =
@@ -212,7 +214,8 @@ back_restored c words are own none = record {
 -- What a word that neither transfers control nor changes frames owes.
 abbrev pub PlainWordsDo : Parts → Type 0
 PlainWordsDo parts =
-    (w : ℕ) (p : Spot parts w) → p.v.annulled ≡ false → IsPlainWord (op_at parts p.f p.b p.i) → is_save (op_at parts p.f p.b p.i) ≡ false → is_restore (op_at parts p.f p.b p.i) ≡ false → Does parts w p
+    (w : ℕ) (p : Spot parts w) → p.v.annulled ≡ false → IsPlainWord (op_at parts p.f p.b p.i) → is_save (op_at parts p.f p.b p.i) ≡ false →
+    is_restore (op_at parts p.f p.b p.i) ≡ false → Does parts w p
 
 module _ (parts : Parts) (checked : Checked parts) (ordered : IsOrdered parts) (pages : parts.stack_pages ≤ 16) (few : (g : ℕ) → length (function_at parts g).results ≤ 6) where
   -- ---- who called
@@ -246,7 +249,8 @@ module _ (parts : Parts) (checked : Checked parts) (ordered : IsOrdered parts) (
   back_at_four f c cs open_call =
       let slot = open_call.slot in
       let place : IsPlace parts c.function c.block c.place = record { function = slot.function; block = slot.block; word = (let s = slot.word in omega (arith, s)) } in
-      back_address (address_of parts c.function c.block c.place) c.back open_call.back (lies_at_four parts ordered c.function c.block c.place place) (lies_low parts ordered c.function c.block c.place place)
+      back_address (address_of parts c.function c.block c.place) c.back open_call.back (lies_at_four parts ordered c.function c.block c.place place)
+      (lies_low parts ordered c.function c.block c.place place)
 
   -- ---- `ret` and `retl`
 
@@ -279,22 +283,26 @@ module _ (parts : Parts) (checked : Checked parts) (ordered : IsOrdered parts) (
       comes = record {
         no_call = no_link;
         no_return = no_return_before;
-        next = falls_inside (ends_run (op_at parts f b i)) (words_in parts f b) (length (function_at parts f).blocks) b i (ap ends_run is) (slot_follows parts checked f b i at.place (ap is_transfer is));
+        next = falls_inside (ends_run (op_at parts f b i)) (words_in parts f b) (length (function_at parts f).blocks) b i (ap ends_run is)
+            (slot_follows parts checked f b i at.place (ap is_transfer is));
         same = same_bytes (function_at parts f) b i within;
         small = lies_low parts ordered f b i at.place;
       }
 
       by_kind : (t : Bool) → is_framed (function_at parts f).kind ≡ t → Steps parts w (record { k = k; f = f; b = b; i = i; v = straight_visit parts f b i; start = start; at = at })
       by_kind true framed =
-          ret_word parts w k f b i caller.caller caller.others start at (word_is parts checked ordered pages f b i at.place) (is ∙ jump_is 31 t (ret_of (function_at parts f).kind t framed suited)) caller.is comes
+          ret_word parts w k f b i caller.caller caller.others start at (word_is parts checked ordered pages f b i at.place)
+          (is ∙ jump_is 31 t (ret_of (function_at parts f).kind t framed suited)) caller.is comes
           (own_inside (function_at parts f) b i within framed) framed (back_at_four f caller.caller caller.others caller.open_call)
       by_kind false leaf =
-          retl_word parts w k f b i caller.caller caller.others start at (word_is parts checked ordered pages f b i at.place) (is ∙ jump_is 15 t (jump_admitted t may (retl_of (function_at parts f).kind t leaf suited))) caller.is comes
+          retl_word parts w k f b i caller.caller caller.others start at (word_is parts checked ordered pages f b i at.place)
+          (is ∙ jump_is 15 t (jump_admitted t may (retl_of (function_at parts f).kind t leaf suited))) caller.is comes
           (lent_window (function_at parts f) b i leaf) (lent_window (function_at parts f) b (suc i) leaf) (back_at_four f caller.caller caller.others caller.open_call)
 
   -- ---- the slot
 
-  pub returns_well : (f b j : ℕ) (t : Three) → IsPlace parts f b (suc j) → op_at parts f b j ≡ JumpAndLink t → ReturnsWell parts f b j (transferred (function_at parts f).frame (op_at parts f b (suc j)) (state_at parts f b (suc j)))
+  pub returns_well : (f b j : ℕ) (t : Three) → IsPlace parts f b (suc j) → op_at parts f b j ≡ JumpAndLink t →
+      ReturnsWell parts f b j (transferred (function_at parts f).frame (op_at parts f b (suc j)) (state_at parts f b (suc j)))
   returns_well f b j t place is =
       let v = return_visit parts f b (suc j) in
       let visit = is_return_visit parts f b j t is in
@@ -307,7 +315,9 @@ module _ (parts : Parts) (checked : Checked parts) (ordered : IsOrdered parts) (
         few = few f;
       }
 
-  caller_follows : (f : ℕ) (c : Open) (cs : List Open) → IsOpen parts f c cs → Follows parts c.function c.block (suc c.place) (falls parts c.function c.block (suc c.place)) (following (address_of parts c.function c.block (suc c.place)))
+  caller_follows : (f : ℕ) (c : Open) (cs : List Open) → IsOpen parts f c cs →
+      Follows parts c.function c.block (suc c.place) (falls parts c.function c.block (suc c.place))
+      (following (address_of parts c.function c.block (suc c.place)))
   caller_follows f c cs open_call = follows parts ordered c.function c.block (suc c.place) open_call.slot
 
   -- ---- RESTORE in the slot
@@ -315,13 +325,17 @@ module _ (parts : Parts) (checked : Checked parts) (ordered : IsOrdered parts) (
   is_test : (l : ℕ) (a linked : Bool) → l ≢ 0 → a ≡ true → (not (l == 0) && (a || ((l == 15) && linked))) ≡ true
   is_test l a linked some h = grind (arith, nat_tests)
 
-  module _ (w : ℕ) (p : Spot parts w) (t : Three) (low : LowThree t.rd t.rs1 t.operand2) (known : reads_undefined (function_at parts p.f) (Restore t) p.v.known ≡ false) (kept : touches_reserved (function_at parts p.f) (Restore t) ≡ false) where
+  module _ (w : ℕ) (p : Spot parts w) (t : Three) (low : LowThree t.rd t.rs1 t.operand2)
+      (known : reads_undefined (function_at parts p.f) (Restore t) p.v.known ≡ false)
+      (kept : touches_reserved (function_at parts p.f) (Restore t) ≡ false) where
     sum_shown : (s : State) → ShowsSpot parts w p s → address (reg s) t.rs1 t.operand2 ≡ address p.k.words t.rs1 t.operand2
     unfolding reads_of
     sum_shown s h =
         let reads : (n r : ℕ) → slice_get (t.rs1 ∷ second_reads t.operand2) n ≡ Some r → r ≢ 0 → is_defined p.v.known r ≡ true = read_known (function_at parts p.f) (Restore t) p.v.known known kept in
         let linked = is_call (op_before parts p.f p.b p.i) in
-        let first : reg s t.rs1 ≡ p.k.words t.rs1 = read_shown (window_of (function_at parts p.f) p.b p.i) (tests parts p.v.known linked) p.k s t.rs1 low.rs1_low p.at.fits.near.zero (λ some. is_test t.rs1 (is_defined p.v.known t.rs1) linked some (reads 0 t.rs1 refl some)) h in
+        let first : reg s t.rs1 ≡ p.k.words t.rs1 =
+        read_shown (window_of (function_at parts p.f) p.b p.i) (tests parts p.v.known linked) p.k s t.rs1 low.rs1_low p.at.fits.near.zero
+        (λ some. is_test t.rs1 (is_defined p.v.known t.rs1) linked some (reads 0 t.rs1 refl some)) h in
         let other : second (reg s) t.operand2 ≡ second p.k.words t.operand2 = second_shown parts w p t.operand2 low.operand_low (λ r e some. reads 1 r (second_read t.rs1 t.operand2 r e) some) s h in
         ap (λ x. sum_address x (second (reg s) t.operand2)) first ∙ ap (λ x. sum_address (p.k.words t.rs1) x) other
 
@@ -350,7 +364,8 @@ module _ (parts : Parts) (checked : Checked parts) (ordered : IsOrdered parts) (
       let back = given_back c k.words in
       let v = address k.words o.rs1 o.operand2 in
       let held : Held = record { words = k.words; icc = k.icc; y = k.y } in
-      let fits = (frames_keep_fitting.restore function.frame o d held back (operand_of o.operand2 low.operand_low) (back_restored c k.words near.are_words caller.open_call.are_words near.zero)).fits start at.fits in
+      let fits = (frames_keep_fitting.restore function.frame o d held back (operand_of o.operand2 low.operand_low)
+      (back_restored c k.words near.are_words caller.open_call.are_words near.zero)).fits start at.fits in
       let rd_low = restore_low o.rd may in
       let shown = fits_shown start (transferred function.frame (Restore o) d) o.rd v back k.icc k.y (omega (arith, rd_low)) fits in
       let rules = subst (λ x. ReturnsWell parts f b j (transferred function.frame x d)) is (returns_well f b j t at.place jumps) in
@@ -359,7 +374,9 @@ module _ (parts : Parts) (checked : Checked parts) (ordered : IsOrdered parts) (
 
   -- ---- both slots
 
-  pub return_slots : PlainWordsDo parts → (w : ℕ) (k : Shared) (f b j : ℕ) (t : Three) (start : Cells) (at : At parts w k f b (suc j) (return_visit parts f b (suc j)) start) → op_at parts f b j ≡ JumpAndLink t
+  pub return_slots : PlainWordsDo parts →
+      (w : ℕ) (k : Shared) (f b j : ℕ) (t : Three) (start : Cells) (at : At parts w k f b (suc j) (return_visit parts f b (suc j)) start) →
+      op_at parts f b j ≡ JumpAndLink t
       → let p : Spot parts w = record { k = k; f = f; b = b; i = suc j; v = return_visit parts f b (suc j); start = start; at = at } in
       Steps parts w p
   return_slots does w k f b j t start at jumps = by_kind (is_framed (function_at parts f).kind) refl

@@ -35,13 +35,19 @@ abbrev OutsFit : Known → Words → Type 0
 OutsFit d words = (l : ℕ) → 8 ≤ l → l < 16 → IsIn (range_at d l) (words l)
 
 -- what a function promises of its results holds of the words in the outs
-results_fit : (first : ℕ) (results : List Range) (d : Known) (words : Words) → 8 ≤ first → first + length results ≤ 16 → has_outs first results d ≡ true → OutsFit d words → (n l : ℕ) → l ≡ first + n → IsIn (slice_get results n) (words l)
+results_fit : (first : ℕ) (results : List Range) (d : Known) (words : Words) → 8 ≤ first → first + length results ≤ 16 → has_outs first results d ≡ true →
+    OutsFit d words → (n l : ℕ) → l ≡ first + n → IsIn (slice_get results n) (words l)
 results_fit first [] d words low high h outs n l e = record { range = tt; multiple = tt }
 results_fit first (r ∷ rs) d words low high h outs zero l e =
     let here = outs first low (omega arith) in
     let within = and_left (has_range (range_at d first) r) (has_outs (suc first) rs d) h in
     let same : first ≡ l = omega arith in
-    subst (λ m. IsIn (Some r) (words m)) same (record { range = interval_within (range_at d first) r (words first) within here.range; multiple = multiple_within (range_at d first) r (words first) within here.multiple })
+    subst (λ m. IsIn (Some r) (words m)) same
+    (record {
+      range = interval_within (range_at d first) r (words first) within here.range;
+      multiple =
+          multiple_within (range_at d first) r (words first) within here.multiple;
+    })
 results_fit first (r ∷ rs) d words low high h outs (suc n) l e =
     results_fit (suc first) rs d words (omega arith) (omega arith) (and_right (has_range (range_at d first) r) (has_outs (suc first) rs d) h) outs n l (omega arith)
 
@@ -86,7 +92,9 @@ module _ (parts : Parts) where
     pub kept : (l : ℕ) → nat_le 16 l ≡ true → words l ≡ c.words l
 
   -- it fits what is known after the call
-  pub fits_back : (f : ℕ) (c : Open) (cs : List Open) (d : Known) (words : Words) (icc : Icc) (y : ℕ) → IsOpen parts f c cs → has_outs 8 (function_at parts f).results d ≡ true → length (function_at parts f).results ≤ 6 → y < 2 ^ 32 → Brings c d words → Fits c.start (known_after parts c) words icc y
+  pub fits_back : (f : ℕ) (c : Open) (cs : List Open) (d : Known) (words : Words) (icc : Icc) (y : ℕ) → IsOpen parts f c cs →
+      has_outs 8 (function_at parts f).results d ≡ true → length (function_at parts f).results ≤ 6 → y < 2 ^ 32 → Brings c d words →
+      Fits c.start (known_after parts c) words icc y
   unfolding called
   fits_back f c cs d words icc y open_call results few y_word brings =
       let same = known_is f c open_call.calls in
@@ -130,11 +138,13 @@ module _ (parts : Parts) where
       → k.calls ≡ c ∷ cs → ReturnsWell f b j d → v.annulled ≡ false → left.y < 2 ^ 32 → Brings c d left.words → AreStored parts.regions left.memory left.input
       → Follows parts c.function c.block (suc c.place) (falls parts c.function c.block (suc c.place)) (following (address_of parts c.function c.block (suc c.place)))
       → At parts w k f b (suc j) v start
-      → After parts (w + weight_of (op_at parts f b (suc j))) (record (left_by left k) { base = c.base; calls = cs }) c.function c.block (suc c.place) (known_after parts c) (falls parts c.function c.block (suc c.place)) c.start
+      → After parts (w + weight_of (op_at parts f b (suc j))) (record (left_by left k) { base = c.base; calls = cs }) c.function c.block (suc c.place)
+      (known_after parts c) (falls parts c.function c.block (suc c.place)) c.start
   comes w k f b j v start c cs left d is rules runs y_word brings stored follows a =
       let opened : AreOpen parts f (c ∷ cs) = subst (AreOpen parts f) is a.calls in
       let call = opened.0 in
-      let pc : k.npc ≡ following (address_of parts c.function c.block (suc c.place)) = comes_back _ _ f b (suc j) v.way k.calls k.npc rules.no_call rules.returns a.npc ∙ ap (back_of parts) is ∙ back_follows c cs f call in
+      let pc : k.npc ≡ following (address_of parts c.function c.block (suc c.place)) =
+      comes_back _ _ f b (suc j) v.way k.calls k.npc rules.no_call rules.returns a.npc ∙ ap (back_of parts) is ∙ back_follows c cs f call in
       let weight = weight_of (op_at parts f b (suc j)) in
       record {
         pc = subst (Follows parts c.function c.block (suc c.place) (falls parts c.function c.block (suc c.place))) (sym pc) follows;

@@ -50,7 +50,8 @@ asks_some t h e =
 same_number : (m n : ℕ) → Some m ≡ Some n → m ≡ n
 same_number m n e = cc
 
-module _ (parts : Parts) (w : ℕ) (p : Spot parts w) (lent : window_of (function_at parts p.f) p.b p.i ≡ Lent → is_framed (function_at parts p.f).kind ≡ false) (t : Trap) (is : op_of parts w p ≡ TrapOnCondition t) where
+module _ (parts : Parts) (w : ℕ) (p : Spot parts w) (lent : window_of (function_at parts p.f) p.b p.i ≡ Lent →
+    is_framed (function_at parts p.f).kind ≡ false) (t : Trap) (is : op_of parts w p ≡ TrapOnCondition t) where
   abbrev function : Function
   function = function_at parts p.f
 
@@ -75,7 +76,8 @@ module _ (parts : Parts) (w : ℕ) (p : Spot parts w) (lent : window_of (functio
       (record { register = omega arith; sp = omega arith; fp = omega arith; i7 = omega arith; lent = λ e. (omega arith, omega arith) })
       (fits_shown p.start (then_knows parts w p o) 8 v p.k.words p.k.icc p.k.y (omega arith) ((got_fits p.k.input p.at.stored.of_input service).fits p.start p.at.fits)) (is_fewer parts w p o 8 e same)
 
-  pub puts : service_of t ≡ Some 2 → is_declared parts.services (service_of t) ≡ true → reads_undefined function (TrapOnCondition t) d ≡ false → touches_reserved function (TrapOnCondition t) ≡ false → Does parts w p
+  pub puts : service_of t ≡ Some 2 → is_declared parts.services (service_of t) ≡ true → reads_undefined function (TrapOnCondition t) d ≡ false →
+      touches_reserved function (TrapOnCondition t) ≡ false → Does parts w p
   unfolding reads_of transferred
   puts service asked known kept =
       let o = TrapOnCondition t in

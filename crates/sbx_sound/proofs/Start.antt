@@ -53,7 +53,22 @@ pub record StartsWell (parts : Parts) : Type 0 where
 module _ (parts : Parts) where
   -- what all starts on an input share
   abbrev shared_start : List ℕ → Shared
-  shared_start input = record { pc = code_start; npc = code_start + 4; annulled = false; icc = clear; y = 0; base = stack_start; words = zeros; calls = []; memory = data_at parts.regions; input = input; output = []; exit = None }
+  shared_start input =
+      record {
+        pc = code_start;
+        npc = code_start + 4;
+        annulled = false;
+        icc = clear;
+        y = 0;
+        base = stack_start;
+        words = zeros;
+        calls = [];
+        memory =
+            data_at parts.regions;
+        input = input;
+        output = [];
+        exit = None;
+      }
 
   nowhere : (P : Option Entry → Type 0) → P None → (l : ℕ) → P ((started []).entry l)
   unfolding started cell_entry
@@ -158,7 +173,26 @@ module _ (parts : Parts) where
   out_word n = grind (arith, nat_tests)
 
   calm_is_start : (input : List ℕ) → IsStart parts input (calm_start input)
-  calm_is_start input = record { pc = refl; npc = refl; annulled = refl; icc = refl; y = omega arith; one_frame = refl; base = refl; slots = λ a. refl; globals = λ n. omega arith; locals = λ n. omega arith; outs = out_word; ins = λ n. omega arith; memory = λ a. refl; input = refl; output = refl; exit = refl }
+  calm_is_start input =
+      record {
+        pc = refl;
+        npc = refl;
+        annulled = refl;
+        icc = refl;
+        y = omega arith;
+        one_frame = refl;
+        base = refl;
+        slots = λ a. refl;
+        globals =
+            λ n. omega arith;
+        locals = λ n. omega arith;
+        outs = out_word;
+        ins = λ n. omega arith;
+        memory = λ a. refl;
+        input = refl;
+        output = refl;
+        exit = refl;
+      }
 
   pub begins : (input : List ℕ) (s : State) → AreBytes input → StartsWell parts → IsStart parts input s → Pair parts 0 s (calm_start input)
   begins input s are rules start = (inl (first_spot input are rules), shows_start input are s rules start, shows_start input are (calm_start input) rules (calm_is_start input))

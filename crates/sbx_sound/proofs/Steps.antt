@@ -89,7 +89,8 @@ module _ (parts : Parts) where
   pub steps_by : (w : ℕ) (p : Spot parts w) → IsWord p.f p.b p.i → p.v.annulled ≡ false → (reached : Option ℕ)
       → ((s : State) → ShowsSpot parts w p s → reached_by (op_at parts p.f p.b p.i) s ≡ reached)
       → (next : Stand parts (w + weight_of (op_at parts p.f p.b p.i)))
-      → ((fresh : Fresh) → IsFresh fresh → (s : State) → ShowsSpot parts w p s → Reaches (does parts fresh (op_at parts p.f p.b p.i) s) (ShowsStand parts (w + weight_of (op_at parts p.f p.b p.i)) next))
+      → ((fresh : Fresh) → IsFresh fresh → (s : State) → ShowsSpot parts w p s →
+      Reaches (does parts fresh (op_at parts p.f p.b p.i) s) (ShowsStand parts (w + weight_of (op_at parts p.f p.b p.i)) next))
       → Steps parts w p
   steps_by w p word runs reached reaches next goes =
       let op = op_at parts p.f p.b p.i in
@@ -105,7 +106,9 @@ module _ (parts : Parts) where
       let moved = subst Next weighs here in
       record {
         place = place;
-        place_is = λ s h. place_at_word parts s (word_of_place parts p.f p.b p.i) (straight s h) (there s h) ∙ ap (λ (x : ℕ). record { pc = x; annulled = false; address = reached_by op s }) h.rest.pc ∙ ap (λ (x : Option ℕ). record { pc = p.k.pc; annulled = false; address = x }) (reaches s h);
+        place_is = λ s h. place_at_word parts s (word_of_place parts p.f p.b p.i) (straight s h) (there s h)
+            ∙ ap (λ (x : ℕ). record { pc = x; annulled = false; address = reached_by op s }) h.rest.pc
+            ∙ ap (λ (x : Option ℕ). record { pc = p.k.pc; annulled = false; address = x }) (reaches s h);
         comes = moved.0;
         goes = moved.1;
       }
@@ -129,7 +132,9 @@ module _ (parts : Parts) where
     pub stored : AreStored parts.regions left.memory left.input
     pub reached : Option ℕ
     pub reaches : (s : State) → ShowsSpot parts w p s → reached_by (op_of w p) s ≡ reached
-    pub goes : (fresh : Fresh) (s : State) → ShowsSpot parts w p s → Reaches (does parts fresh (op_of w p) s) (Shows (window_of (function_at parts p.f) p.b p.i) (tests parts (known_then w p) (linked_at w p)) (left_by left p.k))
+    pub goes : (fresh : Fresh) (s : State) → ShowsSpot parts w p s →
+        Reaches (does parts fresh (op_of w p) s)
+        (Shows (window_of (function_at parts p.f) p.b p.i) (tests parts (known_then w p) (linked_at w p)) (left_by left p.k))
 
   next_known : (f b i : ℕ) (d : Known) → is_call (op_before parts f b i) ≡ false → d ≡ state_at parts f b i → transferred (function_at parts f).frame (op_at parts f b i) d ≡ state_at parts f b (suc i)
   unfolding state_at
@@ -176,5 +181,6 @@ module _ (parts : Parts) where
       let next : Spot parts n = record { k = k; f = p.f; b = t; i = 0; v = straight_visit parts p.f t 0; start = numbers k.words; at = at } in
       let shown : (s : State) → Shows (window_of (function_at parts p.f) p.b p.i) (tests parts (known_then w p) (linked_at w p)) k s → ShowsSpot parts n next s =
       λ s h. (let h1 = subst (λ x. Shows x (tests parts (known_then w p) (linked_at w p)) k s) same_window h in
-      less_shows (window_of (function_at parts p.f) t 0) (tests parts (known_then w p) (linked_at w p)) (tests parts (state_at parts p.f t 0) false) k s (starts_with_less (known_then w p) (cells_at parts p.f t) (linked_at w p) cells) h1) in
+      less_shows (window_of (function_at parts p.f) t 0) (tests parts (known_then w p) (linked_at w p)) (tests parts (state_at parts p.f t 0) false) k s
+      (starts_with_less (known_then w p) (cells_at parts p.f t) (linked_at w p) cells) h1) in
       steps_by w p word runs d.reached d.reaches (inl next) (λ fresh is_fresh s h. reaches_on _ _ _ shown (d.goes fresh s h))

@@ -63,7 +63,8 @@ same_bytes function b i h = by_kind (is_framed function.kind) ((b == 0) && (i ==
 pub same_window : (function : Function) (b i c j : ℕ) → (is_framed function.kind && is_entry b i) ≡ false → is_entry c j ≡ false → window_of function b i ≡ window_of function c j
 same_window function b i c j h g = by_kind (is_framed function.kind) ((b == 0) && (i == 0)) g h
   where
-    by_kind : (t e : Bool) → ((c == 0) && (j == 0)) ≡ false → (t && e) ≡ false → (if t && not e then Own function.frame else Lent) ≡ (if t && not ((c == 0) && (j == 0)) then Own function.frame else Lent)
+    by_kind : (t e : Bool) → ((c == 0) && (j == 0)) ≡ false → (t && e) ≡ false →
+        (if t && not e then Own function.frame else Lent) ≡ (if t && not ((c == 0) && (j == 0)) then Own function.frame else Lent)
     by_kind false e s h = refl
     by_kind true true s h = absurd (cc)
     by_kind true false s h = sym (ap (λ (x : Bool). if true && not x then Own function.frame else Lent) s)
@@ -137,8 +138,12 @@ module _ (parts : Parts) (checked : Checked parts) (ordered : IsOrdered parts) (
       within = inside no_save
 
       by_way : GoesOn parts f b i (state_at parts f b (suc i)) (falls parts f b i) → Steps parts w p
-      by_way (inl g) = plain_next parts w p word_is refl g.way_is refl no_link no_return straight no_call (same_bytes (function_at parts f) b i within) (same_window (function_at parts f) b i b (suc i) within (later_word b i)) g.there does
-      by_way (inr g) = plain_edge parts w p g.t word_is refl g.way_is g.some no_link no_return (same_bytes (function_at parts f) b i within) (same_window (function_at parts f) b i g.t 0 within (later_block g.t 0 g.some))
+      by_way (inl g) =
+          plain_next parts w p word_is refl g.way_is refl no_link no_return straight no_call (same_bytes (function_at parts f) b i within)
+          (same_window (function_at parts f) b i b (suc i) within (later_word b i)) g.there does
+      by_way (inr g) =
+          plain_edge parts w p g.t word_is refl g.way_is g.some no_link no_return (same_bytes (function_at parts f) b i within)
+          (same_window (function_at parts f) b i g.t 0 within (later_block g.t 0 g.some))
           (subst (λ d. has_cells d (cells_at parts f g.t) ≡ true) then_known g.cells)
           (subst (λ d. IsPaid (state_at parts f b 0) (fuel_at parts f b) (weight_to parts f b (suc i)) d (fuel_at parts f g.t)) then_known g.paid) g.there does
 
@@ -180,7 +185,8 @@ module _ (parts : Parts) (checked : Checked parts) (ordered : IsOrdered parts) (
       (record {
         no_call = no_link;
         no_return = no_return;
-        next = ap (λ (t : Bool). falls_to t (words_in parts f b) (length (function_at parts f).blocks) b i) (ap ends_run is) ∙ inner_word (words_in parts f b) (length (function_at parts f).blocks) b i slot;
+        next = ap (λ (t : Bool). falls_to t (words_in parts f b) (length (function_at parts f).blocks) b i) (ap ends_run is)
+            ∙ inner_word (words_in parts f b) (length (function_at parts f).blocks) b i slot;
         same = same_bytes (function_at parts f) b i within;
         small = lies_low parts ordered f b i place;
       })

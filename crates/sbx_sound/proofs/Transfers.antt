@@ -40,7 +40,8 @@ find_is : (n address : ℕ) (fs : List Function) (m : ℕ) → find_entry n addr
 find_is n address [] m e = absurd (cc)
 find_is n address (f ∷ fs) m e = by_test (find_is (suc n) address fs m) (f.entry == address) refl e
   where
-    by_test : (find_entry (suc n) address fs ≡ Some m → Found (suc n) address m fs) → (t : Bool) → (f.entry == address) ≡ t → (if t then Some n else find_entry (suc n) address fs) ≡ Some m → Found n address m (f ∷ fs)
+    by_test : (find_entry (suc n) address fs ≡ Some m → Found (suc n) address m fs) → (t : Bool) → (f.entry == address) ≡ t →
+        (if t then Some n else find_entry (suc n) address fs) ≡ Some m → Found n address m (f ∷ fs)
     by_test later true p q =
         let same = found_here n m q in
         let none : m - n ≡ 0 = omega arith in
@@ -90,7 +91,8 @@ module _ (parts : Parts) where
   unfolding address_of
   next_place f b i = omega arith
 
-  target_is : (f b i displacement g : ℕ) → op_at parts f b i ≡ Call displacement → callee_at parts f b i ≡ Some g → target (address_of parts f b i) displacement ≡ entry_of parts (callee_before parts f b (suc i))
+  target_is : (f b i displacement g : ℕ) → op_at parts f b i ≡ Call displacement → callee_at parts f b i ≡ Some g →
+      target (address_of parts f b i) displacement ≡ entry_of parts (callee_before parts f b (suc i))
   unfolding callee_at
   target_is f b i displacement g op is =
       let found = find_is 0 (target (address_of parts f b i) displacement) parts.functions g (sym (ap (callee_of parts (address_of parts f b i)) op) ∙ is) in
@@ -116,9 +118,11 @@ module _ (parts : Parts) where
   pub slot_at : (f b i w : ℕ) (k : Shared) (start : Cells) → ComesStraight f b i → At parts w k f b i (straight_visit parts f b i) start → k.npc ≡ address_of parts f b (suc i)
   slot_at f b i w k start comes a = subst (λ way. Follows parts f b i way k.npc) comes.next (follows_plainly parts _ _ f b i (falls parts f b i) k.calls k.npc comes.no_call comes.no_return a.npc)
 
-  pub light_ledger : (f b i w : ℕ) (k : Shared) (v : Visit) (start : Cells) → is_call (op_before parts f b i) ≡ false → weight_of (op_at parts f b i) ≡ 1 → At parts w k f b i v start → (pos (w + 1) +ℤ (left_at parts f b (suc i) start +ℤ left_to_all parts k.calls)) ≤ℤ pos (budget parts)
+  pub light_ledger : (f b i w : ℕ) (k : Shared) (v : Visit) (start : Cells) → is_call (op_before parts f b i) ≡ false → weight_of (op_at parts f b i) ≡ 1 →
+      At parts w k f b i v start → (pos (w + 1) +ℤ (left_at parts f b (suc i) start +ℤ left_to_all parts k.calls)) ≤ℤ pos (budget parts)
   light_ledger f b i w k v start no_call light a =
-      subst (λ t. (pos (w + 1) +ℤ ((form_value start (fuel_at parts f b) -ℤ pos t) +ℤ left_to_all parts k.calls)) ≤ℤ pos (budget parts)) (sym (weight_next parts f b i no_call ∙ ap (λ x. weight_to parts f b i + x) light))
+      subst (λ t. (pos (w + 1) +ℤ ((form_value start (fuel_at parts f b) -ℤ pos t) +ℤ left_to_all parts k.calls)) ≤ℤ pos (budget parts))
+      (sym (weight_next parts f b i no_call ∙ ap (λ x. weight_to parts f b i + x) light))
       (one_word w 1 (weight_to parts f b i) (budget parts) (form_value start (fuel_at parts f b)) (left_to_all parts k.calls) a.ledger)
 
   -- CALL
@@ -134,7 +138,8 @@ module _ (parts : Parts) where
         place = next_there parts f b i comes.next a.place;
         is_visit = is_straight_visit parts f b (suc i) (ap goes_straight op);
         pc = npc;
-        npc = goes_in (is_call (op_at parts f b i)) (is_return (op_at parts f b i)) f b (suc i) (falls parts f b (suc i)) k.calls (target k.pc displacement) (ap is_call op) (ap (λ x. target x displacement) a.pc ∙ target_is f b i displacement g op callee);
+        npc = goes_in (is_call (op_at parts f b i)) (is_return (op_at parts f b i)) f b (suc i) (falls parts f b (suc i)) k.calls (target k.pc displacement)
+            (ap is_call op) (ap (λ x. target x displacement) a.pc ∙ target_is f b i displacement g op callee);
         annulled = a.annulled;
         exit = a.exit;
         begun = a.begun;

@@ -34,7 +34,8 @@ one_way None way a v n e = absurd (cc)
 one_way (Some d) way a v zero e = subst (IsWay (Some d) way a) (same_visit (record { known = d; way = way; annulled = a }) v e) (record { known = refl; way_is = refl; annuls = refl })
 one_way (Some d) way a v (suc n) e = absurd (cc)
 
-two_ways : (o p : Option Known) (first second : Way) (a b t : Bool) (v : Visit) (n : ℕ) → slice_get (visit_if o first a ++ (if t then [] else visit_if p second b)) n ≡ Some v → IsWay o first a v ⊎ IsWay p second b v
+two_ways : (o p : Option Known) (first second : Way) (a b t : Bool) (v : Visit) (n : ℕ) →
+    slice_get (visit_if o first a ++ (if t then [] else visit_if p second b)) n ≡ Some v → IsWay o first a v ⊎ IsWay p second b v
 two_ways None p first second a b true v n e = absurd (cc)
 two_ways None p first second a b false v n e = inr (one_way p second b v n e)
 two_ways (Some d) p first second a b t v zero e = inl (one_way (Some d) first a v 0 e)
@@ -42,7 +43,8 @@ two_ways (Some d) p first second a b true v (suc n) e = absurd (cc)
 two_ways (Some d) p first second a b false v (suc n) e = inr (one_way p second b v n e)
 
 module _ (parts : Parts) where
-  after_straight : (f b i : ℕ) (op : Operation) (here there : Known) (v : Visit) (n : ℕ) → goes_straight op ≡ true → slice_get (visits_after parts f b i op here there) n ≡ Some v → v ≡ record { known = there; way = falls parts f b (suc i); annulled = false }
+  after_straight : (f b i : ℕ) (op : Operation) (here there : Known) (v : Visit) (n : ℕ) → goes_straight op ≡ true →
+      slice_get (visits_after parts f b i op here there) n ≡ Some v → v ≡ record { known = there; way = falls parts f b (suc i); annulled = false }
   after_straight f b i (BranchOnCondition c) here there v n h e = absurd (cc)
   after_straight f b i (JumpAndLink j) here there v n h e = absurd (cc)
   after_straight f b i _ here there v n h e = only_one _ v n e
@@ -54,13 +56,17 @@ module _ (parts : Parts) where
 
   pub visit_is_return : (f b i : ℕ) (t : Three) (v : Visit) → op_at parts f b i ≡ JumpAndLink t → IsVisit parts f b (suc i) v → v ≡ return_visit parts f b (suc i)
   unfolding visits_at
-  visit_is_return f b i t v op is = only_one (return_visit parts f b (suc i)) v is.0 (sym (ap (λ o. slice_get (visits_after parts f b i o (state_at parts f b i) (state_at parts f b (suc i))) is.0) op) ∙ is.1)
+  visit_is_return f b i t v op is =
+      only_one (return_visit parts f b (suc i)) v is.0
+      (sym (ap (λ o. slice_get (visits_after parts f b i o (state_at parts f b i) (state_at parts f b (suc i))) is.0) op) ∙ is.1)
 
   pub visit_is_way : (f b i : ℕ) (c : Branch) (v : Visit) → op_at parts f b i ≡ BranchOnCondition c → IsVisit parts f b (suc i) v
-      → IsWay (refined c.cond (state_at parts f b i)) (branch_way parts f b i c.displacement) (c.annul && is_always c.cond) v ⊎ IsWay (refined (opposite c.cond) (state_at parts f b i)) (falls parts f b (suc i)) c.annul v
+      → IsWay (refined c.cond (state_at parts f b i)) (branch_way parts f b i c.displacement) (c.annul && is_always c.cond) v
+      ⊎ IsWay (refined (opposite c.cond) (state_at parts f b i)) (falls parts f b (suc i)) c.annul v
   unfolding visits_at
   visit_is_way f b i c v op is =
-      two_ways (refined c.cond (state_at parts f b i)) (refined (opposite c.cond) (state_at parts f b i)) (branch_way parts f b i c.displacement) (falls parts f b (suc i)) (c.annul && is_always c.cond) c.annul (is_always c.cond) v is.0
+      two_ways (refined c.cond (state_at parts f b i)) (refined (opposite c.cond) (state_at parts f b i)) (branch_way parts f b i c.displacement)
+      (falls parts f b (suc i)) (c.annul && is_always c.cond) c.annul (is_always c.cond) v is.0
       (sym (ap (λ o. slice_get (visits_after parts f b i o (state_at parts f b i) (state_at parts f b (suc i))) is.0) op) ∙ is.1)
 
   -- the slot of a return has its one way

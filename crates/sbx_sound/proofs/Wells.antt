@@ -51,12 +51,15 @@ minus_is frame (Register r) e = absurd (cc)
 
 same_three : (rd rs1 : ℕ) (o p : Operand) → rd ≡ 14 → rs1 ≡ 14 → o ≡ p → Save (record { rd = rd; rs1 = rs1; operand2 = o }) ≡ Save (record { rd = 14; rs1 = 14; operand2 = p })
 same_three rd rs1 o p a b c =
-    ap (λ (x : ℕ). Save (record { rd = x; rs1 = rs1; operand2 = o })) a ∙ ap (λ (x : ℕ). Save (record { rd = 14; rs1 = x; operand2 = o })) b ∙ ap (λ (x : Operand). Save (record { rd = 14; rs1 = 14; operand2 = x })) c
+    ap (λ (x : ℕ). Save (record { rd = x; rs1 = rs1; operand2 = o })) a ∙ ap (λ (x : ℕ). Save (record { rd = 14; rs1 = x; operand2 = o })) b
+    ∙ ap (λ (x : Operand). Save (record { rd = 14; rs1 = 14; operand2 = x })) c
 
 save_is : (frame : ℕ) (op : Operation) → is_save_of frame op ≡ true → op ≡ Save (record { rd = 14; rs1 = 14; operand2 = Immediate (2 ^ 32 - frame) })
 save_is frame (Save f) e =
     let both = and_left (f.rd == 14 && f.rs1 == 14) (is_minus frame f.operand2) e in
-    same_three f.rd f.rs1 f.operand2 (Immediate (2 ^ 32 - frame)) (equal_numbers f.rd 14 (and_left (f.rd == 14) (f.rs1 == 14) both)) (equal_numbers f.rs1 14 (and_right (f.rd == 14) (f.rs1 == 14) both)) (minus_is frame f.operand2 (and_right (f.rd == 14 && f.rs1 == 14) (is_minus frame f.operand2) e))
+    same_three f.rd f.rs1 f.operand2 (Immediate (2 ^ 32 - frame)) (equal_numbers f.rd 14 (and_left (f.rd == 14) (f.rs1 == 14) both))
+    (equal_numbers f.rs1 14 (and_right (f.rd == 14) (f.rs1 == 14) both))
+    (minus_is frame f.operand2 (and_right (f.rd == 14 && f.rs1 == 14) (is_minus frame f.operand2) e))
 save_is frame _ e = absurd (cc)
 
 frame_big : (n : ℕ) → is_frame_size n ≡ true → 64 ≤ n
@@ -68,7 +71,8 @@ frame_eight n e = grind (arith, nat_tests)
 pub enters_framed : (function : Function) (op : Operation) → is_framed function.kind ≡ true → enters_well function op ≡ true → (is_save_of function.frame op && is_frame_size function.frame) ≡ true
 enters_framed function op framed h = by_kind (is_framed function.kind) framed h
   where
-    by_kind : (t : Bool) → t ≡ true → (if t then is_save_of function.frame op && is_frame_size function.frame else function.frame == 0) ≡ true → (is_save_of function.frame op && is_frame_size function.frame) ≡ true
+    by_kind : (t : Bool) → t ≡ true → (if t then is_save_of function.frame op && is_frame_size function.frame else function.frame == 0) ≡ true →
+        (is_save_of function.frame op && is_frame_size function.frame) ≡ true
     by_kind true e h = h
     by_kind false e h = absurd (cc)
 

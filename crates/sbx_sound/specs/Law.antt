@@ -7,7 +7,8 @@ use Rattle.sbx_image.specs.Parts.{Parts}
 use Rattle.sbx_flat.specs.Runs.{FlatSafe}
 use Rattle.sbx_rules.specs.Verdicts.{Checked}
 
--- Parts that are an image's: they keep the limits and orders of the format, and each number is one that its field can hold.
+-- Parts that are an image's: they keep the limits and orders of the format, and each number is one that its field can
+-- hold.
 pub record IsFormed (parts : Parts) : Type 0 where
   pub kept : parts_keep parts ≡ Ok tt
   pub typed : IsTyped parts

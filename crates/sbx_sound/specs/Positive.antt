@@ -1,5 +1,6 @@
--- Fuel stays positive: in a checked image some of a block's fuel is left before each of its words, whatever numbers of its
--- ranges the block began with, multiples or not. A caller's fuel then outlasts its callee, also one that never returns.
+-- Fuel stays positive: in a checked image some of a block's fuel is left before each of its words, whatever numbers of
+-- its ranges the block began with, multiples or not. A caller's fuel then outlasts its callee, also one that never
+-- returns.
 use Rattle.std.specs.Prelude.{ℕ, ℤ, pos, ◌-ℤ◌, ◌≤ℤ◌}
 use Rattle.sbx_image.specs.Parts.{Parts}
 use Rattle.sbx_form.specs.Forms.{Cells}

@@ -3,15 +3,15 @@ ghost use Rattle.sbx_sound.specs.Examples.{ExamplesAreSafe};
 ghost use Rattle.sbx_sound.specs.Law.{CheckedIsSafe, WhatIsReadIsFormed};
 ghost use Rattle.sbx_sound.specs.Positive.{FuelStaysPositive};
 
-/// In an image that breaks no rule some of a block's fuel is left before each of its words, for all numbers of the ranges that the
-/// block may begin with.
+/// In an image that breaks no rule some of a block's fuel is left before each of its words, for all numbers of the
+/// ranges that the block may begin with.
 pub fn fuel_stays_positive()
     ensures { FuelStaysPositive }
 {}
 
-/// An image that breaks no rule is safe on the flat machine: on each input no run of it is wrong, none weighs more than the
-/// budget, each can go on until it has its exit word, and all give one output and one status along one path, whatever words the
-/// registers hold at the start and fresh frames hold later.
+/// An image that breaks no rule is safe on the flat machine: on each input no run of it is wrong, none weighs more than
+/// the budget, each can go on until it has its exit word, and all give one output and one status along one path,
+/// whatever words the registers hold at the start and fresh frames hold later.
 pub fn checked_is_safe()
     ensures { CheckedIsSafe }
 {}

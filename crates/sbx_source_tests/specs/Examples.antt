@@ -72,8 +72,10 @@ letter_parts =
     record {
       version = 2;
       services = record { 0 = 5 };
-      words = 0x03000200 ∷ 0xD0084000 ∷ 0x91D02002 ∷ 0x05000204 ∷ 0x8410A000 ∷ 0xD028A007 ∷ 0x90102000 ∷ 0x91D02000 ∷ [];
-      regions = record { bytes = 72 ∷ 105 ∷ 0 ∷ 0 ∷ 0 ∷ 0 ∷ 0 ∷ 0 ∷ []; writable = false } ∷ record { bytes = 0 ∷ 0 ∷ 0 ∷ 0 ∷ 0 ∷ 0 ∷ 0 ∷ 0 ∷ []; writable = true } ∷ [];
+      words = 0x03000200 ∷ 0xD0084000 ∷ 0x91D02002 ∷ 0x05000204 ∷ 0x8410A000 ∷ 0xD028A007 ∷ 0x90102000 ∷ 0x91D02000
+          ∷ [];
+      regions = record { bytes = 72 ∷ 105 ∷ 0 ∷ 0 ∷ 0 ∷ 0 ∷ 0 ∷ 0 ∷ []; writable = false }
+          ∷ record { bytes = 0 ∷ 0 ∷ 0 ∷ 0 ∷ 0 ∷ 0 ∷ 0 ∷ 0 ∷ []; writable = true } ∷ [];
       stack_pages = 1;
       functions =
           record {
@@ -145,4 +147,5 @@ caller_parts =
 -- an empty source has no function
 abbrev pub KnownSourcesHaveTheirMeanings : Type 0
 KnownSourcesHaveTheirMeanings =
-    (source_image [] ≡ Err (at 1 causes.Directive)) × (source_image hello ≡ Ok hello_parts) × (source_image letter ≡ Ok letter_parts) × (source_image caller ≡ Ok caller_parts)
+    (source_image [] ≡ Err (at 1 causes.Directive)) × (source_image hello ≡ Ok hello_parts)
+    × (source_image letter ≡ Ok letter_parts) × (source_image caller ≡ Ok caller_parts)

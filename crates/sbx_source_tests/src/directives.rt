@@ -139,8 +139,9 @@ fn is_read(alloc: Global, line: &str, wanted: &str) -> bool {
     }
 }
 
-/// A line; and how many labels it has, what stands behind them, and the numbers of that: of a name its first place and the one behind
-/// it, of a function those of its name, its frame, its room and its budget, of a region whether it is written.
+/// A line; and how many labels it has, what stands behind them, and the numbers of that: of a name its first place and
+/// the one behind it, of a function those of its name, its frame, its room and its budget, of a region whether it is
+/// written.
 const STATEMENTS: &str = " = 0 nothing
 a: .text : ! b: = 2 nothing
 a: nop = 1 instruction

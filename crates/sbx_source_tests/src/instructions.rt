@@ -120,8 +120,8 @@ fn read_back(alloc: Global, parsed: &Parsed) -> bool {
     true
 }
 
-/// Statements and their words, as GNU as gives them but for `tst`, `btst` and the plain `restore`: these have the operands
-/// of this language's own forms.
+/// Statements and their words, as GNU as gives them but for `tst`, `btst` and the plain `restore`: these have the
+/// operands of this language's own forms.
 const ENCODINGS: &str = "add %o7,%i7,%sp = 9C03C01F
 addcc %g0,%o7,%i7 = BE80000F
 addx %l0,%g0,%o7 = 9E440000
@@ -312,7 +312,8 @@ pub(crate) fn halves(row: &str) -> (&str, &str) {
     row.split_once(" = ").unwrap_or((row, ""))
 }
 
-/// Whether these tokens of a statement have the length of its words, with a blank between two, and are them, and each reads back.
+/// Whether these tokens of a statement have the length of its words, with a blank between two, and are them, and each
+/// reads back.
 fn are_so(alloc: Global, line: &[u8], found: &[Token], words: &str) -> bool {
     let parsed = parse_instr(line, found, &NAMELESS);
     length_of(line, found) == words.len().saturating_add(1) / 9

@@ -1,5 +1,5 @@
-//! Tests of the crates that read source text: tokens, instructions, directives and whole sources. The expected values come from
-//! worked examples, from GNU as, and from the formats by hand.
+//! Tests of the crates that read source text: tokens, instructions, directives and whole sources. The expected values
+//! come from worked examples, from GNU as, and from the formats by hand.
 #![tactic(auto)]
 
 #[cfg(test)]

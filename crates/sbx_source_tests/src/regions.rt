@@ -22,8 +22,8 @@ const LETTER_SOURCE: &str = ".services exit,put
     ta 0
 ";
 
-/// The bytes of its image by the format's fields: the header, the two regions' lengths and kinds, the words, the regions, the
-/// function and its block.
+/// The bytes of its image by the format's fields: the header, the two regions' lengths and kinds, the words, the
+/// regions, the function and its block.
 const LETTER: &[&str] = &[
     "534258380002000500000007000200010001",
     "000000080000000000080001",

@@ -60,8 +60,8 @@ fn texts(rt: HostRuntime) {
     go_round(&rt, rt.alloc(), &WORDS);
 }
 
-/// Statements, how many instructions are counted, and how many they are: `set` of a symbol always takes two, and what is no
-/// statement counts as one.
+/// Statements, how many instructions are counted, and how many they are: `set` of a symbol always takes two, and what
+/// is no statement counts as one.
 static LENGTHS: [(&str, usize, usize); 12] = [
     ("set 5,%o0", 1, 1),
     ("set 4096,%o0", 1, 1),
@@ -116,7 +116,8 @@ fn lengths(rt: HostRuntime) {
     are_counted(&rt, rt.alloc(), &LENGTHS);
 }
 
-/// Words without a syntax: `fadds %f0,%f0,%f0`, a word of a reserved opcode, and `lda [%g1+4],%o0`, which no identifier fits.
+/// Words without a syntax: `fadds %f0,%f0,%f0`, a word of a reserved opcode, and `lda [%g1+4],%o0`, which no identifier
+/// fits.
 static BARE: [(u32, &str); 3] = [
     (0x81A0_0820, ".word 0x81A00820"),
     (0x0040_0000, ".word 0x00400000"),

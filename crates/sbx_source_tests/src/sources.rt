@@ -141,8 +141,8 @@ const ANNOTATED_SOURCE: &str = ".stack 3
     ta 0
 ";
 
-/// What its image says: of each function the kind, the entry, the frame, the stack, the budget and the ranges, and of each
-/// block the address, the fuel, the cells and the terms.
+/// What its image says: of each function the kind, the entry, the frame, the stack, the budget and the ranges, and of
+/// each block the address, the fuel, the cells and the terms.
 const ANNOTATED: &str = "services 4, stack 3
 framed 00040000 104 200 77 params results (0 0 3)
 block 00040000 5 cells terms

@@ -1,5 +1,6 @@
 -- What a file says of a start: the items of its lines, one after the other, each in the place of what was said before.
-use Rattle.std.specs.Prelude.{◌≡◌, ◌≢◌, ℕ, ◌+◌, ◌<◌, ◌≤◌, ◌⊎◌, List, [], ◌∷◌, ◌++◌, length, map, fold, All, Ok, Err, IsOk}
+use Rattle.std.specs.Prelude.{◌≡◌, ◌≢◌, ℕ, ◌+◌, ◌<◌, ◌≤◌, ◌⊎◌, List, [], ◌∷◌, ◌++◌, length, map, fold, All, Ok, Err}
+use Rattle.std.specs.Prelude.{IsOk}
 use Rattle.std.specs.List.{splice}
 use Rattle.v8_map.specs.declared.TheConstants.{RAM}
 use Rattle.want.specs.Wants.{refused}
@@ -46,7 +47,8 @@ with_number c Context n = record c { context = n }
 abbrev pub set_named : Said → Name → ℕ → Said
 set_named s names.Window n = record s { window = n }
 set_named s (names.Control field) n = record s { control = with_number s.control field n }
-set_named s (names.Register r) n = record s { registers = s.registers ++ record { window = s.window; register = r; word = n } ∷ [] }
+set_named s (names.Register r) n =
+    record s { registers = s.registers ++ record { window = s.window; register = r; word = n } ∷ [] }
 
 abbrev pub set : Said → Item → Said
 set s Nothing = s
@@ -61,8 +63,8 @@ begun blank at binary = record { window = 0; control = plain; registers = []; ra
 abbrev pub said : ℕ → Start → Said
 said window s = record { window = window; control = s.control; registers = s.registers.items; ram = s.ram.items }
 
--- A binary, from an address on, and a file spell this start of a machine of so many windows: the binary fits into RAM, each line is right,
--- and what the lines say, in their order, makes the start.
+-- A binary, from an address on, and a file spell this start of a machine of so many windows: the binary fits into RAM,
+-- each line is right, and what the lines say, in their order, makes the start.
 pub record Spells (windows at : ℕ) (binary file : List ℕ) (s : Start) : Type 0 where
   pub room : at + length binary ≤ RAM
   pub blank : List ℕ
@@ -85,7 +87,8 @@ pub record IsFirst (windows : ℕ) (file : List ℕ) (fault : StartFault) : Type
 -- the binary doesn't fit into RAM, which is told of line 0; or a line isn't right
 abbrev pub IsWrong : ℕ → ℕ → List ℕ → List ℕ → StartFault → Type 0
 IsWrong windows at binary file fault =
-    ((RAM < at + length binary) × (fault.line ≡ 0) × (fault.cause ≡ causes.Room)) ⊎ ((at + length binary ≤ RAM) × IsFirst windows file fault)
+    ((RAM < at + length binary) × (fault.line ≡ 0) × (fault.cause ≡ causes.Room))
+    ⊎ ((at + length binary ≤ RAM) × IsFirst windows file fault)
 
 -- a fault is that, unless memory was refused
 abbrev pub IsFault : ℕ → ℕ → List ℕ → List ℕ → StartFault → Type 0

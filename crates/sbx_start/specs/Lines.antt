@@ -1,5 +1,6 @@
 -- The lines of a file, the words of a line, and the numbers that words spell.
-use Rattle.std.specs.Prelude.{ℕ, ◌==◌, ◌&&◌, Bool, not, nat_lt, nat_le, if◌then◌else◌, List, [], ◌∷◌, length, take, drop, filter, codes, Option, Some, None}
+use Rattle.std.specs.Prelude.{ℕ, ◌==◌, ◌&&◌, Bool, not, nat_lt, nat_le, if◌then◌else◌, List, [], ◌∷◌, length, take}
+use Rattle.std.specs.Prelude.{drop, filter, codes, Option, Some, None}
 use Rattle.std.specs.List.{list_all, onto_first, slice_split, take_while}
 use Rattle.std.specs.Char.{is_ascii_whitespace, is_digit}
 use Rattle.std.specs.Str.{byte, bytes_eq}
@@ -29,4 +30,5 @@ numeral_of radix most digits =
 
 -- a number is `0x` and hexadecimal digits, or decimal digits
 abbrev pub number_of : ℕ → List ℕ → Option ℕ
-number_of most word = if bytes_eq (take 2 word) (codes "0x") then numeral_of 16 most (drop 2 word) else numeral_of 10 most word
+number_of most word =
+    if bytes_eq (take 2 word) (codes "0x") then numeral_of 16 most (drop 2 word) else numeral_of 10 most word

@@ -1,5 +1,6 @@
 -- What a line may name.
-use Rattle.std.specs.Prelude.{ℕ, ◌+◌, ◌-◌, ◌%◌, ◌^◌, ◌==◌, ◌&&◌, Bool, true, nat_lt, nat_le, if◌then◌else◌, List, [], ◌∷◌, length, take, drop, slice_index, codes, Option, Some, None}
+use Rattle.std.specs.Prelude.{ℕ, ◌+◌, ◌-◌, ◌%◌, ◌^◌, ◌==◌, ◌&&◌, Bool, true, nat_lt, nat_le, if◌then◌else◌, List, []}
+use Rattle.std.specs.Prelude.{◌∷◌, length, take, drop, slice_index, codes, Option, Some, None}
 use Rattle.std.specs.Option.{option_map, option_and_then, option_or}
 use Rattle.std.specs.List.{find}
 use Rattle.std.specs.Str.{byte, bytes_eq}
@@ -20,7 +21,8 @@ beside name rows = option_map (λ row. row.1) (find (λ row. bytes_eq name row.0
 -- the state registers, the context table and the context; `%` may stand before these
 abbrev pub fields : List (List ℕ × Field)
 fields =
-    (codes "pc", Pc) ∷ (codes "npc", Npc) ∷ (codes "psr", Psr) ∷ (codes "wim", Wim) ∷ (codes "tbr", Tbr) ∷ (codes "y", Y)
+    (codes "pc", Pc) ∷ (codes "npc", Npc) ∷ (codes "psr", Psr) ∷ (codes "wim", Wim) ∷ (codes "tbr", Tbr)
+    ∷ (codes "y", Y)
     ∷ (codes "context_table", Table) ∷ (codes "context", Context) ∷ []
 
 -- the first register of a group, by its letter: globals, outs, locals and ins
@@ -46,7 +48,8 @@ without_percent word = if bytes_eq (take 1 word) (codes "%") then drop 1 word el
 abbrev pub name_of : List ℕ → Option Name
 name_of word =
     if bytes_eq word (codes "window") then Some Window
-    else option_or (option_map Control (beside (without_percent word) fields)) (option_map Register (register_named word))
+    else option_or (option_map Control (beside (without_percent word) fields))
+    (option_map Register (register_named word))
 
 -- ---- the numbers behind them
 
@@ -55,7 +58,8 @@ abbrev pub most_of : Name → ℕ
 most_of (Control Table) = 2 ^ 36 - 1
 most_of _ = 2 ^ 32 - 1
 
--- a number behind a field keeps its rule, on so many windows: PC, nPC and the table lie at multiples of 4, and the window of PSR is there
+-- a number behind a field keeps its rule, on so many windows: PC, nPC and the table lie at multiples of 4, and the
+-- window of PSR is there
 abbrev pub suits : ℕ → Field → ℕ → Bool
 suits windows Pc n = n % 4 == 0
 suits windows Npc n = n % 4 == 0

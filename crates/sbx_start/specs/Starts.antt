@@ -5,8 +5,8 @@ use Rattle.v8_word.specs.Word.{bits_of}
 use Rattle.sbx_start.specs.declared.start.Control.{Control}
 use Rattle.sbx_start.specs.declared.start.Start.{Start}
 
--- A start of a machine of so many windows: PC and nPC are addresses of instructions, the window of PSR is there, the context table lies
--- at a word of the physical addresses, and RAM has its size.
+-- A start of a machine of so many windows: PC and nPC are addresses of instructions, the window of PSR is there, the
+-- context table lies at a word of the physical addresses, and RAM has its size.
 pub record IsFit (windows : ℕ) (s : Start) : Type 0 where
   pub pc : s.control.pc % 4 ≡ 0
   pub npc : s.control.npc % 4 ≡ 0

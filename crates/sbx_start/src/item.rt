@@ -1,7 +1,8 @@
 //! What a line of a start says.
 ghost use Rattle.std.specs.Prelude.{◌≡◌, ◌≢◌, ℕ, ◌≤◌, ◌^◌, [], ◌∷◌, ◌-◌, IfOk, MatchResult, Ok, Err, Some, None};
 ghost use Rattle.want.specs.Wants.{refused};
-ghost use Rattle.sbx_start.specs.Items.{Gives, IsRight, behind_address, behind_name, bytes_of, item_of, ruled, said_by, shown};
+ghost use Rattle.sbx_start.specs.Items.{Gives, IsRight, behind_address, behind_name, bytes_of, item_of, ruled, said_by};
+ghost use Rattle.sbx_start.specs.Items.{shown};
 ghost use Rattle.sbx_start.specs.Lines.{words_of};
 
 use crate::fault::Cause;

@@ -1,7 +1,8 @@
 //! What a line of a start may name.
 ghost use Rattle.std.specs.Prelude.{◌≡◌, ◌<◌, ◌≤◌, ◌+◌, ◌∷◌, [], IfSome, map};
 ghost use Rattle.std.specs.Str.{bytes_eq};
-ghost use Rattle.sbx_start.specs.Names.{beside, groups, keeps, most_of, name_of, numbered, register_named, rule_of, suits, without_percent};
+ghost use Rattle.sbx_start.specs.Names.{beside, groups, keeps, most_of, name_of, numbered, register_named, rule_of};
+ghost use Rattle.sbx_start.specs.Names.{suits, without_percent};
 
 use crate::fault::Cause;
 use crate::numbers::{MOST_ADDRESS, MOST_WORD};

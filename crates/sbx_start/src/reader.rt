@@ -65,8 +65,9 @@ fn take_lines(alloc: Global, start: &mut Start, windows: u32, file: &[u8]) -> Re
     Ok(())
 }
 
-/// The start of a machine of so many windows, 4 to 32: RAM has the bytes of a binary from an address on, and what the lines of a file
-/// say. The fault is that of the first line that isn't right. Line 0 is told where the binary doesn't fit into RAM.
+/// The start of a machine of so many windows, 4 to 32: RAM has the bytes of a binary from an address on, and what the
+/// lines of a file say. The fault is that of the first line that isn't right. Line 0 is told where the binary doesn't
+/// fit into RAM.
 pub fn read_start(
     alloc: Global,
     windows: u32,

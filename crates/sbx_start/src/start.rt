@@ -1,5 +1,6 @@
 //! A start.
-ghost use Rattle.std.specs.Prelude.{◌≡◌, ◌≤◌, ◌+◌, [], ◌∷◌, ◌++◌, IfOk, IfErr, length, nat_le, IsTrue, All, if◌then◌else◌};
+ghost use Rattle.std.specs.Prelude.{◌≡◌, ◌≤◌, ◌+◌, [], ◌∷◌, ◌++◌, IfOk, IfErr, length, nat_le, IsTrue, All};
+ghost use Rattle.std.specs.Prelude.{if◌then◌else◌};
 ghost use Rattle.v8_map.specs.declared.TheConstants.{RAM};
 ghost use Rattle.want.specs.Wants.{refused};
 ghost use Rattle.sbx_start.specs.Files.{IsBlank, said, set, set_named, with_bytes, with_number};
@@ -14,8 +15,8 @@ use v8_map::RAM;
 use v8_word::Reg;
 use want::Want;
 
-/// PC, nPC, the state registers and Y as words (chapter 4), and the MMU's registers: the physical address of the context table, of 36
-/// bits, and the context (appendix H).
+/// PC, nPC, the state registers and Y as words (chapter 4), and the MMU's registers: the physical address of the
+/// context table, of 36 bits, and the context (appendix H).
 #[derive(Clone, Copy)]
 pub struct Control {
     pub pc: u32,
@@ -36,7 +37,8 @@ pub struct Register {
     pub word: u32,
 }
 
-/// How a machine starts: its state registers, the words of other registers, one after the other, and the bytes of its RAM.
+/// How a machine starts: its state registers, the words of other registers, one after the other, and the bytes of its
+/// RAM.
 #[derive(Drop)]
 pub struct Start {
     pub control: Control,
@@ -96,7 +98,8 @@ impl Start {
     pub fn put_bytes(&mut self, at: u64, bytes: &[u8]) -> bool
         requires { length self.old.ram.items ≡ RAM }
         ensures fits { result ≡ nat_le (at + length bytes.now) RAM }
-        ensures ram { self.new.ram.items ≡ (if result then with_bytes self.old.ram.items at bytes.now else self.old.ram.items) }
+        ensures ram { self.new.ram.items ≡
+            (if result then with_bytes self.old.ram.items at bytes.now else self.old.ram.items) }
         ensures size { length self.new.ram.items ≡ RAM }
         ensures control { self.new.control ≡ self.old.control }
         ensures registers { self.new.registers ≡ self.old.registers }
@@ -112,7 +115,13 @@ impl Start {
 
     /// Adds a register's word.
     fn push_register(&mut self, window: u8, register: Reg, word: u32) -> Result<(), Want>
-        ensures said { IfOk result (λ _. self.new.registers.items ≡ self.old.registers.items ++ record { window = window; register = register; word = word } ∷ []) }
+        ensures said { IfOk result
+            (λ _. self.new.registers.items ≡ self.old.registers.items ++ record {
+              window = window;
+              register =
+                  register;
+              word = word;
+            } ∷ []) }
         ensures control { self.new.control ≡ self.old.control }
         ensures ram { self.new.ram ≡ self.old.ram }
     {

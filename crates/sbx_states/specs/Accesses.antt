@@ -1,5 +1,6 @@
 -- Data accesses, and where the page entries and the words lie that a turn may have changed.
-use Rattle.std.specs.Prelude.{ℕ, ◌≡◌, ◌+◌, ◌-◌, ◌*◌, ◌/◌, ◌^◌, ◌==◌, ◌&&◌, Bool, true, false, if◌then◌else◌, List, [], ◌++◌, codes, Option, Some, None}
+use Rattle.std.specs.Prelude.{ℕ, ◌≡◌, ◌+◌, ◌-◌, ◌*◌, ◌/◌, ◌^◌, ◌==◌, ◌&&◌, Bool, true, false, if◌then◌else◌, List, []}
+use Rattle.std.specs.Prelude.{◌++◌, codes, Option, Some, None}
 use Rattle.std.specs.Fmt.{decimal, digits, format_spec, padded_integral}
 use Rattle.v8_mmu.specs.Meaning.{bytes_in}
 use Rattle.v8_mmu.specs.Paths.{LeadsNowhere, LeadsTo, last_place}
@@ -18,9 +19,11 @@ kind_text false = codes " load="
 abbrev pub access_text : Option DataAccess → List ℕ
 access_text None = []
 access_text (Some a) =
-    kind_text a.store ++ (word_text a.va ++ (codes ":" ++ (physical_text a.pa ++ (codes ":" ++ decimal (bytes_in a.size)))))
+    kind_text a.store
+    ++ (word_text a.va ++ (codes ":" ++ (physical_text a.pa ++ (codes ":" ++ decimal (bytes_in a.size)))))
 
--- where the page entry lies that ends the walk of an address in this RAM, where the address leads to a page (appendix H)
+-- where the page entry lies that ends the walk of an address in this RAM, where the address leads to a page (appendix
+-- H)
 abbrev pub EntryIs : List ℕ → ℕ → ℕ → Option ℕ → Type 0
 EntryIs ram root va (Some place) = (f : Found) × LeadsTo ram root va f × (place ≡ last_place f)
 EntryIs ram root va None = (ft : ℕ) × (level : ℕ) × LeadsNowhere ram root va ft level

@@ -31,7 +31,8 @@ window_text psr = padded_integral (format_spec 32 0 4 2 (2 ^ 64 - 1)) false [] (
 -- the number of the line, the window, PC, nPC and the annul flag
 abbrev pub place_text : ℕ → List ℕ → Shown → List ℕ
 place_text number annul s =
-    decimal number ++ (codes " " ++ (window_text s.psr ++ (codes " " ++ (word_text s.pc ++ (codes " " ++ (word_text s.npc
+    decimal number
+    ++ (codes " " ++ (window_text s.psr ++ (codes " " ++ (word_text s.pc ++ (codes " " ++ (word_text s.npc
     ++ (codes " " ++ (annul ++ codes " "))))))))
 
 -- PSR, WIM, TBR, Y and the fault status

@@ -37,9 +37,10 @@ line_text n number before turn cpu ram known places =
     columns_text number (annul_text turn.event) before ++ outcome_text turn ++ access_text turn.access
     ++ registers_text n known.registers cpu ++ (told_words known.ram ram places).0 ++ codes "\n"
 
--- The text is the line of a turn: `before` is what the machine showed before it, `cpu` and `ram` are what it left. Of the walks it is
--- known where they ended in RAM as it was told so far.
-pub record IsLine (n root number : ℕ) (before : Shown) (turn : Turn) (cpu : Cpu n) (ram : List ℕ) (known told : Known) (text : List ℕ) : Type 0 where
+-- The text is the line of a turn: `before` is what the machine showed before it, `cpu` and `ram` are what it left. Of
+-- the walks it is known where they ended in RAM as it was told so far.
+pub record IsLine (n root number : ℕ) (before : Shown) (turn : Turn) (cpu : Cpu n) (ram : List ℕ) (known told : Known)
+    (text : List ℕ) : Type 0 where
   pub places : Places
   pub fetched : EntryIs known.ram root before.pc places.fetched
   pub accessed : EntryOfIs known.ram root turn.access places.accessed
@@ -51,7 +52,8 @@ pub record IsLine (n root number : ℕ) (before : Shown) (turn : Turn) (cpu : Cp
 
 -- the line before the first turn, and what is known then
 abbrev pub start_line : (n : ℕ) → Windows → Cpu n → List ℕ
-start_line n known cpu = columns_text 0 (codes "-") (shown_of n cpu) ++ codes "-------- start" ++ registers_text n known cpu ++ codes "\n"
+start_line n known cpu =
+    columns_text 0 (codes "-") (shown_of n cpu) ++ codes "-------- start" ++ registers_text n known cpu ++ codes "\n"
 
 -- the line behind the last turn
 abbrev pub end_line : (n : ℕ) → ℕ → Cpu n → List ℕ

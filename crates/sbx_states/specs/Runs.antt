@@ -26,16 +26,20 @@ after m n mmu (suc k) w = (next m n mmu (after m n mmu k w)).1
 -- the text is the line of the turn that comes next
 abbrev pub TellsNext : {D : Type 0} → Meaning D → (n : ℕ) → MmuRegs → ℕ → World n D → Known → Known → List ℕ → Type 0
 TellsNext m n mmu number old known told text =
-    IsLine n (root_of mmu) number (shown_of n old.cpu) (next m n mmu old).0 (next m n mmu old).1.cpu (next m n mmu old).1.memory.ram known told text
+    IsLine n (root_of mmu) number (shown_of n old.cpu) (next m n mmu old).0 (next m n mmu old).1.cpu
+    (next m n mmu old).1.memory.ram known told text
 
 -- the text has a line for each of the first turns, so many, which are numbered from 1
-unfoldable pub TellsTurns : {D : Type 0} → Meaning D → (n : ℕ) → MmuRegs → World n D → Known → ℕ → Known → List ℕ → Type 0
+unfoldable pub TellsTurns : {D : Type 0} → Meaning D → (n : ℕ) → MmuRegs → World n D → Known → ℕ → Known → List ℕ →
+    Type 0
 TellsTurns m n mmu w known zero told text = (told ≡ known) × (text ≡ [])
 TellsTurns m n mmu w known (suc k) told text = (mid : Known) × (before : List ℕ) × (last : List ℕ)
-    × TellsTurns m n mmu w known k mid before × TellsNext m n mmu (suc k) (after m n mmu k w) mid told last × (text ≡ before ++ last)
+    × TellsTurns m n mmu w known k mid before × TellsNext m n mmu (suc k) (after m n mmu k w) mid told last
+    × (text ≡ before ++ last)
 
 -- A turn was made, and its line was written.
-pub record ToldTurn {D : Type 0} (m : Meaning D) (n : ℕ) (mmu : MmuRegs) (number : ℕ) (old new : World n D) (known told : Known) (before now : Option (List ℕ)) : Type 0 where
+pub record ToldTurn {D : Type 0} (m : Meaning D) (n : ℕ) (mmu : MmuRegs) (number : ℕ) (old new : World n D)
+    (known told : Known) (before now : Option (List ℕ)) : Type 0 where
   pub turn : Turn
   pub text : List ℕ
   pub made : next m n mmu old ≡ (turn, new)
@@ -48,17 +52,20 @@ BeginsNext m n mmu number old known front =
     (front ≡ []) ⊎ ((told : Known) × (text : List ℕ) × TellsNext m n mmu number old known told text × Begins front text)
 
 -- such bytes were written
-abbrev pub ToldSome : {D : Type 0} → Meaning D → (n : ℕ) → MmuRegs → ℕ → World n D → Known → Option (List ℕ) → Option (List ℕ) → Type 0
-ToldSome m n mmu number old known before now = (front : List ℕ) × BeginsNext m n mmu number old known front × Appends before now front
+abbrev pub ToldSome : {D : Type 0} → Meaning D → (n : ℕ) → MmuRegs → ℕ → World n D → Known → Option (List ℕ) →
+    Option (List ℕ) → Type 0
+ToldSome m n mmu number old known before now = (front : List ℕ) × BeginsNext m n mmu number old known front
+    × Appends before now front
 
 -- so many turns, before none of which the machine was over
 pub record Made {D : Type 0} (m : Meaning D) (n : ℕ) (mmu : MmuRegs) (old new : World n D) (count : ℕ) : Type 0 where
   pub running : (j : ℕ) → j < count → is_over m n (after m n mmu j old) ≡ false
   pub is : new ≡ after m n mmu count old
 
--- A run of at most so many turns was made, which stops before the limit only where the machine is over, and the lines of its turns
--- were written.
-pub record ToldRun {D : Type 0} (m : Meaning D) (n : ℕ) (mmu : MmuRegs) (limit : ℕ) (old new : World n D) (count : ℕ) (known told : Known) (before now : Option (List ℕ)) : Type 0 where
+-- A run of at most so many turns was made, which stops before the limit only where the machine is over, and the lines
+-- of its turns were written.
+pub record ToldRun {D : Type 0} (m : Meaning D) (n : ℕ) (mmu : MmuRegs) (limit : ℕ) (old new : World n D) (count : ℕ)
+    (known told : Known) (before now : Option (List ℕ)) : Type 0 where
   pub made : Made m n mmu old new count
   pub within : count ≤ limit
   pub whole : is_over m n new ≡ false → count ≡ limit
@@ -66,8 +73,10 @@ pub record ToldRun {D : Type 0} (m : Meaning D) (n : ℕ) (mmu : MmuRegs) (limit
   pub tells : TellsTurns m n mmu old known count told text
   pub written : Appends before now text
 
--- The bytes are the lines of some turns of a run, and the first bytes of the next one's, or of the line behind the last.
-pub record IsPart {D : Type 0} (m : Meaning D) (n : ℕ) (mmu : MmuRegs) (limit : ℕ) (old : World n D) (known : Known) (bytes : List ℕ) : Type 0 where
+-- The bytes are the lines of some turns of a run, and the first bytes of the next one's, or of the line behind the
+-- last.
+pub record IsPart {D : Type 0} (m : Meaning D) (n : ℕ) (mmu : MmuRegs) (limit : ℕ) (old : World n D) (known : Known)
+    (bytes : List ℕ) : Type 0 where
   pub reached : World n D
   pub count : ℕ
   pub made : Made m n mmu old reached count
@@ -87,10 +96,13 @@ begun n old known = record known { registers = told_registers n known.registers 
 abbrev pub BeginsStates : {D : Type 0} → Meaning D → (n : ℕ) → MmuRegs → ℕ → World n D → Known → List ℕ → Type 0
 BeginsStates m n mmu limit old known bytes =
     Begins bytes (start_line n known.registers old.cpu)
-    ⊎ ((lines : List ℕ) × IsPart m n mmu limit old (begun n old known) lines × (bytes ≡ start_line n known.registers old.cpu ++ lines))
+    ⊎ ((lines : List ℕ) × IsPart m n mmu limit old (begun n old known) lines
+    × (bytes ≡ start_line n known.registers old.cpu ++ lines))
 
--- The text tells a run of at most so many turns from a world: a line before the first turn, one for each, and one behind the last.
-pub record IsStates {D : Type 0} (m : Meaning D) (n : ℕ) (mmu : MmuRegs) (limit : ℕ) (old new : World n D) (known : Known) (text : List ℕ) : Type 0 where
+-- The text tells a run of at most so many turns from a world: a line before the first turn, one for each, and one
+-- behind the last.
+pub record IsStates {D : Type 0} (m : Meaning D) (n : ℕ) (mmu : MmuRegs) (limit : ℕ) (old new : World n D)
+    (known : Known) (text : List ℕ) : Type 0 where
   pub count : ℕ
   pub made : Made m n mmu old new count
   pub within : count ≤ limit

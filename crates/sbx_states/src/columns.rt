@@ -1,6 +1,7 @@
 //! The columns of a line: the state before a turn, the word, and what happened.
 ghost use Rattle.std.specs.Prelude.{◌≡◌, ◌++◌, OnOk, string_bytes};
-ghost use Rattle.sbx_states.specs.Columns.{columns_text, event_text, outcome_text, place_text, state_text, stop_text, word_column};
+ghost use Rattle.sbx_states.specs.Columns.{columns_text, event_text, outcome_text, place_text, state_text, stop_text};
+ghost use Rattle.sbx_states.specs.Columns.{word_column};
 
 use crate::shown::Shown;
 use std::alloc::AllocError;
@@ -23,8 +24,8 @@ fn push_state(line: &mut String, shown: &Shown) -> Result<(), AllocError>
     write!(line, "{psr:08X} {wim:08X} {tbr:08X} {y:08X} {fault:08X} ")
 }
 
-/// Pushes the columns that tell a state: the number of the line, the window, PC, nPC, the annul flag, the state registers and Y, and
-/// the fault status.
+/// Pushes the columns that tell a state: the number of the line, the window, PC, nPC, the annul flag, the state
+/// registers and Y, and the fault status.
 pub fn push_columns(
     line: &mut String,
     number: u64,

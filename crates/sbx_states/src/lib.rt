@@ -1,4 +1,5 @@
-//! States of a machine told for programs, a line a turn: what it showed before the turn, the word, what happened, and what changed.
+//! States of a machine told for programs, a line a turn: what it showed before the turn, the word, what happened, and
+//! what changed.
 #![tactic(auto)]
 
 mod accesses;

@@ -35,7 +35,8 @@ fn push_change<const N: usize, B: Bus>(
     machine: &Machine<N, B>,
     register: Reg,
 ) -> Result<(), AllocError>
-    ensures { OnOk result (string_bytes line.new ≡ string_bytes line.old ++ change_text N known.now machine.now.cpu.regs register) }
+    ensures { OnOk result
+        (string_bytes line.new ≡ string_bytes line.old ++ change_text N known.now machine.now.cpu.regs register) }
 {
     let word = machine.reg(register);
     if known.get(register) == word {
@@ -50,7 +51,8 @@ pub fn push_changes<const N: usize, B: Bus>(
     known: &RegFile<N>,
     machine: &Machine<N, B>,
 ) -> Result<(), AllocError>
-    ensures { OnOk result (string_bytes line.new ≡ string_bytes line.old ++ changes_text N known.now machine.now.cpu.regs 32) }
+    ensures { OnOk result
+        (string_bytes line.new ≡ string_bytes line.old ++ changes_text N known.now machine.now.cpu.regs 32) }
 {
     for number in 0..32 {
         let Some(register) = Reg::new(number) else {

@@ -5,8 +5,8 @@ ghost use Rattle.sbx_states.specs.Columns.{shown_of};
 use v8_core::Machine;
 use v8_mmu::Bus;
 
-/// What a machine shows beside its registers and its memory: PC, nPC, the state registers and Y as words (chapter 4), and the
-/// fault status (appendix H).
+/// What a machine shows beside its registers and its memory: PC, nPC, the state registers and Y as words (chapter 4),
+/// and the fault status (appendix H).
 #[derive(Clone, Copy)]
 pub struct Shown {
     pub pc: u32,

@@ -36,7 +36,11 @@ fn annul_text(event: &Event) -> &'static str
 
 /// Pushes what a turn's line begins with, and its access.
 fn push_turn(line: &mut String, number: u64, before: &Shown, turn: &Turn) -> Result<(), AllocError>
-    ensures { OnOk result (string_bytes line.new ≡ string_bytes line.old ++ (columns_text number (annul_text turn.now.event) before.now ++ outcome_text turn.now ++ access_text turn.now.access)) }
+    ensures { OnOk result
+        (string_bytes line.new ≡
+        string_bytes line.old
+        ++ (columns_text number (annul_text turn.now.event) before.now ++ outcome_text turn.now
+        ++ access_text turn.now.access)) }
 {
     push_columns(line, number, annul_text(&turn.event), before)?;
     push_outcome(line, turn)?;
@@ -62,7 +66,8 @@ impl<const N: usize, B: Bus> Teller<N, B> {
     /// Nothing is known of the registers but that they are 0; of RAM, what this memory holds.
     pub fn new(alloc: Global, memory: B) -> Self
         requires { (4 ≤ N) × (N ≤ 32) }
-        ensures registers { result.registers ≡ record { globals = replicate 8 0; words = replicate N (replicate 16 0); current = 0; mask = 0 } }
+        ensures registers { result.registers ≡
+            record { globals = replicate 8 0; words = replicate N (replicate 16 0); current = 0; mask = 0 } }
         ensures memory { result.memory ≡ memory }
     {
         Teller {
@@ -74,7 +79,9 @@ impl<const N: usize, B: Bus> Teller<N, B> {
 
     /// Pushes the registers of a machine's window that hold other words than is known, and takes them over.
     fn put_registers(&mut self, machine: &Machine<N, B>) -> Result<(), AllocError>
-        ensures text { OnOk result (string_bytes self.new.line ≡ string_bytes self.old.line ++ registers_text N self.old.registers machine.now.cpu) }
+        ensures text { OnOk result
+            (string_bytes self.new.line ≡
+            string_bytes self.old.line ++ registers_text N self.old.registers machine.now.cpu) }
         ensures registers { OnOk result (self.new.registers ≡ told_registers N self.old.registers machine.now.cpu) }
         ensures memory { self.new.memory ≡ self.old.memory }
     {
@@ -88,7 +95,8 @@ impl<const N: usize, B: Bus> Teller<N, B> {
     fn put_changes(&mut self, machine: &Machine<N, B>, places: &Places) -> Result<(), AllocError>
         ensures text { OnOk result (string_bytes self.new.line ≡ string_bytes self.old.line ++ (registers_text N self.old.registers machine.now.cpu ++ (told_words (B.ram self.old.memory) (B.ram machine.now.bus) places.now).0 ++ codes "\n")) }
         ensures registers { OnOk result (self.new.registers ≡ told_registers N self.old.registers machine.now.cpu) }
-        ensures memory { OnOk result (B.ram self.new.memory ≡ (told_words (B.ram self.old.memory) (B.ram machine.now.bus) places.now).1) }
+        ensures memory { OnOk result
+            (B.ram self.new.memory ≡ (told_words (B.ram self.old.memory) (B.ram machine.now.bus) places.now).1) }
     {
         self.put_registers(machine)?;
         push_words(&mut self.line, &mut self.memory, machine.bus(), places)?;
@@ -104,7 +112,8 @@ impl<const N: usize, B: Bus> Teller<N, B> {
         turn: &Turn,
         machine: &Machine<N, B>,
     ) -> Result<(), AllocError>
-        ensures { OnOk result (IsLine N (root_of mmu.now) number before.now turn.now machine.now.cpu (B.ram machine.now.bus)
+        ensures { OnOk result
+            (IsLine N (root_of mmu.now) number before.now turn.now machine.now.cpu (B.ram machine.now.bus)
             (record { registers = self.old.registers; ram = B.ram self.old.memory })
             (record { registers = self.new.registers; ram = B.ram self.new.memory }) (string_bytes self.new.line)) }
     {

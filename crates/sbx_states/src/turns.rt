@@ -4,7 +4,8 @@ ghost use Rattle.std.specs.Io.KnownBytes.{Appends};
 ghost use Rattle.sbx_put.specs.Fronts.{Wrote, WroteSome};
 ghost use Rattle.v8_core.specs.Accesses.{world};
 ghost use Rattle.sbx_states.specs.Lines.{end_line, start_line, told_registers};
-ghost use Rattle.sbx_states.specs.Runs.{BeginsStates, IsFaultOf, IsOwnFault, IsPart, IsStates, ToldRun, ToldSome, ToldTurn, is_over};
+ghost use Rattle.sbx_states.specs.Runs.{BeginsStates, IsFaultOf, IsOwnFault, IsPart, IsStates, ToldRun, ToldSome};
+ghost use Rattle.sbx_states.specs.Runs.{ToldTurn, is_over};
 
 use crate::shown::shown_of;
 use crate::teller::Teller;
@@ -16,7 +17,8 @@ use want::Want;
 
 /// Whether the device has stopped a machine, or it is in error mode.
 fn is_over<const N: usize, B: Bus>(machine: &Machine<N, B>) -> bool
-    ensures { result ≡ is_over B.meaning N (world N machine.now.cpu (B.ram machine.now.bus) (B.device machine.now.bus)) }
+    ensures { result ≡
+        is_over B.meaning N (world N machine.now.cpu (B.ram machine.now.bus) (B.device machine.now.bus)) }
 {
     machine.bus().stop().is_some() || machine.error_mode().is_some()
 }
@@ -94,8 +96,10 @@ fn put_start<const N: usize, B: Bus, W: Write>(
     teller: &mut Teller<N, B>,
     out: &mut W,
 ) -> Result<(), PortFault>
-    ensures whole { OnOk result (Appends (W.contents out.old) (W.contents out.new) (start_line N teller.old.registers machine.now.cpu)) }
-    ensures part { OnErr result (WroteSome (W.contents out.old) (W.contents out.new) (start_line N teller.old.registers machine.now.cpu)) }
+    ensures whole { OnOk result
+        (Appends (W.contents out.old) (W.contents out.new) (start_line N teller.old.registers machine.now.cpu)) }
+    ensures part { OnErr result
+        (WroteSome (W.contents out.old) (W.contents out.new) (start_line N teller.old.registers machine.now.cpu)) }
     ensures fault { IfErr result IsOwnFault }
     ensures registers { OnOk result (teller.new.registers ≡ told_registers N teller.old.registers machine.now.cpu) }
     ensures memory { teller.new.memory ≡ teller.old.memory }
@@ -117,8 +121,10 @@ fn put_end<const N: usize, B: Bus, W: Write>(
     teller: &mut Teller<N, B>,
     out: &mut W,
 ) -> Result<(), PortFault>
-    ensures whole { OnOk result (Appends (W.contents out.old) (W.contents out.new) (end_line N number machine.now.cpu)) }
-    ensures part { OnErr result (WroteSome (W.contents out.old) (W.contents out.new) (end_line N number machine.now.cpu)) }
+    ensures whole { OnOk result
+        (Appends (W.contents out.old) (W.contents out.new) (end_line N number machine.now.cpu)) }
+    ensures part { OnErr result
+        (WroteSome (W.contents out.old) (W.contents out.new) (end_line N number machine.now.cpu)) }
     ensures fault { IfErr result IsOwnFault }
 {
     match teller.make_end(number, machine) {
@@ -131,10 +137,11 @@ fn put_end<const N: usize, B: Bus, W: Write>(
     }
 }
 
-/// Runs a machine until the device stops it or it is in error mode, but at most so many turns, and writes a line before the first
-/// turn, one for each, and one behind the last, through to the end: what the machine showed before it, the word, what happened, its
-/// data access, and the registers and the words of RAM that are others than the lines before told. Where the port or the writer
-/// fails, or memory is refused, which the fault tells, the writer has the first bytes of such lines.
+/// Runs a machine until the device stops it or it is in error mode, but at most so many turns, and writes a line before
+/// the first turn, one for each, and one behind the last, through to the end: what the machine showed before it, the
+/// word, what happened, its data access, and the registers and the words of RAM that are others than the lines before
+/// told. Where the port or the writer fails, or memory is refused, which the fault tells, the writer has the first
+/// bytes of such lines.
 pub fn tell_states<const N: usize, B: Bus, W: Write>(
     machine: &mut Machine<N, B>,
     mmu: &MmuRegs,

@@ -5,8 +5,8 @@ ghost use Rattle.sbx_states.specs.Words.{change_at, told_words, word_item};
 use std::alloc::AllocError;
 use v8_mmu::Bus;
 
-/// Where the words lie that a turn may have changed: the page entries that its fetch and its data access marked, and the words that
-/// it stored to.
+/// Where the words lie that a turn may have changed: the page entries that its fetch and its data access marked, and
+/// the words that it stored to.
 #[derive(Clone, Copy)]
 pub struct Places {
     pub fetched: Option<u64>,
@@ -30,7 +30,9 @@ fn push_change<B: Bus>(
     bus: &B,
     place: Option<u64>,
 ) -> Result<(), AllocError>
-    ensures text { OnOk result (string_bytes line.new ≡ string_bytes line.old ++ (change_at letter.now (B.ram known.old) (B.ram bus.now) place).0) }
+    ensures text { OnOk result
+        (string_bytes line.new ≡
+        string_bytes line.old ++ (change_at letter.now (B.ram known.old) (B.ram bus.now) place).0) }
     ensures ram { OnOk result (B.ram known.new ≡ (change_at letter.now (B.ram known.old) (B.ram bus.now) place).1) }
 {
     let Some(place) = place else {
@@ -46,14 +48,16 @@ fn push_change<B: Bus>(
     push_item(line, letter, place, word)
 }
 
-/// Pushes the words at some places that are others than is known, and takes them over: page entries first, then what was stored.
+/// Pushes the words at some places that are others than is known, and takes them over: page entries first, then what
+/// was stored.
 pub fn push_words<B: Bus>(
     line: &mut String,
     known: &mut B,
     bus: &B,
     places: &Places,
 ) -> Result<(), AllocError>
-    ensures text { OnOk result (string_bytes line.new ≡ string_bytes line.old ++ (told_words (B.ram known.old) (B.ram bus.now) places.now).0) }
+    ensures text { OnOk result
+        (string_bytes line.new ≡ string_bytes line.old ++ (told_words (B.ram known.old) (B.ram bus.now) places.now).0) }
     ensures ram { OnOk result (B.ram known.new ≡ (told_words (B.ram known.old) (B.ram bus.now) places.now).1) }
 {
     push_change(line, "e", known, bus, places.fetched)?;

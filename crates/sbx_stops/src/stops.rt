@@ -3,7 +3,8 @@ ghost use Rattle.std.specs.Prelude.{◌≡◌, ◌≢◌, ◌↔◌, IsSome, OnE
 ghost use Rattle.std.specs.Io.KnownBytes.{Appends};
 ghost use Rattle.std.specs.IoError.{error_kind};
 ghost use Rattle.sbx_put.specs.Fronts.{WroteSome};
-ghost use Rattle.sbx_stops.specs.Stops.{HasNoRoom, Told, line_of, status_of, stop_of_image, stop_of_run, stop_of_source, whole_line};
+ghost use Rattle.sbx_stops.specs.Stops.{HasNoRoom, Told, line_of, status_of, stop_of_image, stop_of_run};
+ghost use Rattle.sbx_stops.specs.Stops.{stop_of_source, whole_line};
 
 use arrayvec::ArrayString;
 use sbx_asm::{AsmFault, Cause};
@@ -48,7 +49,8 @@ pub struct Ended {
 /// Room for the longest line of a stop.
 type Line = ArrayString<64>;
 
-/// The evidence that there was no room for a file or a stream. It is made of an error of the kind `OutOfMemory`, and of nothing else.
+/// The evidence that there was no room for a file or a stream. It is made of an error of the kind `OutOfMemory`, and of
+/// nothing else.
 #[derive(Clone, Copy)]
 pub struct Full(());
 
@@ -66,7 +68,8 @@ impl Full {
 }
 
 impl Stop {
-    /// What an error of a file or a stream stops with: want of memory where it is of the kind `OutOfMemory`, else the stop that is given.
+    /// What an error of a file or a stream stops with: want of memory where it is of the kind `OutOfMemory`, else the
+    /// stop that is given.
     pub fn of(error: &io::Error, other: Stop) -> Stop
         ensures no_room { error_kind error.now ≡ ErrorKind.OutOfMemory → HasNoRoom result }
         ensures other { error_kind error.now ≢ ErrorKind.OutOfMemory → result ≡ other }

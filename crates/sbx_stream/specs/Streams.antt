@@ -21,9 +21,11 @@ use Rattle.sbx_run.specs.declared.runner.Finished.{Finished}
 
 -- ---- a run that ended
 
--- What `run_accepted` answers on this input, but that the output was written: the board run of the image from the start that loading
--- makes of a new board, with the budget as its limit, put these bytes out, and it exits as each flat run does.
-pub record IsAnswerWritten (parts : Parts) (n : ℕ) (input : List ℕ) (finished : Finished) (written : List ℕ) : Type 0 where
+-- What `run_accepted` answers on this input, but that the output was written: the board run of the image from the start
+-- that loading makes of a new board, with the budget as its limit, put these bytes out, and it exits as each flat run
+-- does.
+pub record IsAnswerWritten (parts : Parts) (n : ℕ) (input : List ℕ) (finished : Finished)
+    (written : List ℕ) : Type 0 where
   pub start : State n
   pub end : State n
   pub begun : IsBegun n parts input start
@@ -37,12 +39,13 @@ pub record IsAnswerWritten (parts : Parts) (n : ℕ) (input : List ℕ) (finishe
 
 -- It is so on every input that begins with the bytes read, or on these alone where their end was met.
 abbrev pub IsStreamed : Parts → ℕ → Finished → List ℕ → Bool → List ℕ → Type 0
-IsStreamed parts n finished read met written = (j : List ℕ) → AreBytes (beyond met j) → IsAnswerWritten parts n (read ++ beyond met j) finished written
+IsStreamed parts n finished read met written = (j : List ℕ) → AreBytes (beyond met j) →
+    IsAnswerWritten parts n (read ++ beyond met j) finished written
 
 -- ---- a run that a fault ended
 
--- what a fault says: want of memory, that nothing was read or written; a reader's, that the input's end wasn't met; a writer's, that
--- there is more to be written
+-- what a fault says: want of memory, that nothing was read or written; a reader's, that the input's end wasn't met; a
+-- writer's, that there is more to be written
 abbrev pub Says : RunFault → List ℕ → Bool → List ℕ → List ℕ → Type 0
 Says (Memory want) read met written rest = (read ≡ []) × (met ≡ false) × (written ≡ [])
 Says Reader read met written rest = met ≡ false
@@ -52,10 +55,12 @@ Says Writer read met written rest = rest ≢ []
 abbrev pub IsFront : Parts → RunFault → List ℕ → Bool → List ℕ → Type 0
 IsFront parts fault read met written =
     (j : List ℕ) → AreBytes (beyond met j) →
-    (rest : List ℕ) × (status : ℕ) × (path : List Place) × Behaves parts (read ++ beyond met j) (written ++ rest) status path × Says fault read met written rest
+    (rest : List ℕ) × (status : ℕ) × (path : List Place)
+    × Behaves parts (read ++ beyond met j) (written ++ rest) status path × Says fault read met written rest
 
--- The board run of the image from the start that loading makes of a new board, with the budget as its limit: what was written are the
--- first bytes that it puts out, each of its turns is one that containment allows, and at its end what was loaded is as it was.
+-- The board run of the image from the start that loading makes of a new board, with the budget as its limit: what was
+-- written are the first bytes that it puts out, each of its turns is one that containment allows, and at its end what
+-- was loaded is as it was.
 pub record IsContainedRun (parts : Parts) (n : ℕ) (input written : List ℕ) : Type 0 where
   pub start : State n
   pub end : State n
@@ -69,7 +74,8 @@ pub record IsContainedRun (parts : Parts) (n : ℕ) (input written : List ℕ) :
 abbrev pub IsContainedBeyond : Parts → ℕ → RunFault → List ℕ → Bool → List ℕ → Type 0
 IsContainedBeyond parts n (Memory want) read met written = written ≡ []
 IsContainedBeyond parts n Reader read met written = (j : List ℕ) → AreBytes (beyond met j) → IsContainedRun parts n (read ++ beyond met j) written
-IsContainedBeyond parts n Writer read met written = (j : List ℕ) → AreBytes (beyond met j) → IsContainedRun parts n (read ++ beyond met j) written
+IsContainedBeyond parts n Writer read met written = (j : List ℕ) → AreBytes (beyond met j) →
+    IsContainedRun parts n (read ++ beyond met j) written
 
 -- ---- on the way
 

@@ -13,7 +13,8 @@ use std::alloc::Global;
 use std::io::{Read, Write};
 use v8_board::Board;
 
-/// A new board into which an image was loaded, and of whose input nothing is known. The only fault is `RunFault::Memory`.
+/// A new board into which an image was loaded, and of whose input nothing is known. The only fault is
+/// `RunFault::Memory`.
 fn ready<const N: usize>(alloc: Global, image: &Image) -> Result<Board<N, Mailbox>, RunFault>
     requires { (4 ≤ N) × (N ≤ 32) }
     ensures ready { IfOk result (λ board. IsReady N image.now board) }
@@ -59,11 +60,11 @@ fn fault_of(fault: StreamFault) -> RunFault
     }
 }
 
-/// Runs an accepted image to its end on a new board of `N` windows, 4 to 32, over a reader and a writer. Where the program asks for a
-/// byte, one byte is read; a byte that it puts out is written before it puts out the next one or one is read, and at latest some
-/// thousands of turns later. An input that has ended isn't asked again; a read that fails, whatever its error, is `Reader`, and a write
-/// that fails or takes no byte is `Writer`: neither is tried again. Nothing is flushed, and no memory grows with the input or the
-/// output.
+/// Runs an accepted image to its end on a new board of `N` windows, 4 to 32, over a reader and a writer. Where the
+/// program asks for a byte, one byte is read; a byte that it puts out is written before it puts out the next one or one
+/// is read, and at latest some thousands of turns later. An input that has ended isn't asked again; a read that fails,
+/// whatever its error, is `Reader`, and a write that fails or takes no byte is `Writer`: neither is tried again.
+/// Nothing is flushed, and no memory grows with the input or the output.
 ///
 /// On Ok what was written is the output that `run_accepted` has, and the status, the counts and the pages are its own, on every input
 /// that begins with the bytes read, or on these alone where their end was met; `output` is empty. An image of version 3 overflows and
@@ -77,12 +78,18 @@ pub fn run_stream<const N: usize, R: Read, W: Write>(
     writer: &mut W,
 ) -> Result<Finished, RunFault>
     requires { (4 ≤ N) × (N ≤ 32) }
-    ensures whole { IfOk result (λ finished. Streamed (R.remaining reader.old) (R.remaining reader.new) (W.contents writer.old) (W.contents writer.new)
+    ensures whole { IfOk result
+        (λ finished. Streamed (R.remaining reader.old) (R.remaining reader.new) (W.contents writer.old)
+        (W.contents writer.new)
         (IsStreamed accepted.now N finished)) }
     ensures depth { IfOk result (λ finished. KeepsItsDepth accepted.now N (told_of finished)) }
-    ensures part { IfErr result (λ fault. Streamed (R.remaining reader.old) (R.remaining reader.new) (W.contents writer.old) (W.contents writer.new)
+    ensures part { IfErr result
+        (λ fault. Streamed (R.remaining reader.old) (R.remaining reader.new) (W.contents writer.old)
+        (W.contents writer.new)
         (IsFront accepted.now fault)) }
-    ensures contained { IfErr result (λ fault. Streamed (R.remaining reader.old) (R.remaining reader.new) (W.contents writer.old) (W.contents writer.new)
+    ensures contained { IfErr result
+        (λ fault. Streamed (R.remaining reader.old) (R.remaining reader.new) (W.contents writer.old)
+        (W.contents writer.new)
         (IsContainedBeyond accepted.now N fault)) }
     ensures output { IfOk result (λ finished. finished.output.items ≡ []) }
 {

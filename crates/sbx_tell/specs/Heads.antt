@@ -1,5 +1,6 @@
 -- What a turn's line begins with: its number, and the window, the mode, PC, the place and the instruction.
-use Rattle.std.specs.Prelude.{ℕ, zero, suc, ◌-◌, ◌^◌, Bool, true, false, List, [], ◌∷◌, ◌++◌, codes, length, Option, Some, None}
+use Rattle.std.specs.Prelude.{ℕ, zero, suc, ◌-◌, ◌^◌, Bool, true, false, List, [], ◌∷◌, ◌++◌, codes, length, Option}
+use Rattle.std.specs.Prelude.{Some, None}
 use Rattle.std.specs.Fmt.{digits, format_spec, padded_integral}
 use Rattle.v8_core.specs.declared.turn.Event.{Event}
 use Rattle.v8_core.specs.declared.turn.Event.TheVariants.{Ran, Annulled, Trapped, ErrorMode, Stopped}
@@ -44,7 +45,8 @@ instruction_text None event = unfetched_text event
 -- the number, the window, the mode, PC and the place, and a blank behind each
 abbrev pub place_line : List Function → ℕ → Turn → List ℕ
 place_line functions number t =
-    number_text number ++ (codes " " ++ (window_text t.cwp ++ (codes " " ++ (mode_text t.user ++ (codes " " ++ (word_text t.pc
+    number_text number
+    ++ (codes " " ++ (window_text t.cwp ++ (codes " " ++ (mode_text t.user ++ (codes " " ++ (word_text t.pc
     ++ (codes " " ++ (place_text (place_of functions t.pc) ++ codes " "))))))))
 
 -- the instruction in column 34, or further on where what stands before it is longer

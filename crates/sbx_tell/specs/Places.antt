@@ -1,5 +1,6 @@
 -- Places of code by their names.
-use Rattle.std.specs.Prelude.{ℕ, ◌+◌, ◌-◌, ◌/◌, ◌%◌, ◌==◌, ◌&&◌, nat_le, nat_lt, true, if◌then◌else◌, List, [], ◌∷◌, ◌++◌, codes}
+use Rattle.std.specs.Prelude.{ℕ, ◌+◌, ◌-◌, ◌/◌, ◌%◌, ◌==◌, ◌&&◌, nat_le, nat_lt, true, if◌then◌else◌, List, [], ◌∷◌}
+use Rattle.std.specs.Prelude.{◌++◌, codes}
 use Rattle.std.specs.Fmt.{decimal, digits}
 use Rattle.sbx_image.specs.Function.{Function}
 use Rattle.sbx_lines.specs.Words.{byte_text}
@@ -11,7 +12,8 @@ use Rattle.sbx_tell.specs.declared.places.Place.TheVariants as places
 abbrev pub nearer : Place → ℕ → Function → ℕ → Place
 nearer before n f address = if nat_le f.entry address then places.Function n (address - f.entry) else before
 
--- the last of the functions, which are numbered from n, that begins at or before an address; else the place found before
+-- the last of the functions, which are numbered from n, that begins at or before an address; else the place found
+-- before
 abbrev pub last_from : ℕ → Place → List Function → ℕ → Place
 last_from n before [] address = before
 last_from n before (f ∷ functions) address = last_from (n + 1) (nearer before n f address) functions address
@@ -19,7 +21,8 @@ last_from n before (f ∷ functions) address = last_from (n + 1) (nearer before 
 abbrev pub function_from : List Function → ℕ → Place
 function_from functions address = last_from 0 places.Elsewhere functions address
 
--- user code; the trap table, of 16 bytes a vector; the handlers' page, where the one of underflow begins at byte 80 (hexadecimal)
+-- user code; the trap table, of 16 bytes a vector; the handlers' page, where the one of underflow begins at byte 80
+-- (hexadecimal)
 abbrev pub place_of : List Function → ℕ → Place
 place_of functions address =
     if nat_le CODE_START address && nat_lt address CODE_END then function_from functions address

@@ -43,8 +43,11 @@ pages_text pages =
 abbrev pub counts_text : ℕ → ℕ → Run → List ℕ
 counts_text windows limit run =
     codes "end: " ++ (ending_text run.raw.outcome.ending run.trapped_at
-    ++ (codes "\nturns: " ++ (decimal run.raw.outcome.turns ++ (codes " of at most " ++ (decimal limit ++ (codes ", on " ++ (decimal windows
-    ++ (codes " windows\nwindow traps: " ++ (decimal run.raw.outcome.overflows ++ (codes " overflows, " ++ (decimal run.raw.outcome.underflows
+    ++ (codes "\nturns: "
+    ++ (decimal run.raw.outcome.turns
+    ++ (codes " of at most " ++ (decimal limit ++ (codes ", on " ++ (decimal windows
+    ++ (codes " windows\nwindow traps: "
+    ++ (decimal run.raw.outcome.overflows ++ (codes " overflows, " ++ (decimal run.raw.outcome.underflows
     ++ codes " underflows\n")))))))))))
 
 abbrev pub run_text : ℕ → ℕ → Run → List ℕ

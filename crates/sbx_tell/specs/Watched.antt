@@ -55,12 +55,15 @@ Leaves n p input limit Reader bytes = ⊥
 Leaves n p input limit Writer bytes = BeginsWatch n p input limit bytes
 
 -- what was written of the turns of an image's run: a text that tells each of them, or at a fault its first bytes
-abbrev pub Watched : (n : ℕ) → Parts → List ℕ → ℕ → Option (List ℕ) → Option (List ℕ) → Result (Unit {0}) RunFault → Type 0
+abbrev pub Watched : (n : ℕ) → Parts → List ℕ → ℕ → Option (List ℕ) → Option (List ℕ) → Result (Unit {0}) RunFault →
+    Type 0
 Watched n p input limit old new (Ok done) = Wrote old new (IsWatched n p input limit)
 Watched n p input limit old new (Err fault) = Wrote old new (Leaves n p input limit fault)
 
--- The board made a turn from one state to the other, which lacks what the device has put out, and a text that tells it was written.
-pub record WatchedTurn (n : ℕ) (functions : List Function) (number : ℕ) (old new : State n) (before now : Option (List ℕ)) : Type 0 where
+-- The board made a turn from one state to the other, which lacks what the device has put out, and a text that tells it
+-- was written.
+pub record WatchedTurn (n : ℕ) (functions : List Function) (number : ℕ) (old new : State n)
+    (before now : Option (List ℕ)) : Type 0 where
   pub turn : Turn
   pub next : State n
   pub text : List ℕ
@@ -69,8 +72,10 @@ pub record WatchedTurn (n : ℕ) (functions : List Function) (number : ℕ) (old
   pub told : TellsTurn functions number turn text
   pub written : Appends before now text
 
--- The board ran from one state to the other, which lacks what the device has put out, and a text that tells its turns was written.
-pub record WatchedRun (n : ℕ) (functions : List Function) (limit : ℕ) (old new : State n) (before now : Option (List ℕ)) : Type 0 where
+-- The board ran from one state to the other, which lacks what the device has put out, and a text that tells its turns
+-- was written.
+pub record WatchedRun (n : ℕ) (functions : List Function) (limit : ℕ) (old new : State n)
+    (before now : Option (List ℕ)) : Type 0 where
   pub end : State n
   pub text : List ℕ
   pub run : IsRun n limit old end
@@ -80,10 +85,12 @@ pub record WatchedRun (n : ℕ) (functions : List Function) (limit : ℕ) (old n
 
 -- the first bytes of a text that tells the next turn were written
 abbrev pub WatchedSome : (n : ℕ) → List Function → ℕ → State n → Option (List ℕ) → Option (List ℕ) → Type 0
-WatchedSome n functions number old before now = (text : List ℕ) × TellsTurn functions number (turned n old).0 text × WroteSome before now text
+WatchedSome n functions number old before now = (text : List ℕ) × TellsTurn functions number (turned n old).0 text
+    × WroteSome before now text
 
 -- the first bytes of a text that tells some turns of a run were written
-pub record WatchedPart (n : ℕ) (functions : List Function) (limit : ℕ) (old : State n) (before now : Option (List ℕ)) : Type 0 where
+pub record WatchedPart (n : ℕ) (functions : List Function) (limit : ℕ) (old : State n)
+    (before now : Option (List ℕ)) : Type 0 where
   pub reached : State n
   pub turns : Turns n old reached
   pub text : List ℕ
@@ -93,4 +100,5 @@ pub record WatchedPart (n : ℕ) (functions : List Function) (limit : ℕ) (old 
 
 -- the first bytes of a text that tells the whole run were written
 abbrev pub BeginsRun : (n : ℕ) → List Function → ℕ → State n → Option (List ℕ) → Option (List ℕ) → Type 0
-BeginsRun n functions limit old before now = (text : List ℕ) × TellsRun n functions limit old text × WroteSome before now text
+BeginsRun n functions limit old before now = (text : List ℕ) × TellsRun n functions limit old text
+    × WroteSome before now text

@@ -5,8 +5,8 @@ use sbx_raw::PageUse;
 use std::alloc::AllocError;
 use v8_map::{CODE_START, DATA_END, DATA_START, PAGE};
 
-/// What a board shows beside its registers and its memory: PSR, WIM, Y, and which pages of code, data and stack were referenced and
-/// modified.
+/// What a board shows beside its registers and its memory: PSR, WIM, Y, and which pages of code, data and stack were
+/// referenced and modified.
 #[derive(Clone, Copy)]
 pub struct Shown {
     pub psr: u32,

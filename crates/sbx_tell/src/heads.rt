@@ -26,7 +26,8 @@ fn unfetched(event: &Event) -> &'static str
 
 /// Pushes the text of the instruction that a turn fetched.
 fn push_instruction(line: &mut String, turn: &Turn) -> Result<(), AllocError>
-    ensures { OnOk result (string_bytes line.new ≡ string_bytes line.old ++ instruction_text turn.now.word turn.now.event) }
+    ensures { OnOk result
+        (string_bytes line.new ≡ string_bytes line.old ++ instruction_text turn.now.word turn.now.event) }
 {
     let Some(word) = turn.word else {
         return line.push_str(unfetched(&turn.event));

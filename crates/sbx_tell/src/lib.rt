@@ -1,5 +1,5 @@
-//! Runs of images told in words: their output, end, turns, window traps, pages and fault status; and turn by turn, where each is, its
-//! instruction, what happened, and what it changed.
+//! Runs of images told in words: their output, end, turns, window traps, pages and fault status; and turn by turn,
+//! where each is, its instruction, what happened, and what it changed.
 #![tactic(auto)]
 
 mod changes;

@@ -6,8 +6,8 @@ use sbx_image::Function;
 use std::fmt::{self, Display, Formatter, Write};
 use v8_map::{CODE_END, CODE_START, HANDLERS, PAGE, TRAP_TABLE};
 
-/// Where an instruction stands, by its byte offset in a part of the code. It is shown as `f2+1C`, `vector 82+4`, `overflow+0`,
-/// `underflow+0`, or `-` where no code is.
+/// Where an instruction stands, by its byte offset in a part of the code. It is shown as `f2+1C`, `vector 82+4`,
+/// `overflow+0`, `underflow+0`, or `-` where no code is.
 #[derive(Clone, Copy)]
 pub enum Place {
     /// In a function of the image, counted from 0.
@@ -36,7 +36,8 @@ fn nearer(before: Place, number: usize, function: &Function, address: u32) -> Pl
     }
 }
 
-/// The function that an address of code is in: the last one that begins at or before it. They stand in the order of their addresses.
+/// The function that an address of code is in: the last one that begins at or before it. They stand in the order of
+/// their addresses.
 fn function_from(functions: &[Function], address: u32) -> Place
     ensures { result ≡ function_from functions.now address }
 {
@@ -49,8 +50,8 @@ fn function_from(functions: &[Function], address: u32) -> Place
     place
 }
 
-/// The place of an address: user code, the trap table with four words a vector, or the page of window handlers, in which the one of
-/// underflow begins at byte 80 (hexadecimal).
+/// The place of an address: user code, the trap table with four words a vector, or the page of window handlers, in
+/// which the one of underflow begins at byte 80 (hexadecimal).
 pub fn place_of(functions: &[Function], address: u32) -> Place
     ensures { result ≡ place_of functions.now address }
 {

@@ -64,8 +64,8 @@ fn push_status(out: &mut String, status: u32) -> Result<(), AllocError>
     writeln!(out, "fault status: {status}")
 }
 
-/// Tells a run: what it put out, how it ended, its turns and window traps, the pages that it referenced and modified, and its fault
-/// status. It fails where memory is refused.
+/// Tells a run: what it put out, how it ended, its turns and window traps, the pages that it referenced and modified,
+/// and its fault status. It fails where memory is refused.
 pub fn push_run(out: &mut String, windows: u32, limit: u64, run: &Run) -> Result<(), AllocError>
     ensures { OnOk result (string_bytes out.new ≡ string_bytes out.old ++ run_text windows limit run.now) }
 {

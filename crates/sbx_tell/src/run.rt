@@ -11,8 +11,8 @@ use std::alloc::Global;
 use v8_board::Board;
 use v8_word::Reg;
 
-/// A run, and %l1 of the window in which it ended: after a trap that no handler serves, the address of the instruction that trapped
-/// (chapter 7).
+/// A run, and %l1 of the window in which it ended: after a trap that no handler serves, the address of the instruction
+/// that trapped (chapter 7).
 #[derive(Drop)]
 pub struct Run {
     pub raw: Raw,
@@ -74,8 +74,8 @@ fn run_on<const N: usize, P: Progress>(
     run_board(alloc, &mut board, limit, progress)
 }
 
-/// Runs an image that need not be verified on so many windows, 4 to 32, as `sbx_raw::run_raw` does, and tells in between how far it
-/// has come. Each count is a machine of its own. The only fault is `RunFault::Memory`.
+/// Runs an image that need not be verified on so many windows, 4 to 32, as `sbx_raw::run_raw` does, and tells in
+/// between how far it has come. Each count is a machine of its own. The only fault is `RunFault::Memory`.
 pub fn run_windows<P: Progress>(
     alloc: Global,
     windows: u32,

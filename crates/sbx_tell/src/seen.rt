@@ -56,8 +56,8 @@ impl<const N: usize> Seen<N> {
         Some(word)
     }
 
-    /// Puts the registers of the current window that hold other words than were seen there. A turn writes no register of another
-    /// window than the one that it leads to.
+    /// Puts the registers of the current window that hold other words than were seen there. A turn writes no register
+    /// of another window than the one that it leads to.
     fn put_registers(
         &mut self,
         sheet: &mut Sheet,

@@ -49,8 +49,8 @@ impl<const N: usize> Teller<N> {
         }
     }
 
-    /// Makes a turn's text, in the place of the last one's: where it is, its instruction, what happened, and what it changed, which
-    /// the board shows behind it.
+    /// Makes a turn's text, in the place of the last one's: where it is, its instruction, what happened, and what it
+    /// changed, which the board shows behind it.
     pub fn make_turn(
         &mut self,
         functions: &[Function],

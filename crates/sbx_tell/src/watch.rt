@@ -4,7 +4,8 @@ ghost use Rattle.std.specs.Io.KnownBytes.{Appends};
 ghost use Rattle.v8_board.specs.Seen.{ending_of};
 ghost use Rattle.sbx_put.specs.Fronts.{Wrote, WroteSome};
 ghost use Rattle.sbx_raw.specs.Outputs.{Alike};
-ghost use Rattle.sbx_tell.specs.Watched.{BeginsRun, TellsRun, Watched, WatchedPart, WatchedRun, WatchedSome, WatchedTurn, last_text};
+ghost use Rattle.sbx_tell.specs.Watched.{BeginsRun, TellsRun, Watched, WatchedPart, WatchedRun, WatchedSome};
+ghost use Rattle.sbx_tell.specs.Watched.{WatchedTurn, last_text};
 
 use crate::slices::Progress;
 use crate::teller::Teller;
@@ -16,8 +17,8 @@ use std::alloc::Global;
 use std::io::Write;
 use v8_board::Board;
 
-/// The turns of a slice, between which it is told how far the run has come: so many that who reads the first pages of a trace isn't
-/// disturbed.
+/// The turns of a slice, between which it is told how far the run has come: so many that who reads the first pages of a
+/// trace isn't disturbed.
 const SLICE: u64 = 262_144;
 
 /// Tells how far a run has come that goes on, where a slice is done.
@@ -45,8 +46,10 @@ fn watch_turn<const N: usize, W: Write>(
     teller: &mut Teller<N>,
     out: &mut W,
 ) -> Result<(), RunFault>
-    ensures whole { OnOk result (WatchedTurn N functions.now number board.old.state board.new.state (W.contents out.old) (W.contents out.new)) }
-    ensures part { OnErr result (WatchedSome N functions.now number board.old.state (W.contents out.old) (W.contents out.new)) }
+    ensures whole { OnOk result
+        (WatchedTurn N functions.now number board.old.state board.new.state (W.contents out.old) (W.contents out.new)) }
+    ensures part { OnErr result
+        (WatchedSome N functions.now number board.old.state (W.contents out.old) (W.contents out.new)) }
     ensures fault { IfErr result (λ fault. fault ≢ RunFault.Reader) }
 {
     let turn = match board.step() {
@@ -75,8 +78,10 @@ fn watch_turns<const N: usize, W: Write, P: Progress>(
     out: &mut W,
     progress: &mut P,
 ) -> Result<(), RunFault>
-    ensures whole { OnOk result (WatchedRun N functions.now limit board.old.state board.new.state (W.contents out.old) (W.contents out.new)) }
-    ensures part { OnErr result (WatchedPart N functions.now limit board.old.state (W.contents out.old) (W.contents out.new)) }
+    ensures whole { OnOk result
+        (WatchedRun N functions.now limit board.old.state board.new.state (W.contents out.old) (W.contents out.new)) }
+    ensures part { OnErr result
+        (WatchedPart N functions.now limit board.old.state (W.contents out.old) (W.contents out.new)) }
     ensures fault { IfErr result (λ fault. fault ≢ RunFault.Reader) }
 {
     for done in 0..limit {
@@ -96,8 +101,10 @@ fn watch_last<const N: usize, W: Write>(
     limit: u64,
     out: &mut W,
 ) -> Result<(), RunFault>
-    ensures whole { OnOk result (Appends (W.contents out.old) (W.contents out.new) (last_text limit (ending_of N board.now.state.world))) }
-    ensures part { OnErr result (WroteSome (W.contents out.old) (W.contents out.new) (last_text limit (ending_of N board.now.state.world))) }
+    ensures whole { OnOk result
+        (Appends (W.contents out.old) (W.contents out.new) (last_text limit (ending_of N board.now.state.world))) }
+    ensures part { OnErr result
+        (WroteSome (W.contents out.old) (W.contents out.new) (last_text limit (ending_of N board.now.state.world))) }
     ensures fault { IfErr result (λ fault. fault ≢ RunFault.Reader) }
 {
     let None = board.ending() else {
@@ -123,8 +130,10 @@ fn watch_board<const N: usize, W: Write, P: Progress>(
     progress: &mut P,
 ) -> Result<(), RunFault>
     requires { (4 ≤ N) × (N ≤ 32) }
-    ensures whole { OnOk result (Wrote (W.contents out.old) (W.contents out.new) (TellsRun N functions.now limit board.old.state)) }
-    ensures part { OnErr result (BeginsRun N functions.now limit board.old.state (W.contents out.old) (W.contents out.new)) }
+    ensures whole { OnOk result
+        (Wrote (W.contents out.old) (W.contents out.new) (TellsRun N functions.now limit board.old.state)) }
+    ensures part { OnErr result
+        (BeginsRun N functions.now limit board.old.state (W.contents out.old) (W.contents out.new)) }
     ensures fault { IfErr result (λ fault. fault ≢ RunFault.Reader) }
 {
     let mut teller = Teller::new(alloc, board);
@@ -156,12 +165,13 @@ fn watch_on<const N: usize, W: Write, P: Progress>(
     watch_board(alloc, &mut board, functions, limit, out, progress)
 }
 
-/// Runs an image on an input, on so many windows, 4 to 32, to an end, but at most so many turns, and writes a text for each: its
-/// number, the window, the mode, PC and the name of the place before it, and the instruction; then a trap by its name, the registers
-/// that it changed, PSR, WIM and Y, pages that it referenced or modified for the first time, the words that it stored, and the byte
-/// that it put out. Lines have at most 100 columns, and those that go on begin with blanks. Where the limit cuts the run short a last
-/// line says so. Where the writer fails, or memory is refused, it has the first bytes of such a text. It tells in between how far the
-/// run has come. Nothing grows with the turns or with what is put out. Each count is a machine of its own.
+/// Runs an image on an input, on so many windows, 4 to 32, to an end, but at most so many turns, and writes a text for
+/// each: its number, the window, the mode, PC and the name of the place before it, and the instruction; then a trap by
+/// its name, the registers that it changed, PSR, WIM and Y, pages that it referenced or modified for the first time,
+/// the words that it stored, and the byte that it put out. Lines have at most 100 columns, and those that go on begin
+/// with blanks. Where the limit cuts the run short a last line says so. Where the writer fails, or memory is refused,
+/// it has the first bytes of such a text. It tells in between how far the run has come. Nothing grows with the turns or
+/// with what is put out. Each count is a machine of its own.
 pub fn watch_windows<W: Write, P: Progress>(
     alloc: Global,
     windows: u32,

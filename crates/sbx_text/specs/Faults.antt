@@ -1,7 +1,8 @@
 -- The code that each fault is shown by.
 use Rattle.std.specs.Prelude.{ℕ, List, codes}
 use Rattle.sbx_text.specs.declared.fault.TextFault.{TextFault}
-use Rattle.sbx_text.specs.declared.fault.TextFault.TheVariants.{NotAscii, BadCharacter, NumberTooLarge, LineTooLong, Memory}
+use Rattle.sbx_text.specs.declared.fault.TextFault.TheVariants.{NotAscii, BadCharacter, NumberTooLarge, LineTooLong}
+use Rattle.sbx_text.specs.declared.fault.TextFault.TheVariants.{Memory}
 
 abbrev pub code_of : TextFault → List ℕ
 code_of NotAscii = codes "X1"

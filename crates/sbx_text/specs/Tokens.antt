@@ -1,12 +1,16 @@
--- The tokens of a line of source. A line ends or has a comment; before that stand blanks and tokens, each the longest that fits.
-use Rattle.std.specs.Prelude.{◌≡◌, ◌≢◌, ℕ, zero, suc, ◌+◌, ◌^◌, ◌≤◌, Bool, false, ◌&&◌, ◌||◌, ◌==◌, nat_lt, nat_le, if◌then◌else◌, List, [], ◌∷◌, ◌++◌, length, drop, take, slice_index, Result, Ok, Err, MatchResult}
+-- The tokens of a line of source. A line ends or has a comment; before that stand blanks and tokens, each the longest
+-- that fits.
+use Rattle.std.specs.Prelude.{◌≡◌, ◌≢◌, ℕ, zero, suc, ◌+◌, ◌^◌, ◌≤◌, Bool, false, ◌&&◌, ◌||◌, ◌==◌, nat_lt, nat_le}
+use Rattle.std.specs.Prelude.{if◌then◌else◌, List, [], ◌∷◌, ◌++◌, length, drop, take, slice_index, Result, Ok, Err}
+use Rattle.std.specs.Prelude.{MatchResult}
 use Rattle.std.specs.List.{prefix_len}
 use Rattle.std.specs.Char.{is_digit}
 use Rattle.std.specs.Str.Parse.{digits_value}
 use Rattle.sbx_text.specs.declared.Token.{Token}
 use Rattle.sbx_text.specs.declared.Kind.TheVariants.{Name, Percent, Number, Sign}
 use Rattle.sbx_text.specs.declared.fault.TextFault.{TextFault}
-use Rattle.sbx_text.specs.declared.fault.TextFault.TheVariants.{NotAscii, BadCharacter, NumberTooLarge, LineTooLong, Memory}
+use Rattle.sbx_text.specs.declared.fault.TextFault.TheVariants.{NotAscii, BadCharacter, NumberTooLarge, LineTooLong}
+use Rattle.sbx_text.specs.declared.fault.TextFault.TheVariants.{Memory}
 use Rattle.want.specs.Wants.{refused}
 use Rattle.sbx_text.specs.declared.scanning.Step.{Step}
 use Rattle.sbx_text.specs.declared.scanning.Step.TheVariants.{Stop, Skip, Emit, Refuse}
@@ -35,7 +39,8 @@ is_sign b = b == 44 || b == 58 || b == 91 || b == 93 || b == 43 || b == 45
 -- `0x` and a hexadecimal digit
 abbrev pub starts_hexadecimal : List ℕ → Bool
 starts_hexadecimal bytes =
-    if nat_lt 2 (length bytes) then slice_index bytes 0 == 48 && slice_index bytes 1 == 120 && is_digit (slice_index bytes 2) 16 else false
+    if nat_lt 2 (length bytes) then slice_index bytes 0 == 48 && slice_index bytes 1 == 120
+    && is_digit (slice_index bytes 2) 16 else false
 
 -- a number below 2 ^ 40, of n digits after a prefix
 abbrev pub number_of : ℕ → ℕ → ℕ → Step
@@ -44,14 +49,16 @@ number_of value before n = if nat_lt value (2 ^ 40) then Emit (Number value) (be
 -- as many digits of the radix as stand in a row
 abbrev pub number_at : ℕ → ℕ → List ℕ → Step
 number_at radix before digits =
-    number_of (digits_value radix (take (prefix_len (λ b. is_digit b radix) digits) digits)) before (prefix_len (λ b. is_digit b radix) digits)
+    number_of (digits_value radix (take (prefix_len (λ b. is_digit b radix) digits) digits)) before
+    (prefix_len (λ b. is_digit b radix) digits)
 
 abbrev pub number : List ℕ → Step
 number bytes = if starts_hexadecimal bytes then number_at 16 2 (drop 2 bytes) else number_at 10 0 bytes
 
 -- `%` and a name
 abbrev pub percent : List ℕ → Step
-percent name = if starts_name (slice_index name 0) then Emit Percent (1 + prefix_len continues_name name) else Refuse BadCharacter
+percent name =
+    if starts_name (slice_index name 0) then Emit Percent (1 + prefix_len continues_name name) else Refuse BadCharacter
 
 abbrev pub other : ℕ → Step
 other b =
@@ -85,10 +92,12 @@ before t (Err f) = Err f
 abbrev pub after : (ℕ → List ℕ → Result (List Token) TextFault) → ℕ → List ℕ → Step → Result (List Token) TextFault
 after next at bytes Stop = Ok []
 after next at bytes Skip = next (at + 1) (drop 1 bytes)
-after next at bytes (Emit kind n) = before (record { kind = kind; start = at; stop = at + n }) (next (at + n) (drop n bytes))
+after next at bytes (Emit kind n) =
+    before (record { kind = kind; start = at; stop = at + n }) (next (at + n) (drop n bytes))
 after next at bytes (Refuse f) = Err f
 
--- the tokens of some bytes of a line, the first of which is the byte at a place, or the leftmost fault; in so many steps
+-- the tokens of some bytes of a line, the first of which is the byte at a place, or the leftmost fault; in so many
+-- steps
 unfoldable pub tokens_at : ℕ → ℕ → List ℕ → Result (List Token) TextFault
 tokens_at zero at bytes = Ok []
 tokens_at (suc k) at bytes = after (tokens_at k) at bytes (front bytes)

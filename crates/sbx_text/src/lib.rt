@@ -37,8 +37,8 @@ const LONGEST: usize = 1024;
 /// The tokens of one line, which has no LF, in their order.
 ///
 /// # Errors
-/// `LineTooLong` above 1,024 bytes; else the fault of the leftmost place: a byte past ASCII, another character that begins no
-/// token, both outside comments, or a number of 2^40 or more. `Memory` may come in the place of any answer.
+/// `LineTooLong` above 1,024 bytes; else the fault of the leftmost place: a byte past ASCII, another character that
+/// begins no token, both outside comments, or a number of 2^40 or more. `Memory` may come in the place of any answer.
 pub fn tokens(alloc: Global, line: &[u8]) -> Result<Vec<Token>, TextFault>
     ensures exact { Gives (λ found. found.items) result (tokens_of line.now) }
     ensures slices { IfOk result (λ found. AreSlices 0 line.now found.items) }
@@ -55,7 +55,8 @@ pub fn tokens(alloc: Global, line: &[u8]) -> Result<Vec<Token>, TextFault>
 /// # Errors
 /// As of `tokens`. Some tokens of the line may have been added then.
 pub fn push_tokens(line: &[u8], found: &mut Vec<Token>) -> Result<(), TextFault>
-    ensures exact { MatchResult result (λ _. in_front found.old.items (tokens_of line.now) ≡ Ok found.new.items) (λ fault. fault ≢ Memory refused → tokens_of line.now ≡ Err fault) }
+    ensures exact { MatchResult result (λ _. in_front found.old.items (tokens_of line.now) ≡ Ok found.new.items)
+        (λ fault. fault ≢ Memory refused → tokens_of line.now ≡ Err fault) }
     ensures others { (more : List Token) × (found.new.items ≡ found.old.items ++ more) }
 {
     if line.len() > LONGEST {
@@ -65,7 +66,8 @@ pub fn push_tokens(line: &[u8], found: &mut Vec<Token>) -> Result<(), TextFault>
 }
 
 fn scan(line: &[u8], found: &mut Vec<Token>) -> Result<(), TextFault>
-    ensures exact { MatchResult result (λ _. in_front found.old.items (tokens_at (length line.now) 0 line.now) ≡ Ok found.new.items) (λ fault. fault ≢ Memory refused → tokens_at (length line.now) 0 line.now ≡ Err fault) }
+    ensures exact { MatchResult result (λ _. in_front found.old.items (tokens_at (length line.now) 0 line.now) ≡
+        Ok found.new.items) (λ fault. fault ≢ Memory refused → tokens_at (length line.now) 0 line.now ≡ Err fault) }
     ensures others { (more : List Token) × (found.new.items ≡ found.old.items ++ more) }
 {
     let mut start = 0;

@@ -3,7 +3,8 @@ ghost use Rattle.std.specs.Prelude.{◌≡◌, ℕ, ◌+◌, ◌*◌, ◌-◌, �
 ghost use Rattle.std.specs.List.{prefix_len};
 ghost use Rattle.std.specs.Char.{is_digit, digit_value};
 ghost use Rattle.std.specs.Str.Parse.{digits_value};
-ghost use Rattle.sbx_text.specs.Tokens.{is_blank, is_letter, starts_name, continues_name, is_sign, starts_hexadecimal, number_at, number, percent, other, front, IsWithin};
+ghost use Rattle.sbx_text.specs.Tokens.{is_blank, is_letter, starts_name, continues_name, is_sign, starts_hexadecimal};
+ghost use Rattle.sbx_text.specs.Tokens.{number_at, number, percent, other, front, IsWithin};
 
 use crate::Kind;
 use crate::fault::TextFault;
@@ -85,7 +86,8 @@ fn digits_len(bytes: &[u8], radix: u8) -> usize
 /// The value of some digits, if it is below 2^40.
 fn value_of(digits: &[u8], radix: u8) -> Option<u64>
     requires least { 1 ≤ radix }
-    ensures { MatchOption result (2 ^ 40 ≤ digits_value radix digits.now) (λ n. (n < 2 ^ 40) × (n ≡ digits_value radix digits.now)) }
+    ensures { MatchOption result (2 ^ 40 ≤ digits_value radix digits.now) (λ n. (n < 2 ^ 40)
+        × (n ≡ digits_value radix digits.now)) }
 {
     let mut value: u64 = 0;
     for byte in digits {

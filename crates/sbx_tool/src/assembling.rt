@@ -3,7 +3,8 @@ use crate::files::{done_on, is_same_file, stored};
 use sbx_command::Stop;
 use sbx_words::Job;
 
-/// Assembles the source at a path. The object is opened only where the source means an image; the source itself is no object.
+/// Assembles the source at a path. The object is opened only where the source means an image; the source itself is no
+/// object.
 pub fn assemble_to(
     rt: &HostRuntime,
     job: &Job<'_>,

@@ -26,8 +26,8 @@ fn status_on<I: Read, O: Write>(
     exit_status(rt.alloc(), job, file, input, out, &mut rt.stderr())
 }
 
-/// Does a job on the file at a path, from a reader to a writer. Both are `dyn`, so that the machines of the counts of windows are compiled
-/// once and not for each reader and writer.
+/// Does a job on the file at a path, from a reader to a writer. Both are `dyn`, so that the machines of the counts of
+/// windows are compiled once and not for each reader and writer.
 pub fn done_on(
     rt: &HostRuntime,
     job: &Job<'_>,
@@ -59,8 +59,8 @@ fn is_plain(rt: &HostRuntime, path: &str) -> bool {
     }
 }
 
-/// A new file beside a path, with the permissions of the plain file that is there; none where that can't be made, or where the
-/// path has something else.
+/// A new file beside a path, with the permissions of the plain file that is there; none where that can't be made, or
+/// where the path has something else.
 fn made_beside(rt: &HostRuntime, path: &str, beside: &str) -> Option<File> {
     if !is_plain(rt, path) {
         return None;
@@ -89,8 +89,9 @@ fn replaced(
     done
 }
 
-/// Makes the file at a path, or replaces it, with all bytes. A plain file is whole or as it was: it is written beside, to the path with
-/// `.part` behind it, and renamed. What else is at the path, as a device, a pipe or a link, is opened and written.
+/// Makes the file at a path, or replaces it, with all bytes. A plain file is whole or as it was: it is written beside,
+/// to the path with `.part` behind it, and renamed. What else is at the path, as a device, a pipe or a link, is opened
+/// and written.
 pub fn stored(rt: &HostRuntime, path: &str, bytes: &[u8]) -> Result<(), Stop> {
     let beside = match format!(in rt.alloc(); "{path}.part") {
         Ok(beside) => beside,

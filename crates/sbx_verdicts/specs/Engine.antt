@@ -7,7 +7,8 @@ use Rattle.sbx_verdicts.specs.declared.runs.Counts.{Counts}
 use Rattle.sbx_verdicts.specs.declared.runs.Run.{Run}
 
 abbrev pub counts_told : Finished → Counts
-counts_told finished = record { turns = finished.turns; overflows = finished.overflows; underflows = finished.underflows }
+counts_told finished =
+    record { turns = finished.turns; overflows = finished.overflows; underflows = finished.underflows }
 
 -- exit word, output and counts are the line's
 pub record IsRun (finished : Finished) (run : Run) : Type 0 where
@@ -17,4 +18,5 @@ pub record IsRun (finished : Finished) (run : Run) : Type 0 where
 
 -- the run of the image on the line's input, counted for the line's windows, is the line's
 abbrev pub EngineRunsSo : Parts → Run → Type 0
-EngineRunsSo parts run = (finished : Finished) × IsAnswer parts run.windows run.input.items finished × IsRun finished run
+EngineRunsSo parts run = (finished : Finished) × IsAnswer parts run.windows run.input.items finished
+    × IsRun finished run

@@ -14,7 +14,8 @@ use Rattle.sbx_verdicts.specs.declared.runs.Run.{Run}
 -- ---- on a board
 
 abbrev pub counts_told : Finished → Counts
-counts_told finished = record { turns = finished.turns; overflows = finished.overflows; underflows = finished.underflows }
+counts_told finished =
+    record { turns = finished.turns; overflows = finished.overflows; underflows = finished.underflows }
 
 -- exit word, output and counts are the line's
 pub record IsRun (finished : Finished) (run : Run) : Type 0 where

@@ -9,8 +9,8 @@ use Rattle.sbx_run.specs.Refusals.{IsRefusal}
 use Rattle.sbx_verdicts.specs.declared.verdicts.Verdict.{Verdict}
 use Rattle.sbx_verdicts.specs.declared.verdicts.Verdict.TheVariants.{Accepted, Refused}
 
--- The bytes spell an image. Where it is accepted it breaks no rule; else the rule is told that comes first of those it breaks, unless
--- memory was refused.
+-- The bytes spell an image. Where it is accepted it breaks no rule; else the rule is told that comes first of those it
+-- breaks, unless memory was refused.
 abbrev pub IsVerdict : List ℕ → Verdict → Type 0
 IsVerdict bytes (Accepted parts) = (reading bytes ≡ Ok parts) × Checked parts
 IsVerdict bytes (Refused refusal) = (parts : Parts) × (reading bytes ≡ Ok parts) × IsRefusal parts refusal
@@ -19,4 +19,5 @@ IsVerdict bytes (Refused refusal) = (parts : Parts) × (reading bytes ≡ Ok par
 abbrev pub spelling : Verdict → List ℕ
 spelling (Accepted parts) = codes "accepted"
 spelling (Refused refusal) =
-    shown_cause refusal.cause ++ (codes " " ++ (decimal refusal.function ++ (codes " " ++ eight_digits refusal.address)))
+    shown_cause refusal.cause
+    ++ (codes " " ++ (decimal refusal.function ++ (codes " " ++ eight_digits refusal.address)))

@@ -50,14 +50,16 @@ fn accepted_of(verdict: Verdict) -> Option<Accepted> {
     }
 }
 
-/// Whether the verdict on the image whose bytes a field has is the one that a text spells, and the image, where it is accepted.
+/// Whether the verdict on the image whose bytes a field has is the one that a text spells, and the image, where it is
+/// accepted.
 fn judged(alloc: Global, field: &str, wanted: &str) -> Result<(bool, Option<Accepted>), LineFault> {
     let verdict = verdict_in(alloc, field)?;
     let agrees = is_spelled(alloc, &verdict, wanted)?;
     Ok((agrees, accepted_of(verdict)))
 }
 
-/// Whether the runs of an image on a board, on the fast flat machine, at once and in pieces, and on the plain one are a line's.
+/// Whether the runs of an image on a board, on the fast flat machine, at once and in pieces, and on the plain one are a
+/// line's.
 fn runs_so(alloc: Global, accepted: &Accepted, run: &Run) -> Result<bool, LineFault> {
     Ok(
         runs_on_board(alloc, accepted, run)?

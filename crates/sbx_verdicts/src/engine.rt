@@ -26,7 +26,8 @@ fn is_run(finished: &Finished, run: &Run) -> bool
         && counts_of(finished) == run.counts
 }
 
-/// Whether the image's run on the fast flat machine, on the line's input and with its counts on as many windows, gives what the line has.
+/// Whether the image's run on the fast flat machine, on the line's input and with its counts on as many windows, gives
+/// what the line has.
 pub fn runs_on_engine(alloc: Global, accepted: &Accepted, run: &Run) -> Result<bool, AllocError>
     ensures { IfOk result (λ same. IsTrue same → EngineRunsSo accepted.now run.now) }
 {

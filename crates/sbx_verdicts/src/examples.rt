@@ -1,6 +1,6 @@
-//! The programs of `examples`: what the sandbox's commands do with them, in memory. Each command is printed, with what it tells and its
-//! status: a source is assembled, its image verified and run. Of an image that is kept beside its source it is told where it is another
-//! than the assembled one.
+//! The programs of `examples`: what the sandbox's commands do with them, in memory. Each command is printed, with what
+//! it tells and its status: a source is assembled, its image verified and run. Of an image that is kept beside its
+//! source it is told where it is another than the assembled one.
 use sbx_command::{Job, Windows, exit_status};
 use std::io::{Read, Write};
 use std::{fs, io};
@@ -53,7 +53,8 @@ struct Done {
     err: Vec<u8>,
 }
 
-/// Does a job, and gives its status. The types of the streams stay open here: at known ones the contract of `exit_status` takes long.
+/// Does a job, and gives its status. The types of the streams stay open here: at known ones the contract of
+/// `exit_status` takes long.
 fn status_of<F: Read, I: Read, O: Write, E: Write>(
     rt: &HostRuntime,
     job: &Job<'_>,

@@ -16,8 +16,8 @@ fn most_steps(turns: u64) -> u32 {
     }
 }
 
-/// The path of the run on a line's input from a start whose open words, and those of its frames, are `fill`, where it exits as the line
-/// has it.
+/// The path of the run on a line's input from a start whose open words, and those of its frames, are `fill`, where it
+/// exits as the line has it.
 fn path_of(
     alloc: Global,
     image: &Image,
@@ -74,8 +74,8 @@ fn counts_of(image: &Image, windows: u32, path: &[Place]) -> Counts
     }
 }
 
-/// Whether the image's runs on the flat machine, with words of zeros and with words of ones wherever a start or a new frame leaves them
-/// open, go one way, exit as the line has it, and come to its counts on as many windows.
+/// Whether the image's runs on the flat machine, with words of zeros and with words of ones wherever a start or a new
+/// frame leaves them open, go one way, exit as the line has it, and come to its counts on as many windows.
 pub fn runs_flat(alloc: Global, image: &Image, run: &Run) -> Result<bool, AllocError>
     ensures { IfOk result (λ same. IsTrue same → FlatRunsSo image.now run.now) }
 {

@@ -1,17 +1,17 @@
-//! Compares what is told of images and sources with what isn't from here: with the verdicts of a model, and with what stands beside the
-//! programs of `examples`.
+//! Compares what is told of images and sources with what isn't from here: with the verdicts of a model, and with what
+//! stands beside the programs of `examples`.
 //!
-//! First it compares the verifier's verdicts, and runs of accepted images, with those of a model of the rules that was written apart from the
-//! verifier and shares nothing with it: prints each line that differs, and how many agree.
+//! First it compares the verifier's verdicts, and runs of accepted images, with those of a model of the rules that was
+//! written apart from the verifier and shares nothing with it: prints each line that differs, and how many agree.
 //!
-//! The lines stand on standard input, and their words a space apart. `image BYTES accepted` and `image BYTES RULE FUNCTION ADDRESS` are
-//! verdicts: a rule by its number, as V14, a function in decimal, and an address of eight hexadecimal digits.
-//! `run WINDOWS INPUT STATUS OUTPUT TURNS OVERFLOWS UNDERFLOWS` is about the image of the last such line: a count of windows, the input's
-//! bytes, the exit word in hexadecimal, the output's bytes, and three decimal counts. Bytes are hexadecimal, and `-` where there are
-//! none. A line that begins with `#` is a comment.
+//! The lines stand on standard input, and their words a space apart. `image BYTES accepted` and `image BYTES RULE
+//! FUNCTION ADDRESS` are verdicts: a rule by its number, as V14, a function in decimal, and an address of eight
+//! hexadecimal digits. `run WINDOWS INPUT STATUS OUTPUT TURNS OVERFLOWS UNDERFLOWS` is about the image of the last such
+//! line: a count of windows, the input's bytes, the exit word in hexadecimal, the output's bytes, and three decimal
+//! counts. Bytes are hexadecimal, and `-` where there are none. A line that begins with `#` is a comment.
 //!
-//! A run is compared on a board of as many windows, on the fast flat machine, which counts for as many, at once and byte by byte, and
-//! twice on the plain one.
+//! A run is compared on a board of as many windows, on the fast flat machine, which counts for as many, at once and
+//! byte by byte, and twice on the plain one.
 //!
 //! Then it does with each program of `examples` what the sandbox's commands do, and prints what they tell.
 #![tactic(auto)]

@@ -26,7 +26,8 @@ fn piece_of(input: &[u8], read: usize) -> (&[u8], bool) {
     }
 }
 
-/// Whether the image's run on the line's input, given byte by byte, and taken byte by byte, some turns at a time, is the line's.
+/// Whether the image's run on the line's input, given byte by byte, and taken byte by byte, some turns at a time, is
+/// the line's.
 pub fn runs_in_pieces(alloc: Global, accepted: &Accepted, run: &Run) -> Result<bool, AllocError> {
     if run.windows < 2 {
         return Ok(false);

@@ -33,8 +33,9 @@ impl Model for Accepted {
 }
 
 impl Accepted {
-    /// The image. It is safe: on the flat machine each run of it ends within its budget, with one output and status. Of version 3 no run
-    /// overflows or underflows a window where there are two more than its first function's declared depth.
+    /// The image. It is safe: on the flat machine each run of it ends within its budget, with one output and status. Of
+    /// version 3 no run overflows or underflows a window where there are two more than its first function's declared
+    /// depth.
     pub fn image(&self) -> &Image
         ensures image { result.now ≡ self.now }
         ensures checked { Checked self.now }
@@ -74,9 +75,9 @@ fn no_memory(error: AllocError) -> Refusal
     }
 }
 
-/// Accepts exactly the images that break no rule, and these are safe: on the flat machine each run ends within the budget, with one
-/// output and status. Else it gives the image back, with the broken rule of least number at the least address, or with
-/// `Cause::NoMemory` where memory was refused.
+/// Accepts exactly the images that break no rule, and these are safe: on the flat machine each run ends within the
+/// budget, with one output and status. Else it gives the image back, with the broken rule of least number at the least
+/// address, or with `Cause::NoMemory` where memory was refused.
 pub fn verify(alloc: Global, image: Image) -> Result<Accepted, (Image, Refusal)>
     ensures accepted { IfOk result (λ accepted. (accepted ≡ image) × Checked image) }
     ensures safe { IfOk result (λ _. FlatSafe image) }

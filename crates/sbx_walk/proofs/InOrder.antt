@@ -90,7 +90,8 @@ module _ (parts : Parts) (keeps : parts_keep parts ≡ Ok tt) where
         by_order (inr le) (inl more) = absurd (let h = later_function f g found.block c found.word j more place there in omega arith)
         by_order (inr le) (inr ge) =
             let e : g ≡ f = omega arith in
-            let r = in_block c j other (subst (λ k. IsPlace parts k c j) e there) (subst (λ k. address_of parts k c j ≤ address_of parts f found.block found.word) e low) (subst (λ k. Holds parts k c j other) e breaks) in
+            let r = in_block c j other (subst (λ k. IsPlace parts k c j) e there)
+            (subst (λ k. address_of parts k c j ≤ address_of parts f found.block found.word) e low) (subst (λ k. Holds parts k c j other) e breaks) in
             (e, r.0, r.1)
 
     here : (g c j : ℕ) (other : Cause) → g ≡ f → c ≡ found.block → Holds parts g c j other → Holds parts f found.block j other

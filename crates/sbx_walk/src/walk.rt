@@ -40,8 +40,8 @@ fn first_in_functions(image: &Image, here: &mut State, other: &mut State) -> Opt
     None
 }
 
-/// The refusal of an image: of the rules that it breaks, the one of least number at the least address. None where it breaks
-/// none. It fails where memory is refused.
+/// The refusal of an image: of the rules that it breaks, the one of least number at the least address. None where it
+/// breaks none. It fails where memory is refused.
 pub fn first_fault(alloc: Global, image: &Image) -> Result<Option<Refusal>, AllocError>
     ensures { IfOk result (λ told. MatchOption told (Checked image.now) (λ refusal. IsFirst image.now refusal)) }
 {

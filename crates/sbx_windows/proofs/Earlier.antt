@@ -10,13 +10,15 @@ use Rattle.v8_core.specs.Operands.{address}
 use Rattle.v8_core.specs.Transfers.{bytes_in, received, sent, size_of}
 use Rattle.v8_core.specs.Loading.TheVariants as loadings
 use Rattle.v8_core.specs.Operation.{Operation}
-use Rattle.v8_core.specs.Operation.TheVariants.{BranchOnCondition, Call, Compute, Coprocessor, Divide, FloatingPoint, Illegal, JumpAndLink, Nothing, ReadState, ReadY, Restore, ReturnFromTrap, Save, SetHigh, TaggedTrap, TrapOnCondition, WriteState, WriteY}
+use Rattle.v8_core.specs.Operation.TheVariants.{BranchOnCondition, Call, Compute, Coprocessor, Divide, FloatingPoint, Illegal, JumpAndLink, Nothing, ReadState}
+use Rattle.v8_core.specs.Operation.TheVariants.{ReadY, Restore, ReturnFromTrap, Save, SetHigh, TaggedTrap, TrapOnCondition, WriteState, WriteY}
 use Rattle.v8_core.specs.Operation.TheVariants as operation
 use Rattle.v8_core.specs.Transfer.{Transfer}
 use Rattle.v8_core.specs.Transfer.TheVariants.{Load, Store, Exchange}
 use Rattle.sbx_flat.specs.Parts.{Parts}
 use Rattle.sbx_flat.specs.Services.{Services}
-use Rattle.sbx_flat.specs.Effects.{aligned, declares, does, found, gets, is_stack_pointer, leaves_in_data, leaves_in_slot, operand_value, restores, served, serves, service_of, slot_of, takes, transfers_data, transfers_in, with_regs, writes, writes_some}
+use Rattle.sbx_flat.specs.Effects.{aligned, declares, does, found, gets, is_stack_pointer, leaves_in_data, leaves_in_slot, operand_value, restores, served}
+use Rattle.sbx_flat.specs.Effects.{serves, service_of, slot_of, takes, transfers_data, transfers_in, with_regs, writes, writes_some}
 use Rattle.sbx_flat.specs.Registers.{Fresh, Registers, popped, written}
 use Rattle.sbx_flat.specs.Runs.{place_of, reached_at, reached_by}
 use Rattle.sbx_flat.specs.States.{Fails, Goes, Over, State, Turn, advanced, reg}
@@ -85,7 +87,9 @@ module _ (b : List ℕ) where
   moved_same parts t rd a (Some word) s = ap (takes (received t rd word)) (in_slot_same t a (sent (reg s) t rd) s) ∙ takes_same (received t rd word) (leaves_in_slot t a (sent (reg s) t rd) s)
   moved_same parts t rd a None s = data_same t rd a (found parts t a s.memory) s
 
-  transfers_same : (parts : Parts) (t : Transfer) (rd a : ℕ) (s : State) → aligned (bytes_in (size_of t)) a (transfers_in parts t rd a (slot_of t (with_earlier b s) a) (with_earlier b s)) ≡ along (aligned (bytes_in (size_of t)) a (transfers_in parts t rd a (slot_of t s a) s))
+  transfers_same : (parts : Parts) (t : Transfer) (rd a : ℕ) (s : State) →
+      aligned (bytes_in (size_of t)) a (transfers_in parts t rd a (slot_of t (with_earlier b s) a) (with_earlier b s)) ≡
+      along (aligned (bytes_in (size_of t)) a (transfers_in parts t rd a (slot_of t s a) s))
   transfers_same parts t rd a s =
       by_test (a % bytes_in (size_of t) == 0) _ _ (transfers_in parts t rd a (slot_of t s a) s) (Fails Misaligned)
       (ap (λ o. transfers_in parts t rd a o (with_earlier b s)) (slot_same t s a) ∙ moved_same parts t rd a (slot_of t s a) s) refl

@@ -49,22 +49,41 @@ pub located : (words : List ℕ) (pc word : ℕ) → word_at words pc ≡ Some w
 unfolding word_at
 located words pc word e = located_by words pc word (nat_le code_start pc && (pc % 4 == 0)) refl e
 
-module _ (n : ℕ) (parts : Parts) (input earlier : List ℕ) (start : BoardState n) (image : IsImage parts) (safe : FlatSafe parts) (bytes : AreBytes input) (root : root_of start.mmu ≡ CONTEXT_TABLE) where
+module _ (n : ℕ) (parts : Parts) (input earlier : List ℕ) (start : BoardState n) (image : IsImage parts) (safe : FlatSafe parts) (bytes : AreBytes input)
+    (root : root_of start.mmu ≡ CONTEXT_TABLE) where
   abbrev Next : World n Device → State → ℕ → Type 0
   Next x s r = Taken n parts input earlier start safe bytes image.budget_fits x s r
 
   -- an operation that meets no window trap
-  calm : (x : World n Device) (s : State) (r i : ℕ) (op : Operation) → Stands n parts start.mmu x (with_earlier earlier s) r i → AsksFor parts.words i op → (IsWrong parts (with_earlier earlier s) → ⊥) → HasWindow n r op → Next x s r
+  calm : (x : World n Device) (s : State) (r i : ℕ) (op : Operation) → Stands n parts start.mmu x (with_earlier earlier s) r i → AsksFor parts.words i op →
+      (IsWrong parts (with_earlier earlier s) → ⊥) → HasWindow n r op → Next x s r
   calm x s r i op h is good has =
-      record { count = turns_of op; overflows = 0; underflows = 0; windows = windows_after op r; few = (omega arith, omega arith); advances = user_turns_keep n parts start.mmu x (with_earlier earlier s) r i op h is good has }
+      record {
+        count = turns_of op;
+        overflows = 0;
+        underflows = 0;
+        windows = windows_after op r;
+        few = (omega arith, omega arith);
+        advances =
+            user_turns_keep n parts start.mmu x (with_earlier earlier s) r i op h is good has;
+      }
 
-  by_operation : (x : World n Device) (s : State) (r i : ℕ) (op : Operation) → Stands n parts start.mmu x (with_earlier earlier s) r i → AsksFor parts.words i op → (IsWrong parts (with_earlier earlier s) → ⊥) → Next x s r
+  by_operation : (x : World n Device) (s : State) (r i : ℕ) (op : Operation) → Stands n parts start.mmu x (with_earlier earlier s) r i →
+      AsksFor parts.words i op → (IsWrong parts (with_earlier earlier s) → ⊥) → Next x s r
   by_operation x s r i (Save f) h is good =
       let most = h.shows.calls.most in
       let split : (r + 1 < n) ⊎ (r + 1 ≡ n) = search arith in
       elim split [
         | inl free ↦ calm x s r i (Save f) h is good free
-        | inr full ↦ record { count = 25; overflows = 1; underflows = 0; windows = r; few = (omega arith, omega arith); advances = (saves_overflow n parts start.mmu x (with_earlier earlier s) r i f h is good full).2 }
+        | inr full ↦ record {
+          count = 25;
+          overflows = 1;
+          underflows = 0;
+          windows = r;
+          few = (omega arith, omega arith);
+          advances =
+              (saves_overflow n parts start.mmu x (with_earlier earlier s) r i f h is good full).2;
+        }
       ]
   by_operation x s r i (Restore f) h is good =
       let some = h.shows.calls.some in
@@ -73,7 +92,16 @@ module _ (n : ℕ) (parts : Parts) (input earlier : List ℕ) (start : BoardStat
         | inl more ↦ calm x s r i (Restore f) h is good more
         | inr last ↦
             let one = subst (λ q. Stands n parts start.mmu x (with_earlier earlier s) q i) (sym last) h in
-            subst (Next x s) last (record { count = 25; overflows = 0; underflows = 1; windows = 1; few = (omega arith, omega arith); advances = (restores_underflow n parts start.mmu x (with_earlier earlier s) i f one is good).2 })
+            subst (Next x s) last
+            (record {
+              count = 25;
+              overflows = 0;
+              underflows = 1;
+              windows = 1;
+              few = (omega arith, omega arith);
+              advances =
+                  (restores_underflow n parts start.mmu x (with_earlier earlier s) i f one is good).2;
+            })
       ]
   by_operation x s r i op h is good = calm x s r i op h is good tt
 
@@ -86,14 +114,29 @@ module _ (n : ℕ) (parts : Parts) (input earlier : List ℕ) (start : BoardStat
 
       by_word : s.annulled ≡ false → (o : Option ℕ) → word_at parts.words s.pc ≡ o → Next x s r
       by_word straight None e =
-          absurd (good (still, still_is_fresh, OutsideCode, ap (λ o. goes_on parts still (with_earlier earlier s) o s.annulled) h.going ∙ ap (goes_on parts still (with_earlier earlier s) None) straight ∙ ap (λ o. fetches parts still o (with_earlier earlier s)) e))
+          absurd (good (
+            still,
+            still_is_fresh,
+            OutsideCode,
+            ap (λ o. goes_on parts still (with_earlier earlier s) o s.annulled) h.going
+                ∙ ap (goes_on parts still (with_earlier earlier s) None) straight ∙ ap (λ o. fetches parts still o (with_earlier earlier s)) e,
+          ))
       by_word straight (Some word) e =
           let l = located parts.words s.pc word e in
           let here : Stands n parts start.mmu x (with_earlier earlier s) r l.index = record { fits = image.fits; root = root; shows = h; straight = straight; place = l.place; within = l.within } in
           by_operation x s r l.index (asked (slice_index parts.words l.index)) here refl good
 
       by_annul : (t : Bool) → s.annulled ≡ t → Next x s r
-      by_annul true e = record { count = 1; overflows = 0; underflows = 0; windows = r; few = (omega arith, omega arith); advances = annulled_turns_keep n parts start.mmu x (with_earlier earlier s) r h e }
+      by_annul true e =
+          record {
+            count = 1;
+            overflows = 0;
+            underflows = 0;
+            windows = r;
+            few = (omega arith, omega arith);
+            advances =
+                annulled_turns_keep n parts start.mmu x (with_earlier earlier s) r h e;
+          }
       by_annul false e = by_word e (word_at parts.words s.pc) refl
 
 -- From any board that has been loaded.

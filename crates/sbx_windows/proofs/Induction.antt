@@ -33,11 +33,13 @@ use Rattle.sbx_windows.proofs.Earlier.{earlier_place, earlier_step}
 
 -- ---- turns of a world as turns of a board that counts them
 
-turn_is : (n : ℕ) (mmu : MmuRegs) (w : World n Device) (c : Counts) → ending_of n w ≡ None → turned n (stands n w mmu c) ≡ ((next board n mmu w).0, stands n (next board n mmu w).1 mmu (counts_after (next board n mmu w).0.event c))
+turn_is : (n : ℕ) (mmu : MmuRegs) (w : World n Device) (c : Counts) → ending_of n w ≡ None →
+    turned n (stands n w mmu c) ≡ ((next board n mmu w).0, stands n (next board n mmu w).1 mmu (counts_after (next board n mmu w).0.event c))
 unfolding turned
 turn_is n mmu w c going = ap (λ (o : Option Ending). ((next board n mmu w).0, stands n (next board n mmu w).1 mmu (counts_unless o (next board n mmu w).0.event c))) going
 
-pub board_is : (n : ℕ) (mmu : MmuRegs) (x : World n Device) (c : Counts) (k : ℕ) → ((j : ℕ) → j < k → ending_of n (after board n mmu j x) ≡ None) → board_after n k (stands n x mmu c) ≡ stands n (after board n mmu k x) mmu (counts_by n mmu x k c)
+pub board_is : (n : ℕ) (mmu : MmuRegs) (x : World n Device) (c : Counts) (k : ℕ) → ((j : ℕ) → j < k → ending_of n (after board n mmu j x) ≡ None) →
+    board_after n k (stands n x mmu c) ≡ stands n (after board n mmu k x) mmu (counts_by n mmu x k c)
 board_is n mmu x c zero going = refl
 board_is n mmu x c (suc k) going =
     ap (λ (s : BoardState n). (turned n s).1) (board_is n mmu x c k (λ j less. going j (omega arith)))
@@ -60,8 +62,12 @@ place_turns parts n p t = by_annul p.annulled
     one_of false a c m x y = y
 
     of_operation : (op : Operation) → (after_operation n op t).turns ≤ t.turns + weight_of op
-    of_operation (Save f) = one_of (t.windows == n - 1) (record t { overflows = t.overflows + 1; turns = t.turns + 25 }) (record t { windows = t.windows + 1; turns = t.turns + 1 }) (t.turns + 25) (omega arith) (omega arith)
-    of_operation (Restore f) = one_of (t.windows == 1) (record t { underflows = t.underflows + 1; turns = t.turns + 25 }) (record t { windows = t.windows - 1; turns = t.turns + 1 }) (t.turns + 25) (omega arith) (omega arith)
+    of_operation (Save f) =
+        one_of (t.windows == n - 1) (record t { overflows = t.overflows + 1; turns = t.turns + 25 }) (record t { windows = t.windows + 1; turns = t.turns + 1 })
+        (t.turns + 25) (omega arith) (omega arith)
+    of_operation (Restore f) =
+        one_of (t.windows == 1) (record t { underflows = t.underflows + 1; turns = t.turns + 25 }) (record t { windows = t.windows - 1; turns = t.turns + 1 })
+        (t.turns + 25) (omega arith) (omega arith)
     of_operation _ = omega arith
 
     of_word : (o : Option ℕ) → (after_word n o t).turns ≤ t.turns + weight_of_word o
@@ -115,7 +121,8 @@ module _ (n : ℕ) (parts : Parts) (input earlier : List ℕ) (start : BoardStat
         own = b.own;
       }
 
-  came_more : (x : World n Device) (s : State) (r : ℕ) (c : Came n parts input earlier start x s r) (t : Taken x s r) → Came n parts input earlier start (after board n start.mmu t.count x) (flat_next x s r t).0 t.windows
+  came_more : (x : World n Device) (s : State) (r : ℕ) (c : Came n parts input earlier start x s r) (t : Taken x s r) →
+      Came n parts input earlier start (after board n start.mmu t.count x) (flat_next x s r t).0 t.windows
   came_more x s r c t =
       let a = t.advances in
       let place = place_of parts s in
@@ -153,7 +160,8 @@ module _ (n : ℕ) (parts : Parts) (input earlier : List ℕ) (start : BoardStat
               | inl before ↦ c.going j before
               | inr from ↦
                   let sum : c.turns + (j - c.turns) ≡ j = omega arith in
-                  ap (λ q. ending_of n (board_after n q start).world) (sym sum) ∙ ap (λ (b : BoardState n). ending_of n b.world) (later (j - c.turns) (omega arith)) ∙ a.going (j - c.turns) (omega arith)
+                  ap (λ q. ending_of n (board_after n q start).world) (sym sum)
+                  ∙ ap (λ (b : BoardState n). ending_of n b.world) (later (j - c.turns) (omega arith)) ∙ a.going (j - c.turns) (omega arith)
             ];
         each = λ j less.
             let split : (j < c.turns) ⊎ (c.turns ≤ j) = search arith in
@@ -162,7 +170,8 @@ module _ (n : ℕ) (parts : Parts) (input earlier : List ℕ) (start : BoardStat
               | inr from ↦
                   let i = j - c.turns in
                   let sum : c.turns + i ≡ j = omega arith in
-                  let here : board_after n j start ≡ stands n (after board n start.mmu i x) start.mmu (counts_by n start.mmu x i counts) = ap (λ q. board_after n q start) (sym sum) ∙ later i (omega arith) in
+                  let here : board_after n j start ≡ stands n (after board n start.mmu i x) start.mmu (counts_by n start.mmu x i counts) =
+                  ap (λ q. board_after n q start) (sym sum) ∙ later i (omega arith) in
                   let same : (turned n (board_after n j start)).0 ≡ turn_at board n start.mmu i x =
                   ap (λ (b : BoardState n). (turned n b).0) here
                   ∙ ap (λ (p : Turn × BoardState n). p.0) (turn_is n start.mmu (after board n start.mmu i x) (counts_by n start.mmu x i counts) (a.going i (omega arith))) in
@@ -184,7 +193,8 @@ module _ (n : ℕ) (parts : Parts) (input earlier : List ℕ) (start : BoardStat
       }
 
   pub ends_from : ((x : World n Device) (s : State) (r : ℕ) (way : List Place) → FlatRun parts input way s → Shows n parts x (with_earlier earlier s) r → Taken x s r) →
-      (fuel : ℕ) (x : World n Device) (s : State) (r : ℕ) (c : Came n parts input earlier start x s r) → Shows n parts x (with_earlier earlier s) r → budget parts < weight parts c.path + fuel → Finishes n parts input earlier start
+      (fuel : ℕ) (x : World n Device) (s : State) (r : ℕ) (c : Came n parts input earlier start x s r) → Shows n parts x (with_earlier earlier s) r →
+      budget parts < weight parts c.path + fuel → Finishes n parts input earlier start
   unfolding came_more
   ends_from advance zero x s r c h enough = let top = within c.path s c.run in absurd (omega arith)
   ends_from advance (suc fuel) x s r c h enough =

@@ -138,7 +138,8 @@ module _ (n : ℕ) (old : Windows) (f : IsFile n old) where
 
 -- ---- all of it
 
-data_start_shows : (parts : Parts) (ram : List ℕ) → Fits parts → AllByRecursion IsTypedRegion parts.regions → ((i : ℕ) → i < 4096 * data_count (pages_of parts) → slice_index ram (DATA_PLACE + i) ≡ slice_index (laid parts.regions) i) →
+data_start_shows : (parts : Parts) (ram : List ℕ) → Fits parts → AllByRecursion IsTypedRegion parts.regions →
+    ((i : ℕ) → i < 4096 * data_count (pages_of parts) → slice_index ram (DATA_PLACE + i) ≡ slice_index (laid parts.regions) i) →
     ShowsData parts (data_at parts.regions) ram
 data_start_shows parts ram fits typed placed a b is =
     let lies = data_lies_at parts.regions a b is in
@@ -191,7 +192,8 @@ start_shows n parts input made start image bytes any loaded =
     subst (λ (c : Cpu n). Shows n parts (world n c ram start.world.memory.device) s 1) (sym loaded.cpu)
     (subst (λ (e : Device). Shows n parts (world n cpu ram e) s 1) (sym loaded.device) shown)
 
-pub is_flat_start : (n : ℕ) (parts : Parts) (input : List ℕ) (made : BoardState n) → IsAnyBoard n input made → IsFlatStart parts input (flat_start parts input (boot n made.world.cpu.regs) made.world.cpu.control.y)
+pub is_flat_start : (n : ℕ) (parts : Parts) (input : List ℕ) (made : BoardState n) → IsAnyBoard n input made →
+    IsFlatStart parts input (flat_start parts input (boot n made.world.cpu.regs) made.world.cpu.control.y)
 is_flat_start n parts input made any =
     let v = boot n made.world.cpu.regs in
     let f = boot_file n made.world.cpu.regs any.state.cpu.file in

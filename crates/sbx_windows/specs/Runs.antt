@@ -28,10 +28,12 @@ stands n w mmu c = record { world = w; mmu = mmu; counts = c }
 abbrev pub with_earlier : List ℕ → State → State
 with_earlier earlier s = record s { output = earlier ++ s.output }
 
--- The turn of this number, and the moment before it, beside the state of a flat run whose step it belongs to: on n windows the way to
--- that state takes so many turns or fewer, and with its own step more. The run goes from its first state there, and on to its last.
--- Outside the vectors and handlers that state is shown, and the turn is one that the image may make there.
-pub record IsTurnBeside (n : ℕ) (parts : Parts) (earlier : List ℕ) (path : List Place) (first last : State) (number : ℕ) (before : BoardState n) : Type 0 where
+-- The turn of this number, and the moment before it, beside the state of a flat run whose step it belongs to: on n
+-- windows the way to that state takes so many turns or fewer, and with its own step more. The run goes from its first
+-- state there, and on to its last. Outside the vectors and handlers that state is shown, and the turn is one that the
+-- image may make there.
+pub record IsTurnBeside (n : ℕ) (parts : Parts) (earlier : List ℕ) (path : List Place) (first last : State) (number : ℕ)
+    (before : BoardState n) : Type 0 where
   pub way : List Place
   pub rest : List Place
   pub state : State
@@ -43,9 +45,10 @@ pub record IsTurnBeside (n : ℕ) (parts : Parts) (earlier : List ℕ) (path : L
   pub moment : IsMoment n parts before.world (with_earlier earlier state)
   pub own : IsOwnTurn parts (with_earlier earlier state) (turned n before).0
 
--- The board came here from its start beside a flat run, in as many turns, overflows and underflows as the traffic of its path has, and
--- each turn beside the state of that run whose step it belongs to.
-pub record Came (n : ℕ) (parts : Parts) (input earlier : List ℕ) (start : BoardState n) (x : World n Device) (s : State) (r : ℕ) : Type 0 where
+-- The board came here from its start beside a flat run, in as many turns, overflows and underflows as the traffic of
+-- its path has, and each turn beside the state of that run whose step it belongs to.
+pub record Came (n : ℕ) (parts : Parts) (input earlier : List ℕ) (start : BoardState n) (x : World n Device) (s : State)
+    (r : ℕ) : Type 0 where
   pub path : List Place
   pub run : FlatRun parts input path s
   pub turns : ℕ
@@ -53,7 +56,8 @@ pub record Came (n : ℕ) (parts : Parts) (input earlier : List ℕ) (start : Bo
   pub underflows : ℕ
   pub traffic_is : traffic parts n path ≡ so_many r overflows underflows turns
   pub few : (overflows ≤ turns) × (underflows ≤ turns) × (turns ≤ weight parts path)
-  pub board_stands : board_after n turns start ≡ stands n x start.mmu (record { turns = turns; overflows = overflows; underflows = underflows })
+  pub board_stands : board_after n turns start ≡
+      stands n x start.mmu (record { turns = turns; overflows = overflows; underflows = underflows })
   pub going : (j : ℕ) → j < turns → ending_of n (board_after n j start).world ≡ None
   pub each : (j : ℕ) → j < turns → IsTurnBeside n parts earlier path run.0 s j (board_after n j start)
 
@@ -82,4 +86,5 @@ pub record IsImage (parts : Parts) : Type 0 where
 abbrev pub RunsToItsEnd : Type 0
 RunsToItsEnd =
     (n : ℕ) (parts : Parts) (input : List ℕ) (made start : BoardState n) →
-    IsImage parts → FlatSafe parts → AreBytes input → IsAnyBoard n input made → IsStart n parts made start → Finishes n parts input made.world.memory.device.output start
+    IsImage parts → FlatSafe parts → AreBytes input → IsAnyBoard n input made → IsStart n parts made start →
+    Finishes n parts input made.world.memory.device.output start

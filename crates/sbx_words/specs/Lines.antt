@@ -1,7 +1,9 @@
--- What the words of a command line ask for: the command line as `clap` knows it, and the job that its reading of the words means.
+-- What the words of a command line ask for: the command line as `clap` knows it, and the job that its reading of the
+-- words means.
 use Rattle.std.specs.Prelude.{◌≡◌, ◌≤◌, ℕ, true, false, List, [], ◌∷◌, Option, Some, None, Result, Ok, IsSomeAnd, codes}
 use Rattle.std.specs.Str.Parse.{IsNumeral, digits_value}
-use Rattle.clap.specs.Words.{AddsArg, AddsSubcommand, App, Row, Rule, Shape, Text, app_of, fault_of, first_of, new_rule, subcommand_of}
+use Rattle.clap.specs.Words.{AddsArg, AddsSubcommand, App, Row, Rule, Shape, Text, app_of, fault_of, first_of, new_rule}
+use Rattle.clap.specs.Words.{subcommand_of}
 use Rattle.clap.specs.declared.builder.arg.Arg.{Arg}
 use Rattle.clap.specs.declared.builder.command.Command.{Command}
 use Rattle.clap.specs.declared.builder.command.Command.TheViews.{out-Command as fields_of}
@@ -76,7 +78,8 @@ Takes old more new = (command : Command) × (old ≡ Ok command) × AddsArg comm
 
 -- the new command is the old one with the one below it, both of which were made
 abbrev pub Adds : {E : Type 0} → Result Command E → Result Command E → Command → Type 0
-Adds old below new = (command : Command) × (made : Command) × (old ≡ Ok command) × (below ≡ Ok made) × AddsSubcommand command made new
+Adds old below new = (command : Command) × (made : Command) × (old ≡ Ok command) × (below ≡ Ok made)
+    × AddsSubcommand command made new
 
 -- ---- what the words mean
 

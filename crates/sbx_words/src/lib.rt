@@ -2,11 +2,14 @@
 #![tactic(auto)]
 
 ghost use Rattle.std.specs.Prelude.{◌≡◌, ◌≢◌, ℕ, false, [], ◌∷◌, None, IfErr, IfOk, IsErr, codes, map};
-ghost use Rattle.clap.specs.Words.{app_of, fault_of, first_of, found_of, kind_of, rows_of, rule_of, subcommand_of, subcommand_rows_of};
+ghost use Rattle.clap.specs.Words.{app_of, fault_of, first_of, found_of, kind_of, rows_of, rule_of, subcommand_of};
+ghost use Rattle.clap.specs.Words.{subcommand_rows_of};
 ghost use Rattle.sbx_jobs.specs.declared.jobs.Job.{Job};
 ghost use Rattle.sbx_jobs.specs.Jobs.{IsInRange};
 ghost use Rattle.want.specs.Wants.{refused};
-ghost use Rattle.sbx_words.specs.Lines.{Adds, AskFor, HasLimit, HasPath, HasWindows, IsAlone, IsText, IsTrueOfWords, Means, MeansJob, Takes, asm_shape, bare_shape, image_rule, number_rule, path_rule, run_shape, sandbox_app, shape_with, trace_shape};
+ghost use Rattle.sbx_words.specs.Lines.{Adds, AskFor, HasLimit, HasPath, HasWindows, IsAlone, IsText, IsTrueOfWords};
+ghost use Rattle.sbx_words.specs.Lines.{Means, MeansJob, Takes, asm_shape, bare_shape, image_rule, number_rule};
+ghost use Rattle.sbx_words.specs.Lines.{path_rule, run_shape, sandbox_app, shape_with, trace_shape};
 
 mod starved;
 
@@ -301,7 +304,8 @@ fn matches_of<'a, S: AsStr>(alloc: Global, words: &'a [S]) -> Result<ArgMatches<
     }
 }
 
-/// What the words, without the program's name, ask for: the job that they mean; or that they ask for none, or that memory was refused.
+/// What the words, without the program's name, ask for: the job that they mean; or that they ask for none, or that
+/// memory was refused.
 pub fn read_words<'a, S: AsStr>(alloc: Global, words: &'a [S]) -> Result<Job<'a>, Usage>
     ensures range { IfOk result IsInRange }
     ensures asked { IfOk result (AskFor (map S.text words.entry.now)) }

@@ -5,8 +5,8 @@ ghost use Rattle.clap.specs.Words.{kind_of};
 use clap::Error;
 use clap::error::ErrorKind;
 
-/// The evidence that `clap` had no memory, whose errors hold none but their kind. It is made of an error of the kind `OutOfMemory`, and of
-/// nothing else.
+/// The evidence that `clap` had no memory, whose errors hold none but their kind. It is made of an error of the kind
+/// `OutOfMemory`, and of nothing else.
 #[derive(Clone, Copy)]
 pub struct Starved(());
 

@@ -167,8 +167,8 @@ pub enum TaggedOp {
     TaggedSub,
 }
 
-/// What a division of Y followed by `a`, a number of 64 bits, by `b` gives; none at divisor 0. A quotient that fits no word
-/// is the nearest word, and the cc forms say so by V (appendix B, "Divide Instructions"). Y stays.
+/// What a division of Y followed by `a`, a number of 64 bits, by `b` gives; none at divisor 0. A quotient that fits no
+/// word is the nearest word, and the cc forms say so by V (appendix B, "Divide Instructions"). Y stays.
 #[tactic(auto, unfolding(crate::specs::Outcomes::divided))]
 pub fn divide(op: Division, a: u32, b: u32, icc: Icc, y: u32) -> Option<AluOut>
     ensures { result ≡ division_of op a b icc y }
@@ -190,8 +190,9 @@ pub fn divide(op: Division, a: u32, b: u32, icc: Icc, y: u32) -> Option<AluOut>
     })
 }
 
-/// What TADDccTV or TSUBccTV of `a` and `b` gives, or none where it would set the overflow flag: an operand's low two bits
-/// aren't 0, or the signed result doesn't fit (appendix B, "Tagged Add Instructions"). The codes before don't matter; Y stays.
+/// What TADDccTV or TSUBccTV of `a` and `b` gives, or none where it would set the overflow flag: an operand's low two
+/// bits aren't 0, or the signed result doesn't fit (appendix B, "Tagged Add Instructions"). The codes before don't
+/// matter; Y stays.
 #[tactic(auto, unfolding(crate::specs::Outcomes::tagged_outcome))]
 pub fn tagged_tv(op: TaggedOp, a: u32, b: u32, _icc: Icc, y: u32) -> Option<AluOut>
     ensures { result ≡ tagged_outcome op a b _icc y }

@@ -1,6 +1,8 @@
-// Products, shifts and the multiply step (appendix B, "Multiply Instructions", "Shift Instructions", "Multiply Step Instruction").
+// Products, shifts and the multiply step (appendix B, "Multiply Instructions", "Shift Instructions", "Multiply Step
+// Instruction").
 ghost use Rattle.std.specs.Prelude.{◌≡◌, ℕ, ◌+◌, ◌-◌, ◌*◌, ◌/◌, ◌%◌, ◌^◌, ◌<◌, ◌≤◌, ◌*ℤ◌};
-ghost use Rattle.v8_alu.specs.Results.{high_word, low_word, shifted_left, shifted_right, shifted_right_signed, signed, signed_product, step_addend, step_operand, step_y};
+ghost use Rattle.v8_alu.specs.Results.{high_word, low_word, shifted_left, shifted_right, shifted_right_signed, signed};
+ghost use Rattle.v8_alu.specs.Results.{signed_product, step_addend, step_operand, step_y};
 
 use crate::sums::signed;
 use v8_word::Icc;

@@ -1,5 +1,6 @@
 // Quotients of 64 bits by 32, as the nearest word (appendix B, "Divide Instructions").
-ghost use Rattle.std.specs.Prelude.{◌≡◌, ℕ, ◌+◌, ◌-◌, ◌*◌, ◌/◌, ◌%◌, ◌^◌, ◌<◌, ◌≤◌, not, pos, negsuc, min, neg_ℤ, nat_le, false, if◌then◌else◌};
+ghost use Rattle.std.specs.Prelude.{◌≡◌, ℕ, ◌+◌, ◌-◌, ◌*◌, ◌/◌, ◌%◌, ◌^◌, ◌<◌, ◌≤◌, not, pos, negsuc, min, neg_ℤ};
+ghost use Rattle.std.specs.Prelude.{nat_le, false, if◌then◌else◌};
 ghost use Rattle.v8_alu.specs.Results.{dividend, is_signed_word, nearest_word, quotient, signed_quotient};
 
 use crate::sums::signed;

@@ -1,7 +1,9 @@
 // Sums and differences with their codes, and tags (appendix B, "Add Instructions", "Subtract Instructions").
-ghost use Rattle.std.specs.Prelude.{◌≡◌, ℕ, ◌+◌, ◌-◌, ◌*◌, ◌/◌, ◌%◌, ◌^◌, ◌<◌, ◌≤◌, not, pos, negsuc, ◌+ℤ◌, ◌-ℤ◌, ◌≤ℤ◌, ◌<ℤ◌, nat_le, nat_lt};
+ghost use Rattle.std.specs.Prelude.{◌≡◌, ℕ, ◌+◌, ◌-◌, ◌*◌, ◌/◌, ◌%◌, ◌^◌, ◌<◌, ◌≤◌, not, pos, negsuc, ◌+ℤ◌, ◌-ℤ◌, ◌≤ℤ◌};
+ghost use Rattle.std.specs.Prelude.{◌<ℤ◌, nat_le, nat_lt};
 ghost use Rattle.v8_alu.specs.Outcomes.{tagged_codes};
-ghost use Rattle.v8_alu.specs.Results.{codes, difference, difference_codes, from_flag, is_signed_word, is_tagged, signed, sum, sum_codes};
+ghost use Rattle.v8_alu.specs.Results.{codes, difference, difference_codes, from_flag, is_signed_word, is_tagged};
+ghost use Rattle.v8_alu.specs.Results.{signed, sum, sum_codes};
 
 use v8_word::Icc;
 

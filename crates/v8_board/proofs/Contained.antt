@@ -46,7 +46,8 @@ boots n old new boot file =
       npc_word = subst (λ (c : Control). c.npc < 2 ^ 32) (sym is) (lit< tt);
     }
 
-pub boots_state : (n : ℕ) (old new : Cpu n) (ram : List ℕ) (mmu : MmuRegs) (d : Device) → new ≡ booted n old → old.control.y < 2 ^ 32 → IsFile n new.regs → length ram ≡ 0x100000 → AreBytes ram → root_of mmu ≡ 0x2000 → IsState n mmu (world n new ram d)
+pub boots_state : (n : ℕ) (old new : Cpu n) (ram : List ℕ) (mmu : MmuRegs) (d : Device) → new ≡ booted n old → old.control.y < 2 ^ 32 → IsFile n new.regs →
+    length ram ≡ 0x100000 → AreBytes ram → root_of mmu ≡ 0x2000 → IsState n mmu (world n new ram d)
 boots_state n old new ram mmu d boot y file size bytes root =
     let is = control_is n old new boot in
     record {
@@ -68,7 +69,8 @@ boots_state n old new ram mmu d boot y file size bytes root =
 pub blank_bytes : (ram : List ℕ) → IsBlank ram → AreBytes ram
 blank_bytes ram blank i = subst (λ b. b < 256) (sym (blank.zeros i)) (lit< tt)
 
-pub loads_contained : (n : ℕ) (p : Parts) (old new : Cpu n) (ram : List ℕ) (mmu : MmuRegs) (d : Device) → 4 ≤ n → n ≤ 32 → new ≡ booted n old → IsFile n new.regs → IsKept n (pages_of p) (contents_of p) ram → root_of mmu ≡ 0x2000 → d.stopped ≡ None →
+pub loads_contained : (n : ℕ) (p : Parts) (old new : Cpu n) (ram : List ℕ) (mmu : MmuRegs) (d : Device) → 4 ≤ n → n ≤ 32 → new ≡ booted n old →
+    IsFile n new.regs → IsKept n (pages_of p) (contents_of p) ram → root_of mmu ≡ 0x2000 → d.stopped ≡ None →
     IsContained n (pages_of p) (contents_of p) mmu (world n new ram d)
 loads_contained n p old new ram mmu d few many boot file kept root running = record {
   few = few;

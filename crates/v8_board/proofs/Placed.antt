@@ -69,7 +69,8 @@ pages_few p =
 pub placed : (n : ℕ) (p : Parts) (cc dc : ℕ) (t h w m0 m1 m2 m3 m4 m5 : List ℕ) →
     (pages_of p).code_count ≡ cc → data_count (pages_of p) ≡ dc → length m5 ≡ 0x100000 →
     ((k : ℕ) → k < 1024 → slice_index t k ≡ trap_word k) → ((k : ℕ) → k < 1024 → slice_index h k ≡ handler_word n k) → ((k : ℕ) → k < 896 → slice_index w k ≡ table_word (pages_of p) k) →
-    HasWords 0 t 1024 m0 m1 → HasWords 0x1000 h 1024 m1 m2 → HasWords 0x2000 w 896 m2 m3 → HasWords 0x10000 p.words (1024 * cc) m3 m4 → HasBytesOf 0x50000 (laid p.regions) (4096 * dc) m4 m5 → IsPlaced n p m0 m5
+    HasWords 0 t 1024 m0 m1 → HasWords 0x1000 h 1024 m1 m2 → HasWords 0x2000 w 896 m2 m3 → HasWords 0x10000 p.words (1024 * cc) m3 m4 →
+    HasBytesOf 0x50000 (laid p.regions) (4096 * dc) m4 m5 → IsPlaced n p m0 m5
 placed n p cc dc t h w m0 m1 m2 m3 m4 m5 codes bytes size trap handler tables a b c d e =
     let few = pages_few p in
     let few_code : cc ≤ 64 = (let f = few.code in omega arith) in

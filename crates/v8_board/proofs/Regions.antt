@@ -78,7 +78,8 @@ most_is : (most n : ℕ) → n ≤ most → at_most most n ≡ n
 most_is most n few = let small : nat_le n most ≡ true = grind (arith, nat_tests) in ap (λ (b : Bool). cond b n most) small
 
 -- the region of a number, told as an item of the list, where so many pages are taken so far, and so many more by it
-module _ (rs : List Region) (i : ℕ) (r : Region) (less : i < length rs) (is : r ≡ get_or rs i r) (few : length (page_rights rs) ≤ 64) (pages more : ℕ) (front : pages ≡ pages_to rs i) (taken : more ≡ at_most 64 (pages_for (length r.bytes))) where
+module _ (rs : List Region) (i : ℕ) (r : Region) (less : i < length rs) (is : r ≡ get_or rs i r) (few : length (page_rights rs) ≤ 64) (pages more : ℕ)
+    (front : pages ≡ pages_to rs i) (taken : more ≡ at_most 64 (pages_for (length r.bytes))) where
   one_more : take (i + 1) rs ≡ take i rs ++ r ∷ []
   one_more = take_more rs i r less ∙ ap (λ (q : Region). take i rs ++ q ∷ []) (sym is)
 
@@ -100,11 +101,13 @@ module _ (rs : List Region) (i : ℕ) (r : Region) (less : i < length rs) (is : 
   pub pages_few : pages + more ≤ 64
   pages_few = let all = pages_more in let within = pages_within rs (i + 1) in omega arith
 
-  pub rights_filled : (old new : List Bool) → take pages old ≡ page_rights (take i rs) → take (pages + more) new ≡ take pages old ++ replicate more r.writable → take (pages + more) new ≡ page_rights (take (i + 1) rs)
+  pub rights_filled : (old new : List Bool) → take pages old ≡ page_rights (take i rs) → take (pages + more) new ≡ take pages old ++ replicate more r.writable →
+      take (pages + more) new ≡ page_rights (take (i + 1) rs)
   rights_filled old new before filled =
       filled ∙ ap (λ l. l ++ replicate more r.writable) before ∙ ap (λ n. page_rights (take i rs) ++ replicate n r.writable) more_is ∙ sym rights_more
 
-  pub bytes_placed : (old mid new : List ℕ) → HasBytesOf DATA_PLACE (laid (take i rs)) (4096 * pages) old mid → HasBytesOf (DATA_PLACE + 4096 * pages) r.bytes (4096 * more) mid new → HasBytesOf DATA_PLACE (laid (take (i + 1) rs)) (4096 * (pages + more)) old new
+  pub bytes_placed : (old mid new : List ℕ) → HasBytesOf DATA_PLACE (laid (take i rs)) (4096 * pages) old mid →
+      HasBytesOf (DATA_PLACE + 4096 * pages) r.bytes (4096 * more) mid new → HasBytesOf DATA_PLACE (laid (take (i + 1) rs)) (4096 * (pages + more)) old new
   bytes_placed old mid new before placed =
       let long = laid_count (take i rs) in
       let whole : 4096 * pages ≡ length (laid (take i rs)) = omega arith in

@@ -1,4 +1,5 @@
--- How often a run calls the port: in each turn at most once, by the access that the turn tells of, where the device has to ask the port.
+-- How often a run calls the port: in each turn at most once, by the access that the turn tells of, where the device has
+-- to ask the port.
 use Rattle.std.specs.Prelude.{ℕ, zero, suc, ◌+◌, Result, Ok, Err}
 use Rattle.v8_core.specs.Answers.{Grows}
 use Rattle.v8_core.specs.Calls.{calls_by}
@@ -16,8 +17,10 @@ abbrev pub calls_in : (n : ℕ) → ℕ → State n → ℕ
 calls_in n zero s = 0
 calls_in n (suc k) s = calls_in n k s + next_calls n (after n k s)
 
--- The run, and its port's count of calls before and after: as many calls as its turns may make, or fewer; and where the port failed, one
--- more, in the turn that was not made.
+-- The run, and its port's count of calls before and after: as many calls as its turns may make, or fewer; and where the
+-- port failed, one more, in the turn that was not made.
 abbrev pub Asks : {T : Type 0} → (n : ℕ) → ℕ → State n → State n → ℕ → ℕ → Result T PortFault → Type 0
-Asks n limit start end before now (Ok told) = (run : IsRun n limit start end) × Grows (calls_in n run.turns.count start) before now
-Asks n limit start end before now (Err fault) = (cut : IsCutShort n limit start end) × Grows (calls_in n cut.turns.count start + 1) before now
+Asks n limit start end before now (Ok told) = (run : IsRun n limit start end)
+    × Grows (calls_in n run.turns.count start) before now
+Asks n limit start end before now (Err fault) = (cut : IsCutShort n limit start end)
+    × Grows (calls_in n cut.turns.count start + 1) before now

@@ -15,9 +15,11 @@ Contains n p s = IsContained n (pages_of p) (contents_of p) s.mmu s.world
 abbrev pub Keeps : (n : ℕ) → State n → State n → Type 0
 Keeps n old new = (p : Parts) → Contains n p old → Contains n p new
 
--- and this turn led from the one state to the other: what it fetched, reached and did to the device is what containment allows
+-- and this turn led from the one state to the other: what it fetched, reached and did to the device is what containment
+-- allows
 abbrev pub KeepsBy : (n : ℕ) → State n → Turn → State n → Type 0
-KeepsBy n old turn new = (p : Parts) → Contains n p old → TurnIs n (pages_of p) (contents_of p) old.mmu old.world (turn, new.world)
+KeepsBy n old turn new = (p : Parts) → Contains n p old →
+    TurnIs n (pages_of p) (contents_of p) old.mmu old.world (turn, new.world)
 
 -- the turn that this board makes next is one that containment allows
 abbrev pub TurnsAsAllowed : (n : ℕ) → Parts → State n → Type 0

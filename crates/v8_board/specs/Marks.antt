@@ -1,4 +1,5 @@
--- Which pages were referenced and modified: R (bit 5) and M (bit 6) of the entries of the tables of code, data and stack.
+-- Which pages were referenced and modified: R (bit 5) and M (bit 6) of the entries of the tables of code, data and
+-- stack.
 use Rattle.std.specs.Prelude.{ℕ, zero, suc, ◌+◌, ◌*◌, ◌/◌, ◌%◌, ◌^◌, List, [], ◌∷◌, Option, Some, None}
 use Rattle.v8_core.specs.Ram.{entry_of}
 use Rattle.v8_map.specs.declared.TheConstants.{CODE_TABLE, DATA_TABLE, STACK_TABLE}

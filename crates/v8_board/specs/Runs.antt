@@ -22,7 +22,8 @@ pub record IsRun (n limit : ℕ) (old new : State n) : Type 0 where
   pub within : turns.count ≤ limit
   pub whole : ending_of n new.world ≡ None → turns.count ≡ limit
 
--- a run of at most so many turns that the port cut short: the turn that it failed in was still allowed, and was not made
+-- a run of at most so many turns that the port cut short: the turn that it failed in was still allowed, and was not
+-- made
 pub record IsCutShort (n limit : ℕ) (old new : State n) : Type 0 where
   pub turns : Turns n old new
   pub within : turns.count < limit

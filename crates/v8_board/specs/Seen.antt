@@ -27,12 +27,16 @@ pub record Seen (n : ℕ) : Type 0 where
   pub calls : ℕ
   pub fault : PortFault
 
--- with a port that has this input left, was given this output, has failed and was called so often, and answered this fault last
+-- with a port that has this input left, was given this output, has failed and was called so often, and answered this
+-- fault last
 abbrev pub with_port : {n : ℕ} → Seen n → List ℕ → List ℕ → ℕ → ℕ → PortFault → Seen n
 with_port s i o f k p =
     let device = record s.state.world.memory.device { input = i; output = o } in
     record {
-      state = record s.state { world = record s.state.world { memory = record s.state.world.memory { device = device } } };
+      state = record s.state {
+        world =
+            record s.state.world { memory = record s.state.world.memory { device = device } };
+      };
       failed = f;
       calls = k;
       fault = p;

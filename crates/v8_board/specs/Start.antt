@@ -1,5 +1,6 @@
 -- What a board is when it is made, and when an image has been loaded.
-use Rattle.std.specs.Prelude.{ℕ, ◌≡◌, ◌+◌, ◌*◌, ◌/◌, ◌<◌, ◌≤◌, nat_le, false, List, length, take, slice_index, Some, None, if◌then◌else◌}
+use Rattle.std.specs.Prelude.{ℕ, ◌≡◌, ◌+◌, ◌*◌, ◌/◌, ◌<◌, ◌≤◌, nat_le, false, List, length, take, slice_index, Some}
+use Rattle.std.specs.Prelude.{None, if◌then◌else◌}
 use Rattle.sbx_image.specs.Parts.{Parts}
 use Rattle.sbx_image.specs.Regions.{laid, page_rights}
 use Rattle.v8_core.specs.Ram.{AreBytes, entry_of}
@@ -30,8 +31,8 @@ pub record IsNew (n : ℕ) (input output : List ℕ) (s : State n) : Type 0 wher
 abbrev pub at_most : ℕ → ℕ → ℕ
 at_most most n = if nat_le n most then n else most
 
--- the pages that an image takes: as many as hold its code words, its pages of stack, and of data those of its regions, each with the
--- right that its region gives. No image takes more than 64 pages of code, 64 of data and 16 of stack.
+-- the pages that an image takes: as many as hold its code words, its pages of stack, and of data those of its regions,
+-- each with the right that its region gives. No image takes more than 64 pages of code, 64 of data and 16 of stack.
 unfoldable pub pages_of : Parts → Pages
 pages_of p =
     record {
@@ -44,15 +45,17 @@ pages_of p =
 abbrev pub contents_of : Parts → Contents
 contents_of p = record { words = p.words; bytes = laid p.regions }
 
--- Trap table, handlers, tables, code and data, each region on its pages; the rest of the last code page and of each region's last page
--- is 0. The bytes of the stack, and all above them, are as before.
+-- Trap table, handlers, tables, code and data, each region on its pages; the rest of the last code page and of each
+-- region's last page is 0. The bytes of the stack, and all above them, are as before.
 pub record IsPlaced (n : ℕ) (p : Parts) (old new : List ℕ) : Type 0 where
   pub size : length new ≡ RAM
   pub trap : (k : ℕ) → k < 1024 → entry_of new (4 * k) ≡ Some (trap_word k)
   pub handler : (k : ℕ) → k < 1024 → entry_of new (HANDLERS_PLACE + 4 * k) ≡ Some (handler_word n k)
   pub tables : (k : ℕ) → k < 896 → entry_of new (CONTEXT_TABLE + 4 * k) ≡ Some (table_word (pages_of p) k)
-  pub code : (i : ℕ) → i < 1024 * (pages_of p).code_count → entry_of new (CODE_PLACE + 4 * i) ≡ Some (slice_index p.words i)
-  pub bytes : (i : ℕ) → i < 4096 * data_count (pages_of p) → slice_index new (DATA_PLACE + i) ≡ slice_index (laid p.regions) i
+  pub code : (i : ℕ) → i < 1024 * (pages_of p).code_count →
+      entry_of new (CODE_PLACE + 4 * i) ≡ Some (slice_index p.words i)
+  pub bytes : (i : ℕ) → i < 4096 * data_count (pages_of p) →
+      slice_index new (DATA_PLACE + i) ≡ slice_index (laid p.regions) i
   pub stack : (i : ℕ) → STACK_PLACE ≤ i → slice_index new i ≡ slice_index old i
   pub fit : AreBytes old → AreBytes new
 

@@ -1,5 +1,6 @@
 //! The board: the machine over its memory, with the counts of a run.
-ghost use Rattle.std.specs.Prelude.{◌≡◌, ℕ, ◌+◌, ◌-◌, ◌*◌, ◌%◌, ◌^◌, ◌<◌, ◌≤◌, IfErr, IfOk, OnErr, IsSome, Option, Some, None, List};
+ghost use Rattle.std.specs.Prelude.{◌≡◌, ℕ, ◌+◌, ◌-◌, ◌*◌, ◌%◌, ◌^◌, ◌<◌, ◌≤◌, IfErr, IfOk, OnErr, IsSome, Option};
+ghost use Rattle.std.specs.Prelude.{Some, None, List};
 ghost use Rattle.std.specs.Borrow.{Lends, sem};
 ghost use Rattle.v8_core.specs.Answers.{Grows, failed_after};
 ghost use Rattle.v8_core.specs.Calls.{calls_by, most_calls};
@@ -64,7 +65,8 @@ impl<const N: usize, P: Port> Board<N, P> {
     ghost use Rattle.v8_board.specs.Start.{IsNew, IsStart, pages_of};
     ghost use Rattle.v8_board.specs.Marks.{page_use_of};
 
-    /// A board with RAM of zeros and no image: it has booted, and every other register is 0. A refusal of memory drops the port.
+    /// A board with RAM of zeros and no image: it has booted, and every other register is 0. A refusal of memory drops
+    /// the port.
     pub fn new(alloc: Global, port: P) -> Result<Self, AllocError>
         requires at_least { 4 ≤ N }
         requires at_most { N ≤ 32 }
@@ -83,10 +85,10 @@ impl<const N: usize, P: Port> Board<N, P> {
         })
     }
 
-    /// Loads an image and boots: trap table, handlers and page tables, the image's code and data, and 0 in the rest of their last
-    /// pages. The device's stop and the end of its input are taken back, and the counts begin at 0. Registers that booting leaves,
-    /// Y and the stack's bytes stay as they were. Whatever ran before, the board's state is one, and from then on the image is
-    /// contained, whatever its words are: the law `laws::loading_contains`.
+    /// Loads an image and boots: trap table, handlers and page tables, the image's code and data, and 0 in the rest of
+    /// their last pages. The device's stop and the end of its input are taken back, and the counts begin at 0.
+    /// Registers that booting leaves, Y and the stack's bytes stay as they were. Whatever ran before, the board's state
+    /// is one, and from then on the image is contained, whatever its words are: the law `laws::loading_contains`.
     pub fn load(&mut self, image: &Image)
         ensures start { IsStart N image.now self.old.state self.new.state }
         ensures loaded { IsLoaded N (pages_of image.now) image.now.words self.new.state.world.memory.ram }
@@ -126,7 +128,9 @@ impl<const N: usize, P: Port> Board<N, P> {
         ensures turn { IfOk result (λ turn. turned N self.old.state ≡ (turn, self.new.state)) }
         ensures state { OnErr result (self.new.state ≡ self.old.state) }
         ensures count { self.new.failed ≡ failed_after result self.old.failed }
-        ensures calls { Grows (most_calls (λ turn. calls_by board self.old.state.world.memory.device turn.access) result) self.old.calls self.new.calls }
+        ensures calls { Grows
+            (most_calls (λ turn. calls_by board self.old.state.world.memory.device turn.access) result) self.old.calls
+            self.new.calls }
         ensures own { IfErr result (λ fault. self.new.fault ≡ fault) }
     {
         match self.machine.step() {
@@ -145,16 +149,20 @@ impl<const N: usize, P: Port> Board<N, P> {
         ensures turn { IfOk result (λ turn. turned N self.old.state ≡ (turn, self.new.state)) }
         ensures state { OnErr result (self.new.state ≡ self.old.state) }
         ensures count { self.new.failed ≡ failed_after result self.old.failed }
-        ensures calls { Grows (most_calls (λ turn. calls_by board self.old.state.world.memory.device turn.access) result) self.old.calls self.new.calls }
+        ensures calls { Grows
+            (most_calls (λ turn. calls_by board self.old.state.world.memory.device turn.access) result) self.old.calls
+            self.new.calls }
         ensures own { IfErr result (λ fault. self.new.fault ≡ fault) }
     {
         self.machine.step()
     }
 
-    /// One turn, which is counted unless the machine has ended. On a fault of the port nothing has changed, page bits included, and
-    /// the port's count of failures rose by one, as it does nowhere else. A loaded image stays contained, so no word of the page tables changes but in R and M, and
-    /// addresses translate as before: that is the law `v8_layout::laws::tables_stay`.
-    // The compiler would put it, and with it the machine, into its one caller, that into its own, and so on, and optimize it anew in each.
+    /// One turn, which is counted unless the machine has ended. On a fault of the port nothing has changed, page bits
+    /// included, and the port's count of failures rose by one, as it does nowhere else. A loaded image stays contained,
+    /// so no word of the page tables changes but in R and M, and addresses translate as before: that is the law
+    /// `v8_layout::laws::tables_stay`.
+    // The compiler would put it, and with it the machine, into its one caller, that into its own, and so on, and
+    // optimize it anew in each.
     #[inline(never)]
     pub fn step(&mut self) -> Result<Turn, PortFault>
         ensures turn { IfOk result (λ turn. turned N self.old.state ≡ (turn, self.new.state)) }
@@ -162,7 +170,9 @@ impl<const N: usize, P: Port> Board<N, P> {
         ensures turn_is { IfOk result (λ turn. KeepsBy N self.old.state turn self.new.state) }
         ensures state { OnErr result (self.new.state ≡ self.old.state) }
         ensures count { self.new.failed ≡ failed_after result self.old.failed }
-        ensures calls { Grows (most_calls (λ turn. calls_by board self.old.state.world.memory.device turn.access) result) self.old.calls self.new.calls }
+        ensures calls { Grows
+            (most_calls (λ turn. calls_by board self.old.state.world.memory.device turn.access) result) self.old.calls
+            self.new.calls }
         ensures own { IfErr result (λ fault. self.new.fault ≡ fault) }
     {
         match self.ending() {
@@ -189,10 +199,11 @@ impl<const N: usize, P: Port> Board<N, P> {
         }
     }
 
-    /// Runs to an end, but at most so many turns. After an end it tells that end again. On a fault of the port the board stands
-    /// after the last whole turn, with fewer turns made than were allowed and no end met; with the turns that are left it goes on
-    /// as if nothing was. The port's count of failures rose by one, as it does nowhere else. In all, the port is called
-    /// no more often than `step` allows in the turns made, and once more where it fails. A loaded image stays contained.
+    /// Runs to an end, but at most so many turns. After an end it tells that end again. On a fault of the port the
+    /// board stands after the last whole turn, with fewer turns made than were allowed and no end met; with the turns
+    /// that are left it goes on as if nothing was. The port's count of failures rose by one, as it does nowhere else.
+    /// In all, the port is called no more often than `step` allows in the turns made, and once more where it fails. A
+    /// loaded image stays contained.
     pub fn run(&mut self, limit: u64) -> Result<Outcome, PortFault>
         ensures run { IfOk result (λ told. IsRun N limit self.old.state self.new.state) }
         ensures told { IfOk result (λ told. told ≡ outcome_of N self.new.state) }
@@ -277,7 +288,9 @@ impl<const N: usize, P: Port> Board<N, P> {
 
     /// The port, to be written to. The board then goes on with the port as it was left; the rest of the board stays.
     pub fn port_mut(&mut self) -> &mut P
-        ensures* writes_back { sem 𝓛 (Lends (the_row N.row P.row P.Port) P.row self.entry result (λ w. with_port self.old (P.input w) (P.output w) (P.failed w) (P.calls w) (P.fault w))) }
+        ensures* writes_back { sem 𝓛
+            (Lends (the_row N.row P.row P.Port) P.row self.entry result
+            (λ w. with_port self.old (P.input w) (P.output w) (P.failed w) (P.calls w) (P.fault w))) }
         ensures input { P.input result.now ≡ self.old.state.world.memory.device.input }
         ensures output { P.output result.now ≡ self.old.state.world.memory.device.output }
         ensures failed { P.failed result.now ≡ self.old.failed }

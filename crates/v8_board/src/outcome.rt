@@ -18,8 +18,8 @@ pub enum Ending {
     Limit,
 }
 
-/// What was counted since an image was loaded, or the board was made: turns, window overflows and window underflows, each up to
-/// 2^64 - 1, where a count stays.
+/// What was counted since an image was loaded, or the board was made: turns, window overflows and window underflows,
+/// each up to 2^64 - 1, where a count stays.
 #[derive(Clone, Copy)]
 pub struct Counts {
     pub turns: u64,

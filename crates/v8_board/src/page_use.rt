@@ -6,8 +6,8 @@ ghost use Rattle.v8_board.specs.Marks.{bit_of, marks, page_use_of};
 use v8_contained::{Memory, Port};
 use v8_map::{CODE_TABLE, DATA_TABLE, STACK_TABLE};
 
-/// Which pages of code, data and stack were referenced and modified: bit i of each word is R or M of the entry i of that table
-/// (appendix H).
+/// Which pages of code, data and stack were referenced and modified: bit i of each word is R or M of the entry i of
+/// that table (appendix H).
 #[derive(Clone, Copy, PartialEq, Eq)]
 pub struct PageUse {
     pub referenced: [u64; 3],

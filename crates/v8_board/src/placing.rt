@@ -50,7 +50,8 @@ fn rights_of(regions: &[Region], rights: &mut [bool; 64]) -> usize
 fn pages_of<'a>(image: &Image, rights: &'a [bool]) -> Pages<'a>
     requires rights { rights.now ≡ page_rights image.now.regions }
     requires few { length rights.now ≤ 64 }
-    ensures { record { code_count = result.code; writable = result.writable.now; stack_count = result.stack } ≡ pages_of image.now }
+    ensures { record { code_count = result.code; writable = result.writable.now; stack_count = result.stack } ≡
+        pages_of image.now }
 {
     let code = page_count(image.words().len() as u64, 1024, 64);
     Pages {
@@ -70,7 +71,8 @@ fn code_words(pages: &Pages) -> u64
 /// Places the regions of data, one after another, each from a page's start on, and 0 in the rest of its last page.
 fn place_data<P: Port>(memory: &mut Memory<P>, regions: &[Region])
     requires { length (page_rights regions.now) ≤ 64 }
-    ensures data { HasBytesOf DATA_PLACE (laid regions.now) (4096 * length (page_rights regions.now)) memory.old.ram memory.new.ram }
+    ensures data { HasBytesOf DATA_PLACE (laid regions.now)
+        (4096 * length (page_rights regions.now)) memory.old.ram memory.new.ram }
     ensures port { memory.new.port ≡ memory.old.port }
     ensures ended { memory.new.ended ≡ memory.old.ended }
     ensures stopped { memory.new.stopped ≡ memory.old.stopped }
@@ -84,8 +86,8 @@ fn place_data<P: Port>(memory: &mut Memory<P>, regions: &[Region])
     }
 }
 
-/// Places the trap table, the handlers, the tables and an image's code and data in RAM, and takes back the device's stop and the end
-/// of its input.
+/// Places the trap table, the handlers, the tables and an image's code and data in RAM, and takes back the device's
+/// stop and the end of its input.
 pub(crate) fn place<const N: usize, P: Port>(memory: &mut Memory<P>, image: &Image)
     requires at_least { 4 ≤ N }
     requires at_most { N ≤ 32 }

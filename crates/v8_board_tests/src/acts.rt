@@ -21,7 +21,8 @@ pub(crate) enum Act {
     RunAside(End, u64, u64, u32),
     /// A run of at most 100 turns is cut short by this fault of the port.
     CutShort(Fault),
-    /// The next turn is user code's in window 0, and reaches nothing: what happens, its place and its word, and the fault status then.
+    /// The next turn is user code's in window 0, and reaches nothing: what happens, its place and its word, and the
+    /// fault status then.
     User(Happening, u32, Option<u32>, u32),
     /// The next turn is the supervisor's in window 3: the same, and what it reaches.
     Supervisor(Happening, u32, Option<u32>, Option<DataAccess>, u32),
@@ -59,7 +60,8 @@ pub(crate) enum View {
     NoEnd,
 }
 
-/// Acts on a new board, whose port has this input and fails once: at its call of this number, or never if that is 0. A put fails so.
+/// Acts on a new board, whose port has this input and fails once: at its call of this number, or never if that is 0. A
+/// put fails so.
 pub(crate) struct Script {
     pub name: &'static str,
     pub input: &'static [u8],

@@ -18,7 +18,8 @@ pub(crate) fn board_over(alloc: Global, port: Probe<'static>) -> Result<Tested, 
     Board::new(alloc, port)
 }
 
-// The board's methods with long contracts are called here alone: each place that calls one costs the prover its whole contract.
+// The board's methods with long contracts are called here alone: each place that calls one costs the prover its whole
+// contract.
 
 /// Loads a board with an image.
 pub(crate) fn load_image(board: &mut Tested, image: &Image) {

@@ -59,7 +59,8 @@ fn put_regions_image(bytes: &mut Vec<u8>, words: &[u32]) -> Result<(), AllocErro
     bytes.extend_from_slice(&AFTER_CODE)
 }
 
-/// The same in version 2, with eight bytes of data that may be read alone, and on the next page eight that may be written.
+/// The same in version 2, with eight bytes of data that may be read alone, and on the next page eight that may be
+/// written.
 pub(crate) fn regions_image(alloc: Global, words: &[u32]) -> Result<Image, Fail> {
     let mut bytes = Vec::new(alloc);
     put_regions_image(&mut bytes, words)?;

@@ -1,5 +1,5 @@
-//! Memory, boards, raw runs and traces; whole programs on the plain flat machine, and on boards in step with it: tests whose expected values
-//! were worked out by hand.
+//! Memory, boards, raw runs and traces; whole programs on the plain flat machine, and on boards in step with it: tests
+//! whose expected values were worked out by hand.
 #![tactic(auto)]
 
 #[cfg(test)]

@@ -1,5 +1,5 @@
-//! Boards in step with the flat machine: at each turn of user code they have the same PC, nPC, condition codes, Y, registers and output,
-//! as far as these don't depend on the words that a start and new frames leave open.
+//! Boards in step with the flat machine: at each turn of user code they have the same PC, nPC, condition codes, Y,
+//! registers and output, as far as these don't depend on the words that a start and new frames leave open.
 ghost use Rattle.std.specs.Prelude.{◌≡◌, ◌+◌, ◌*◌, ◌%◌, ◌≤◌};
 
 use crate::rows::{ROWS, Row};
@@ -46,8 +46,8 @@ fn copy<'a, const N: usize>(
     }
 }
 
-/// A machine with this input and with what loading has placed: trap table, handlers and tables, and the first page of code. All else of a new
-/// board's RAM is 0.
+/// A machine with this input and with what loading has placed: trap table, handlers and tables, and the first page of
+/// code. All else of a new board's RAM is 0.
 fn machine_of<'a, const N: usize>(
     alloc: Global,
     board: &Board<N, SlicePort<'a>>,
@@ -81,7 +81,8 @@ struct Shown {
     registers: [u32; 32],
 }
 
-/// What the lockstep asks of boards, whatever their number of windows: so what it does itself is proved without their contracts.
+/// What the lockstep asks of boards, whatever their number of windows: so what it does itself is proved without their
+/// contracts.
 trait Stepping {
     /// What they show, if user code has the turn.
     fn shown(&self) -> Option<Shown>;
@@ -359,7 +360,8 @@ fn are_in_step<const N: usize>(alloc: Global, image: &Image, windows: u32, row: 
     }
 }
 
-/// Returns from the function with what is so on as many windows as there are, if that is one of these numbers, which rise.
+/// Returns from the function with what is so on as many windows as there are, if that is one of these numbers, which
+/// rise.
 macro_rules! return_on {
     ($windows:ident, $alloc:ident, $image:ident, $row:ident: $($count:literal)*) => {
         $(

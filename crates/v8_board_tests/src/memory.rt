@@ -53,7 +53,8 @@ fn asks_after_a_restart(memory: &mut Memory<Probe<'_>>) -> bool {
     loads(memory, 0xFFFF_FFFF, 4) && kept(memory, 4, b"") && memory.stop().is_none()
 }
 
-/// A load of the first register gives the next byte of input, and all ones at its end. From then on the port isn't asked.
+/// A load of the first register gives the next byte of input, and all ones at its end. From then on the port isn't
+/// asked.
 #[test]
 fn loads_give_the_input_and_its_end(rt: HostRuntime) -> Result<(), Fail> {
     let mut memory = memory(rt.alloc(), b"a\xFF")?;
@@ -87,7 +88,8 @@ fn stores_each(memory: &mut Memory<Probe<'_>>) -> bool {
     true
 }
 
-/// A store to the second register puts the low byte out, one to the third stops with its word, one to the fourth as trapped.
+/// A store to the second register puts the low byte out, one to the third stops with its word, one to the fourth as
+/// trapped.
 #[test]
 fn stores_put_out_and_stop(rt: HostRuntime) -> Result<(), Fail> {
     let mut memory = memory(rt.alloc(), b"a")?;
@@ -158,7 +160,8 @@ fn answers_no_word(memory: &mut Memory<Probe<'_>>) -> bool {
         && is_untouched(memory)
 }
 
-/// A word at a register that doesn't answer its kind of access, or past the last one: nothing answers, and the port isn't called.
+/// A word at a register that doesn't answer its kind of access, or past the last one: nothing answers, and the port
+/// isn't called.
 #[test]
 fn words_elsewhere_are_not_answered(rt: HostRuntime) -> Result<(), Fail> {
     let mut memory = memory(rt.alloc(), b"a")?;

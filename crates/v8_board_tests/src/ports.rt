@@ -26,8 +26,8 @@ impl Fault {
     }
 }
 
-/// A port that takes its input from a slice, keeps its output and counts how often it is called. It fails once, at the call of the
-/// number `fails` from here on, or never if that is 0; a failing put tells the fault `at_put`.
+/// A port that takes its input from a slice, keeps its output and counts how often it is called. It fails once, at the
+/// call of the number `fails` from here on, or never if that is 0; a failing put tells the fault `at_put`.
 #[derive(Drop)]
 pub(crate) struct Probe<'a> {
     pub(crate) left: &'a [u8],

@@ -6,7 +6,8 @@ use std::alloc::{AllocError, Global};
 
 /// Copies at most 1,000 bytes of input to the output.
 ///
-/// `save %sp,-96,%sp; mov 1000,%l0; loop: ta 1; cmp %o0,-1; be done; nop; ta 2; deccc %l0; bne loop; nop; done: mov 0,%o0; ta 0`
+/// `save %sp,-96,%sp; mov 1000,%l0; loop: ta 1; cmp %o0,-1; be done; nop; ta 2; deccc %l0; bne loop; nop; done: mov
+/// 0,%o0; ta 0`
 pub const ECHO: [u32; 12] = [
     0x9DE3_BFA0,
     0xA010_23E8,
@@ -39,9 +40,9 @@ pub const INCREMENT: [u32; 9] = [
 
 /// Five rounds of a call with a frame and one without; puts the last word out.
 ///
-/// `save %sp,-96,%sp; mov 5,%l0; mov 1,%l2; loop: call framed; mov %l2,%o0; call leaf; xor %o0,%l0,%o0; mov %o0,%l2; deccc %l0;
-/// bne loop; nop; srl %l2,24,%o0; ta 2; srl %l2,16,%o0; ta 2; srl %l2,8,%o0; ta 2; mov %l2,%o0; ta 2; mov 0,%o0; ta 0; save
-/// %sp,-96,%sp; sll %i0,3,%l0; ret; restore %i0,%l0,%o0; srl %o0,5,%o1; retl; xor %o0,%o1,%o0`
+/// `save %sp,-96,%sp; mov 5,%l0; mov 1,%l2; loop: call framed; mov %l2,%o0; call leaf; xor %o0,%l0,%o0; mov %o0,%l2;
+/// deccc %l0; bne loop; nop; srl %l2,24,%o0; ta 2; srl %l2,16,%o0; ta 2; srl %l2,8,%o0; ta 2; mov %l2,%o0; ta 2; mov
+/// 0,%o0; ta 0; save %sp,-96,%sp; sll %i0,3,%l0; ret; restore %i0,%l0,%o0; srl %o0,5,%o1; retl; xor %o0,%o1,%o0`
 pub const CALLS: [u32; 28] = [
     0x9DE3_BFA0,
     0xA010_2005,
@@ -75,10 +76,11 @@ pub const CALLS: [u32; 28] = [
 
 /// Three rounds of multiplications and divisions with Y; puts the last word out.
 ///
-/// `save %sp,-96,%sp; mov 3,%l0; mov 1,%l1; mov 0,%l2; set 1103515245,%l3; loop: umul %l1,%l3,%l1; rd %y,%o1; add %l1,1013,%l1;
-/// xor %l2,%o1,%l2; srl %l1,16,%o2; or %o2,1,%o2; wr %g0,0,%y; udiv %l1,%o2,%o3; add %l2,%o3,%l2; sra %l1,31,%o4; wr %o4,0,%y;
-/// sdiv %l1,%o2,%o5; xor %l2,%o5,%l2; smul %o5,%o2,%o5; sub %l1,%o5,%o5; add %l2,%o5,%l2; deccc %l0; bne loop; nop; srl
-/// %l2,24,%o0; ta 2; srl %l2,16,%o0; ta 2; srl %l2,8,%o0; ta 2; mov %l2,%o0; ta 2; mov 0,%o0; ta 0`
+/// `save %sp,-96,%sp; mov 3,%l0; mov 1,%l1; mov 0,%l2; set 1103515245,%l3; loop: umul %l1,%l3,%l1; rd %y,%o1; add
+/// %l1,1013,%l1; xor %l2,%o1,%l2; srl %l1,16,%o2; or %o2,1,%o2; wr %g0,0,%y; udiv %l1,%o2,%o3; add %l2,%o3,%l2; sra
+/// %l1,31,%o4; wr %o4,0,%y; sdiv %l1,%o2,%o5; xor %l2,%o5,%l2; smul %o5,%o2,%o5; sub %l1,%o5,%o5; add %l2,%o5,%l2;
+/// deccc %l0; bne loop; nop; srl %l2,24,%o0; ta 2; srl %l2,16,%o0; ta 2; srl %l2,8,%o0; ta 2; mov %l2,%o0; ta 2; mov
+/// 0,%o0; ta 0`
 pub const MULTIPLY: [u32; 35] = [
     0x9DE3_BFA0,
     0xA010_2003,
@@ -119,11 +121,11 @@ pub const MULTIPLY: [u32; 35] = [
 
 /// Puts out the CRC-32 of the input, by a table that it makes first.
 ///
-/// `save %sp,-96,%sp; set 524288,%l0; set 0xEDB88320,%l4; mov 256,%l1; cellk: sub %l1,1,%l2; mov 8,%l3; bit: and %l2,1,%o0; neg
-/// %o0; and %o0,%l4,%o0; srl %l2,1,%l2; deccc %l3; bne bit; xor %l2,%o0,%l2; deccc %l1; sll %l1,2,%o1; bne cellk; st
-/// %l2,[%l0+%o1]; mov 4000,%l3; mov -1,%l2; next: ta 1; cmp %o0,-1; be fin; nop; xor %l2,%o0,%o1; and %o1,255,%o1; sll
-/// %o1,2,%o1; ld [%l0+%o1],%o1; srl %l2,8,%l2; deccc %l3; bne next; xor %l2,%o1,%l2; fin: not %l2; srl %l2,24,%o0; ta 2; srl
-/// %l2,16,%o0; ta 2; srl %l2,8,%o0; ta 2; mov %l2,%o0; ta 2; mov 0,%o0; ta 0`
+/// `save %sp,-96,%sp; set 524288,%l0; set 0xEDB88320,%l4; mov 256,%l1; cellk: sub %l1,1,%l2; mov 8,%l3; bit: and
+/// %l2,1,%o0; neg %o0; and %o0,%l4,%o0; srl %l2,1,%l2; deccc %l3; bne bit; xor %l2,%o0,%l2; deccc %l1; sll %l1,2,%o1;
+/// bne cellk; st %l2,[%l0+%o1]; mov 4000,%l3; mov -1,%l2; next: ta 1; cmp %o0,-1; be fin; nop; xor %l2,%o0,%o1; and
+/// %o1,255,%o1; sll %o1,2,%o1; ld [%l0+%o1],%o1; srl %l2,8,%l2; deccc %l3; bne next; xor %l2,%o1,%l2; fin: not %l2; srl
+/// %l2,24,%o0; ta 2; srl %l2,16,%o0; ta 2; srl %l2,8,%o0; ta 2; mov %l2,%o0; ta 2; mov 0,%o0; ta 0`
 pub const CHECKSUM: [u32; 43] = [
     0x9DE3_BFA0,
     0x2100_0200,
@@ -170,12 +172,14 @@ pub const CHECKSUM: [u32; 43] = [
     0x91D0_2000,
 ];
 
-/// Counts the numbers from 2 to 1023 that are no primes, by marking the multiples of each prime in the data; puts the count out.
+/// Counts the numbers from 2 to 1023 that are no primes, by marking the multiples of each prime in the data; puts the
+/// count out.
 ///
-/// `save %sp,-96,%sp; set 524288,%l0; mov 1024,%l4; mov 0,%l2; mov %l4,%l3; clear: deccc %l3; bne clear; stb %g0,[%l0+%l3]; mov 2,%l1;
-/// prime: ldub [%l0+%l1],%o0; tst %o0; bne nextp; nop; smul %l1,%l1,%l3; mov 1,%l5; mark: stb %l5,[%l0+%l3]; add %l3,%l1,%l3; cmp
-/// %l3,%l4; bl mark; nop; nextp: inc %l1; cmp %l1,32; bl prime; nop; mov %l4,%l3; mov 0,%l2; count: deccc %l3; ldub [%l0+%l3],%o0; bne
-/// count; add %l2,%o0,%l2; srl %l2,24,%o0; ta 2; srl %l2,16,%o0; ta 2; srl %l2,8,%o0; ta 2; mov %l2,%o0; ta 2; mov 0,%o0; ta 0`
+/// `save %sp,-96,%sp; set 524288,%l0; mov 1024,%l4; mov 0,%l2; mov %l4,%l3; clear: deccc %l3; bne clear; stb
+/// %g0,[%l0+%l3]; mov 2,%l1; prime: ldub [%l0+%l1],%o0; tst %o0; bne nextp; nop; smul %l1,%l1,%l3; mov 1,%l5; mark: stb
+/// %l5,[%l0+%l3]; add %l3,%l1,%l3; cmp %l3,%l4; bl mark; nop; nextp: inc %l1; cmp %l1,32; bl prime; nop; mov %l4,%l3;
+/// mov 0,%l2; count: deccc %l3; ldub [%l0+%l3],%o0; bne count; add %l2,%o0,%l2; srl %l2,24,%o0; ta 2; srl %l2,16,%o0;
+/// ta 2; srl %l2,8,%o0; ta 2; mov %l2,%o0; ta 2; mov 0,%o0; ta 0`
 pub const SIEVE: [u32; 40] = [
     0x9DE3_BFA0,
     0x2100_0200,

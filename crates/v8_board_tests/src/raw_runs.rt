@@ -10,8 +10,9 @@ use std::alloc::{AllocError, Global};
 use std::process::Abort;
 use std::test::Fail;
 
-/// A program with its data, on so many windows, with this input and at most so many turns; and how its raw run ends: with its turns,
-/// overflows and underflows, the fault status, the output, and where they are told the pages that were referenced and modified.
+/// A program with its data, on so many windows, with this input and at most so many turns; and how its raw run ends:
+/// with its turns, overflows and underflows, the fault status, the output, and where they are told the pages that were
+/// referenced and modified.
 struct Run {
     code: Code,
     data: &'static [u8],
@@ -84,9 +85,9 @@ macro_rules! over_data {
 
 /// Whatever the machine keeps of a page, a store after a load of it marks it as modified.
 ///
-/// Windows are stored and loaded where there are too few, and every function of a chain returns to its caller. Of the 40 SAVEs all but
-/// the first N - 2 overflow, and of the 39 RESTOREs all but the first N - 2 underflow; each takes 24 turns more, the trap and the
-/// handler's 23.
+/// Windows are stored and loaded where there are too few, and every function of a chain returns to its caller. Of the
+/// 40 SAVEs all but the first N - 2 overflow, and of the 39 RESTOREs all but the first N - 2 underflow; each takes 24
+/// turns more, the trap and the handler's 23.
 static RUNS: [Run; 21] = [
     // as many turns as a second takes
     words!(&[0x1080_0000, NOP], 20_000_000 => End::Limit, [20_000_000, 0, 0], 0),

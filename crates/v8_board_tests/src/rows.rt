@@ -22,8 +22,8 @@ impl Code {
     }
 }
 
-/// What a program gives on an input, and what its path comes to: its steps, its weight, its turns where there are windows enough, the
-/// overflows on four windows, and how many of them each window more spares.
+/// What a program gives on an input, and what its path comes to: its steps, its weight, its turns where there are
+/// windows enough, the overflows on four windows, and how many of them each window more spares.
 #[derive(Clone, Copy)]
 pub struct Row {
     pub name: &'static str,
@@ -150,7 +150,8 @@ pub static ROWS: [Row; 9] = [
     },
 ];
 
-/// Paths of some fifteen thousand places, without a call. Below 1,024 there are 172 primes, so that 850 numbers from 2 on are none.
+/// Paths of some fifteen thousand places, without a call. Below 1,024 there are 172 primes, so that 850 numbers from 2
+/// on are none.
 pub static LOOPS: [Row; 2] = [
     Row {
         name: "checksum",
@@ -179,8 +180,8 @@ pub static LOOPS: [Row; 2] = [
 ];
 
 impl Row {
-    /// The overflows, underflows and turns on so many windows. The first function's SAVE is never undone, so there is an underflow
-    /// less; and each of them takes 24 turns, its trap and the handler's 23.
+    /// The overflows, underflows and turns on so many windows. The first function's SAVE is never undone, so there is
+    /// an underflow less; and each of them takes 24 turns, its trap and the handler's 23.
     pub(crate) fn counts_on(&self, windows: u32) -> (u64, u64, u64) {
         let more = u64::from(windows.saturating_sub(4));
         let overflows = self

@@ -43,8 +43,8 @@ const WORKED_OUT: [Act; 20] = [
 // mov 72,%o0 between the puts
 const GETS_AND_PUTS: [u32; 5] = [GET, PUT, 0x9010_2048, PUT, EXIT];
 
-/// The port fails once, at a get. The run goes on with that call, and ends as if the port had not failed: 5 turns for each get and put, 1
-/// for the OR, 3 for the exit.
+/// The port fails once, at a get. The run goes on with that call, and ends as if the port had not failed: 5 turns for
+/// each get and put, 1 for the OR, 3 for the exit.
 const AFTER_A_GET: [Act; 5] = [
     Act::Load(&GETS_AND_PUTS, &[]),
     Act::CutShort(Fault::Reader),
@@ -62,8 +62,8 @@ const AFTER_A_PUT: [Act; 5] = [
     Act::Shows(View::Output(b"\xFFH")),
 ];
 
-/// A port that has no memory for a byte is asked for it again, and the run then ends as if there had been memory: each turn is counted
-/// once, that which failed too.
+/// A port that has no memory for a byte is asked for it again, and the run then ends as if there had been memory: each
+/// turn is counted once, that which failed too.
 const AFTER_WANT_OF_MEMORY: [Act; 6] = [
     Act::Load(&ECHO, &[]),
     Act::CutShort(Fault::Memory),
@@ -86,8 +86,8 @@ const OVERFLOWS: [u32; 9] = [
     EXIT,
 ];
 
-/// A run leaves the trap table, the handlers, the tables, the code and the data as they were loaded, but for R and M: the first code page
-/// and the last stack page are marked.
+/// A run leaves the trap table, the handlers, the tables, the code and the data as they were loaded, but for R and M:
+/// the first code page and the last stack page are marked.
 const ASIDE: [Act; 8] = [
     Act::Load(&OVERFLOWS, &[]),
     Act::Shows(View::Pages(NO_PAGES, NO_PAGES)),
@@ -99,8 +99,9 @@ const ASIDE: [Act; 8] = [
     Act::Shows(View::Word(0x2CFC, 0x9F66)),
 ];
 
-/// SAVEs whose first spill is refused: the machine ends in error mode, nothing is put out, and below the stack nothing but R of pages
-/// that were fetched from has changed. The entries of the last stack page and of the device are without a mark.
+/// SAVEs whose first spill is refused: the machine ends in error mode, nothing is put out, and below the stack nothing
+/// but R of pages that were fetched from has changed. The entries of the last stack page and of the device are without
+/// a mark.
 const REFUSED_AT_THE_DEVICE: [Act; 10] = [
     Act::Load(&INTO_THE_DEVICE, &[]),
     Act::Shows(View::Word(0x2A00, 0x1012)),
@@ -128,8 +129,8 @@ const REFUSED_AT_THE_CODE: [Act; 10] = [
     Act::Shows(View::Word(0x2D40, 0x1000_001E)),
 ];
 
-/// A board that has run an image with a page of data is loaded with one without, whose load finds no page there, and with the first
-/// again, whose pages have no marks but its own.
+/// A board that has run an image with a page of data is loaded with one without, whose load finds no page there, and
+/// with the first again, whose pages have no marks but its own.
 const OWN_PAGES: [Act; 9] = [
     Act::Load(&STORES_AFTER_A_LOAD, &[0; 8]),
     Act::Run(End::Exit(0), 7, 0, 0),

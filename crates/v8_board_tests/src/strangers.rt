@@ -31,8 +31,9 @@ impl Dice {
     }
 }
 
-/// The upper 22 bits of addresses: code, data that may be read alone, data that may be written, stack, the trap table, the handlers, the
-/// device, the page tables as they lie in physical memory, and a page of user code's that isn't mapped.
+/// The upper 22 bits of addresses: code, data that may be read alone, data that may be written, stack, the trap table,
+/// the handlers, the device, the page tables as they lie in physical memory, and a page of user code's that isn't
+/// mapped.
 const PLACES: [u32; 9] = [
     0x100, 0x200, 0x204, 0x3FF, 0x3C_0000, 0x3C_0004, 0x3C_0040, 0x8, 0x3C0,
 ];
@@ -60,7 +61,8 @@ fn transfer(dice: &mut Dice) -> u32 {
     0xC000_2000 | registers(dice) | (TRANSFERS[chosen] << 19) | offset
 }
 
-/// Any instruction of the arithmetic format, with an immediate: results, windows, jumps, traps, state registers, illegal ones.
+/// Any instruction of the arithmetic format, with an immediate: results, windows, jumps, traps, state registers,
+/// illegal ones.
 fn result(dice: &mut Dice) -> u32 {
     0x8000_2000 | registers(dice) | (dice.throw(64) << 19) | dice.throw(0x2000)
 }
@@ -103,8 +105,8 @@ fn stranger(dice: &mut Dice) -> [u32; 24] {
     words
 }
 
-/// Whether bytes lie in the one page of stack or the page of data that may be written, or, of a load, in the page that may be read alone:
-/// all of them where they are aligned.
+/// Whether bytes lie in the one page of stack or the page of data that may be written, or, of a load, in the page that
+/// may be read alone: all of them where they are aligned.
 fn is_own(access: &DataAccess) -> bool {
     match access.va >> 12 {
         0x81 | 0xFF => true,
@@ -118,7 +120,8 @@ fn is_by_vector(pc: u32, access: &DataAccess) -> bool {
     access.va >> 12 != 0xF_0010 || ((0xF000_0000..0xF000_1000).contains(&pc) && pc % 16 == 4)
 }
 
-/// Whether a turn fetched and reached nothing but what it may: user code the one page of code, those of the data and that of the stack.
+/// Whether a turn fetched and reached nothing but what it may: user code the one page of code, those of the data and
+/// that of the stack.
 fn is_allowed(turn: &Turn) -> bool {
     let fetched = !turn.user || turn.word.is_none() || (0x4_0000..0x4_1000).contains(&turn.pc);
     match &turn.access {
@@ -220,7 +223,8 @@ fn contained_on_a_board(alloc: Global, ends: &mut Ends) -> Result<u32, Fail> {
     contained(&mut watched, alloc, ends)
 }
 
-/// A thousand programs of chance, one after another on one board: none changes what was loaded with it, or reaches what isn't its own.
+/// A thousand programs of chance, one after another on one board: none changes what was loaded with it, or reaches what
+/// isn't its own.
 #[test]
 fn strangers_are_contained(rt: HostRuntime) -> Result<(), Fail> {
     let mut ends = Ends {

@@ -249,7 +249,8 @@ fn gets_the_front(alloc: Global, room: usize, fails: bool, whole: bool) -> Resul
     Ok(is_traced && has_the_front(&out, room))
 }
 
-/// How much room a writer has, whether it fails or takes nothing where that is used up, and whether it gets the whole trace.
+/// How much room a writer has, whether it fails or takes nothing where that is used up, and whether it gets the whole
+/// trace.
 const FRONTS: [(usize, bool, bool); 5] = [
     (60, true, false),
     (60, false, false),

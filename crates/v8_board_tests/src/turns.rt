@@ -57,7 +57,8 @@ const REFUSED: [Act; 8] = [
     ),
 ];
 
-/// `ba,a` over a SAVE, and `bne,a` not taken over a store: the slot is one turn that changes neither the window nor memory.
+/// `ba,a` over a SAVE, and `bne,a` not taken over a store: the slot is one turn that changes neither the window nor
+/// memory.
 const ANNULLED: [Act; 16] = [
     Act::Load(&[0x3080_0002, SAVE, NOP], &[]),
     Act::Steps(1),
@@ -85,8 +86,8 @@ const PUTS: DataAccess = DataAccess {
     store: true,
 };
 
-/// A store to the device whose port fails leaves everything as it was; the same store completes once the port works, and marks the
-/// entry that maps the device.
+/// A store to the device whose port fails leaves everything as it was; the same store completes once the port works,
+/// and marks the entry that maps the device.
 const STORED_AGAIN: [Act; 12] = [
     Act::Load(&GREETING, &[]),
     Act::Steps(1),

@@ -49,7 +49,8 @@ device_silent d pa size e = rw e tt
 abbrev pub IsCalm : ℕ → Size → Type 0
 IsCalm pa size = (pa < 0x100000000) ⊎ (is_word size ≡ false)
 
-load_by : (ram : List ℕ) (d : Device) (pa : ℕ) (size : Size) (b : Bool) → nat_lt pa device_base ≡ b → IsCalm pa size → LoadsSame d pa size (cond b (beside d (number_at ram pa size)) (device_load d (pa - device_base) size))
+load_by : (ram : List ℕ) (d : Device) (pa : ℕ) (size : Size) (b : Bool) → nat_lt pa device_base ≡ b → IsCalm pa size →
+    LoadsSame d pa size (cond b (beside d (number_at ram pa size)) (device_load d (pa - device_base) size))
 load_by ram d pa size true e calm = beside_same ram d pa size (number_at ram pa size) refl
 load_by ram d pa size false e (inl low) = let no : 0x100000000 ≤ pa = grind (arith, nat_tests) in absurd (omega arith)
 load_by ram d pa size false e (inr silent) = device_silent d pa size silent
@@ -62,21 +63,25 @@ abbrev StoresSame : ℕ → Pages → Contents → Device → ℕ → Size → O
 StoresSame n g held d pa size None = Unit
 StoresSame n g held d pa size (Some x) = IsKept n g held x.0 × (x.1 ≡ d) × (pa % bytes_in size ≡ 0)
 
-over_same : (n : ℕ) (g : Pages) (held : Contents) (ram : List ℕ) (d : Device) (pa : ℕ) (size : Size) (v : ℕ) (o : Option ℕ) → AreFew g → IsKept n g held ram → IsFree g pa → number_at ram pa size ≡ o → StoresSame n g held d pa size (overwritten ram d pa size v o)
+over_same : (n : ℕ) (g : Pages) (held : Contents) (ram : List ℕ) (d : Device) (pa : ℕ) (size : Size) (v : ℕ) (o : Option ℕ) → AreFew g → IsKept n g held ram →
+    IsFree g pa → number_at ram pa size ≡ o → StoresSame n g held d pa size (overwritten ram d pa size v o)
 over_same n g held ram d pa size v None few kept free e = tt
 over_same n g held ram d pa size v (Some was) few kept free e = (number_stored n g held ram pa size was v few kept e free, refl, (number_is ram pa size was e).aligned)
 
-device_deaf : (n : ℕ) (g : Pages) (held : Contents) (ram : List ℕ) (d : Device) (pa : ℕ) (size : Size) (v : ℕ) → is_word size ≡ false → StoresSame n g held d pa size (with_ram ram (device_store d (pa - device_base) size v))
+device_deaf : (n : ℕ) (g : Pages) (held : Contents) (ram : List ℕ) (d : Device) (pa : ℕ) (size : Size) (v : ℕ) → is_word size ≡ false →
+    StoresSame n g held d pa size (with_ram ram (device_store d (pa - device_base) size v))
 unfolding device_store
 device_deaf n g held ram d pa size v e = rw e tt
 
-store_by : (n : ℕ) (g : Pages) (held : Contents) (ram : List ℕ) (d : Device) (pa : ℕ) (size : Size) (v : ℕ) (b : Bool) → AreFew g → IsKept n g held ram → IsFree g pa → nat_lt pa device_base ≡ b → IsCalm pa size →
+store_by : (n : ℕ) (g : Pages) (held : Contents) (ram : List ℕ) (d : Device) (pa : ℕ) (size : Size) (v : ℕ) (b : Bool) → AreFew g → IsKept n g held ram →
+    IsFree g pa → nat_lt pa device_base ≡ b → IsCalm pa size →
     StoresSame n g held d pa size (cond b (overwritten ram d pa size v (number_at ram pa size)) (with_ram ram (device_store d (pa - device_base) size v)))
 store_by n g held ram d pa size v true few kept free e calm = over_same n g held ram d pa size v (number_at ram pa size) few kept free refl
 store_by n g held ram d pa size v false few kept free e (inl less) = let no : 0x100000000 ≤ pa = grind (arith, nat_tests) in absurd (omega arith)
 store_by n g held ram d pa size v false few kept free e (inr silent) = device_deaf n g held ram d pa size v silent
 
-board_stores : (n : ℕ) (g : Pages) (held : Contents) (ram : List ℕ) (d : Device) (pa : ℕ) (size : Size) (v : ℕ) → AreFew g → IsKept n g held ram → IsFree g pa → IsCalm pa size → StoresSame n g held d pa size (board_store ram d pa size v)
+board_stores : (n : ℕ) (g : Pages) (held : Contents) (ram : List ℕ) (d : Device) (pa : ℕ) (size : Size) (v : ℕ) → AreFew g → IsKept n g held ram → IsFree g pa →
+    IsCalm pa size → StoresSame n g held d pa size (board_store ram d pa size v)
 unfolding board_store
 board_stores n g held ram d pa size v few kept free calm = store_by n g held ram d pa size v (nat_lt pa device_base) few kept free refl calm
 
@@ -114,7 +119,8 @@ data_reached g va low high = either_left (in_data g va) (in_stack g va) (inside 
 
 free_reached : (g : Pages) (va : ℕ) (store : Bool) → 0x80000 ≤ va → va < 0x80000 + 4096 * data_count g → is_writable g ((va - 0x80000) / 4096) ≡ true → may_be_reached g store va ≡ true
 free_reached g va true low high right =
-    either_left (in_data g va && is_writable g (data_number va)) (in_stack g va) (both_true (in_data g va) (is_writable g (data_number va)) (inside 0x80000 (0x80000 + 4096 * data_count g) va low high) right)
+    either_left (in_data g va && is_writable g (data_number va)) (in_stack g va)
+    (both_true (in_data g va) (is_writable g (data_number va)) (inside 0x80000 (0x80000 + 4096 * data_count g) va low high) right)
 free_reached g va false low high right = data_reached g va low high
 
 -- the bytes of an aligned number lie in one page
@@ -179,7 +185,8 @@ fixed_safe g user va pa acc place size few h =
     by_user true whole = fixed_owns g va pa acc place size h whole
     by_user false whole = tt
 
-safe : (g : Pages) (user store : Bool) (va pa acc place : ℕ) (size : Size) → AreFew g → IsQuiet user size → Kind g va (mapped pa acc place) → permits (rights_of acc user) (data_kind store) ≡ true → Safe g user store va pa size
+safe : (g : Pages) (user store : Bool) (va pa acc place : ℕ) (size : Size) → AreFew g → IsQuiet user size → Kind g va (mapped pa acc place) →
+    permits (rights_of acc user) (data_kind store) ≡ true → Safe g user store va pa size
 safe g user store va pa acc place size few quiet (Writable h) may = writable_safe g user store va pa acc place size few h
 safe g user false va pa acc place size few quiet (Fixed h) may = fixed_safe g user va pa acc place size few h
 safe g true true va pa acc place size few quiet (Fixed h) may = absurd (let no : false ≡ true = rw h.acc at may in cc)
@@ -204,24 +211,31 @@ abbrev SwapsSame : ℕ → Pages → Contents → Device → ℕ → Size → Op
 SwapsSame n g held d pa size None = Unit
 SwapsSame n g held d pa size (Some x) = IsKept n g held x.1 × (x.2 ≡ d) × (pa % bytes_in size ≡ 0)
 
-stored_same : (n : ℕ) (g : Pages) (held : Contents) (d : Device) (pa : ℕ) (size : Size) (was : ℕ) (o : Option (List ℕ × Device)) → StoresSame n g held d pa size o → SwapsSame n g held d pa size (stored_after was o)
+stored_same : (n : ℕ) (g : Pages) (held : Contents) (d : Device) (pa : ℕ) (size : Size) (was : ℕ) (o : Option (List ℕ × Device)) →
+    StoresSame n g held d pa size o → SwapsSame n g held d pa size (stored_after was o)
 stored_same n g held d pa size was None same = tt
 stored_same n g held d pa size was (Some x) same = same
 
-exchange_same : (n : ℕ) (g : Pages) (held : Contents) (ram : List ℕ) (d : Device) (pa : ℕ) (size : Size) (v : ℕ) (o : Option (ℕ × Device)) → AreFew g → IsKept n g held ram → IsFree g pa → IsCalm pa size → LoadsSame d pa size o → SwapsSame n g held d pa size (exchanged_after board_store ram pa size v o)
+exchange_same : (n : ℕ) (g : Pages) (held : Contents) (ram : List ℕ) (d : Device) (pa : ℕ) (size : Size) (v : ℕ) (o : Option (ℕ × Device)) → AreFew g →
+    IsKept n g held ram → IsFree g pa → IsCalm pa size → LoadsSame d pa size o → SwapsSame n g held d pa size (exchanged_after board_store ram pa size v o)
 exchange_same n g held ram d pa size v None few kept free calm same = tt
 exchange_same n g held ram d pa size v (Some x) few kept free calm same =
-    subst (λ e. SwapsSame n g held d pa size (stored_after x.0 (board_store ram e pa size v))) (sym same.0) (stored_same n g held d pa size x.0 (board_store ram d pa size v) (board_stores n g held ram d pa size v few kept free calm))
+    subst (λ e. SwapsSame n g held d pa size (stored_after x.0 (board_store ram e pa size v))) (sym same.0)
+    (stored_same n g held d pa size x.0 (board_store ram d pa size v) (board_stores n g held ram d pa size v few kept free calm))
 
-loaded_same : (n : ℕ) (g : Pages) (held : Contents) (ram : List ℕ) (d : Device) (pa : ℕ) (size : Size) (o : Option (ℕ × Device)) → IsKept n g held ram → LoadsSame d pa size o → SwapsSame n g held d pa size (loaded_from ram o)
+loaded_same : (n : ℕ) (g : Pages) (held : Contents) (ram : List ℕ) (d : Device) (pa : ℕ) (size : Size) (o : Option (ℕ × Device)) → IsKept n g held ram →
+    LoadsSame d pa size o → SwapsSame n g held d pa size (loaded_from ram o)
 loaded_same n g held ram d pa size None kept same = tt
 loaded_same n g held ram d pa size (Some x) kept same = (kept, same.0, same.1)
 
 -- a load may be from anywhere that is calm, the others go to where nothing lies that stays
-answers_same : (n : ℕ) (g : Pages) (held : Contents) (ram : List ℕ) (d : Device) (pa : ℕ) (t : Transfer) (v : ℕ) → AreFew g → IsKept n g held ram → (writes_memory t ≡ true → IsFree g pa) → IsCalm pa (size_of t) →
+answers_same : (n : ℕ) (g : Pages) (held : Contents) (ram : List ℕ) (d : Device) (pa : ℕ) (t : Transfer) (v : ℕ) → AreFew g → IsKept n g held ram →
+    (writes_memory t ≡ true → IsFree g pa) → IsCalm pa (size_of t) →
     SwapsSame n g held d pa (size_of t) (answers board ram d pa t v)
-answers_same n g held ram d pa (transfers.Load l) v few kept free calm = loaded_same n g held ram d pa (loaded_size l) (board_load ram d pa (loaded_size l)) kept (board_loads ram d pa (loaded_size l) calm)
-answers_same n g held ram d pa (transfers.Store size) v few kept free calm = stored_same n g held d pa size 0 (board_store ram d pa size v) (board_stores n g held ram d pa size v few kept (free refl) calm)
+answers_same n g held ram d pa (transfers.Load l) v few kept free calm =
+    loaded_same n g held ram d pa (loaded_size l) (board_load ram d pa (loaded_size l)) kept (board_loads ram d pa (loaded_size l) calm)
+answers_same n g held ram d pa (transfers.Store size) v few kept free calm =
+    stored_same n g held d pa size 0 (board_store ram d pa size v) (board_stores n g held ram d pa size v few kept (free refl) calm)
 answers_same n g held ram d pa (transfers.Exchange e) v few kept free calm =
     let size = exchanged_size e in
     exchange_same n g held ram d pa size v (board_load ram d pa size) few kept (free refl) calm (board_loads ram d pa size calm)
@@ -239,7 +253,8 @@ pub record MoveIs (n : ℕ) (g : Pages) (held : Contents) (d : Device) (user sto
   pub owns : OnDone r.0 (Owns g user store va size)
 
 move_answer : (n : ℕ) (g : Pages) (held : Contents) (ram : List ℕ) (d : Device) (a : Access) (store : Bool) (va : ℕ) (size : Size) (page : Page) (o : Option (ℕ × List ℕ × Device)) →
-    IsKept n g held ram → SwapsSame n g held d page.pa size o → (page.pa % bytes_in size ≡ 0 → Owns g a.user store va size) → MoveIs n g held d a.user store va size (move_answered (mem_of ram d) page a o)
+    IsKept n g held ram → SwapsSame n g held d page.pa size o → (page.pa % bytes_in size ≡ 0 → Owns g a.user store va size) →
+    MoveIs n g held d a.user store va size (move_answered (mem_of ram d) page a o)
 move_answer n g held ram d a store va size page None kept same owns = record { kept = kept; device = refl; owns = tt }
 move_answer n g held ram d a store va size page (Some x) kept same owns = record { kept = same.0; device = same.1; owns = owns same.2 }
 
@@ -247,7 +262,8 @@ move_answer n g held ram d a store va size page (Some x) kept same owns = record
 abbrev pub data_access : Bool → Transfer → Access
 data_access user t = record { user = user; kind = data_kind (writes_memory t) }
 
-move_reached : (n : ℕ) (g : Pages) (held : Contents) (ram : List ℕ) (d : Device) (user : Bool) (va : ℕ) (t : Transfer) (v : ℕ) (r : Result Page MmuFault) → AreFew g → IsKept n g held ram → IsQuiet user (size_of t) → Reached g ram va (data_access user t) r →
+move_reached : (n : ℕ) (g : Pages) (held : Contents) (ram : List ℕ) (d : Device) (user : Bool) (va : ℕ) (t : Transfer) (v : ℕ) (r : Result Page MmuFault) →
+    AreFew g → IsKept n g held ram → IsQuiet user (size_of t) → Reached g ram va (data_access user t) r →
     MoveIs n g held d user (writes_memory t) va (size_of t) (move_through board (data_access user t) t v (mem_of ram d) r)
 move_reached n g held ram d user va t v (Err e) few kept quiet reach = record { kept = kept; device = refl; owns = tt }
 move_reached n g held ram d user va t v (Ok page) few kept quiet reach =
@@ -256,7 +272,8 @@ move_reached n g held ram d user va t v (Ok page) few kept quiet reach =
     move_answer n g held ram d (data_access user t) (writes_memory t) va (size_of t) page (answers board marks d page.pa t v) kept
     (answers_same n g held marks d page.pa t v few (marked_stays n g held ram page.place reach.target (writes_memory t) kept reach.mark) s.free s.calm) s.owns
 
-pub move_is : (n : ℕ) (g : Pages) (held : Contents) (ram : List ℕ) (d : Device) (mmu : MmuRegs) (user : Bool) (va : ℕ) (t : Transfer) (v : ℕ) → AreFew g → root_of mmu ≡ 0x2000 → IsKept n g held ram → va < 2 ^ 32 → IsQuiet user (size_of t) →
+pub move_is : (n : ℕ) (g : Pages) (held : Contents) (ram : List ℕ) (d : Device) (mmu : MmuRegs) (user : Bool) (va : ℕ) (t : Transfer) (v : ℕ) → AreFew g →
+    root_of mmu ≡ 0x2000 → IsKept n g held ram → va < 2 ^ 32 → IsQuiet user (size_of t) →
     MoveIs n g held d user (writes_memory t) va (size_of t) (moves board mmu va (data_access user t) t v (mem_of ram d))
 unfolding moves
 move_is n g held ram d mmu user va t v few root kept small quiet =

@@ -30,13 +30,17 @@ use Rattle.v8_loaded.specs.Board.{Device, board, board_load, board_store, device
 use Rattle.v8_loaded.specs.Input.{next_byte}
 use Rattle.v8_loaded.specs.Places.{table_marked, handlers_marked, device_marked}
 use Rattle.v8_loaded.proofs.Fetches.{by_supervisor, fetches_table, fetches_handlers, reaches_device, reaches_input}
-use Rattle.v8_contained.specs.Contained.{Contents, IsKept, IsSupervisor, IsAt, Place, Enters, Acts, Branches, Slips, Leaves, Returns, Handles, Retries, Stands, IsActing, IsHandler, IsBack, vector_of, handler_at, trap_to, acted, TurnIs}
+use Rattle.v8_contained.specs.Contained.{Contents, IsKept, IsSupervisor, IsAt, Place, Enters, Acts, Branches, Slips, Leaves, Returns, Handles, Retries, Stands}
+use Rattle.v8_contained.specs.Contained.{IsActing, IsHandler, IsBack, vector_of, handler_at, trap_to, acted, TurnIs}
 use Rattle.v8_contained.proofs.Shapes.{shaped_reg, reads_local}
 use Rattle.v8_contained.proofs.Accesses.{mem_of}
 use Rattle.v8_contained.proofs.Stays.{device_stays, handlers_stay, table_stays}
-use Rattle.v8_contained.proofs.Supervisors.{tame, super_fetch, super_goes, Nexts, SuperEnds, plainly, tame_acts, jump_acts, return_acts, goes_stepped, goes_written, good_end, good_more, at_word, at_quiet}
+use Rattle.v8_contained.proofs.Supervisors.{tame, super_fetch, super_goes, Nexts, SuperEnds, plainly, tame_acts, jump_acts, return_acts, goes_stepped}
+use Rattle.v8_contained.proofs.Supervisors.{goes_written, good_end, good_more, at_word, at_quiet}
 use Rattle.v8_loaded.proofs.Words.{Asks, goes_overflow, goes_underflow, reads_mask}
-use Rattle.v8_contained.proofs.Words.{word_tame, over_tame, under_tame, jump, back, over_jumps, over_returns, under_jumps, under_returns, first_other, stop_second, sets_device, at_device, exits, gets_in, puts_out, stops, jumps_back, returns_back, to_handler, slip_over, slip_under, at_5_0, at_5_1, at_5_2, at_6_0, at_6_1, at_6_2, at_80_1, at_81_1, at_81_2, at_81_3, at_82_1, at_82_2, at_82_3}
+use Rattle.v8_contained.proofs.Words.{word_tame, over_tame, under_tame, jump, back, over_jumps, over_returns, under_jumps, under_returns, first_other}
+use Rattle.v8_contained.proofs.Words.{stop_second, sets_device, at_device, exits, gets_in, puts_out, stops, jumps_back, returns_back, to_handler, slip_over}
+use Rattle.v8_contained.proofs.Words.{slip_under, at_5_0, at_5_1, at_5_2, at_6_0, at_6_1, at_6_2, at_80_1, at_81_1, at_81_2, at_81_3, at_82_1, at_82_2, at_82_3}
 
 -- ---- the device
 
@@ -50,19 +54,26 @@ gets_going d = gets_by d d.ended
 
 module _ (n : ℕ) (g : Pages) (held : Contents) (ram : List ℕ) (mmu : MmuRegs) (few : AreFew g) (kept : IsKept n g held ram) (root : root_of mmu ≡ 0x2000) (d : Device) where
   abbrev StoredAs : ℕ → ℕ → Device → Type 0
-  StoredAs offset v e = moves board mmu (0xF0010000 + offset) (by_supervisor kinds.Store) (transfer.Store sizes.Word) v (mem_of ram d) ≡ (Done 0 (0x100000000 + offset), mem_of (device_marked true ram) e)
+  StoredAs offset v e =
+      moves board mmu (0xF0010000 + offset) (by_supervisor kinds.Store) (transfer.Store sizes.Word) v (mem_of ram d) ≡
+      (Done 0 (0x100000000 + offset), mem_of (device_marked true ram) e)
 
   word_put : (v : ℕ) → StoredAs 4 v (record d { output = d.output ++ (v % 2 ^ 8) ∷ [] })
   unfolding moves board_store device_store
-  word_put v = ap (λ r. move_through board (by_supervisor kinds.Store) (transfer.Store sizes.Word) v (mem_of ram d) r) (reaches_device n g held.words ram mmu few kept.loaded root 0xF0010004 (omega arith) (omega arith))
+  word_put v = ap (λ r. move_through board (by_supervisor kinds.Store) (transfer.Store sizes.Word) v (mem_of ram d) r)
+      (reaches_device n g held.words ram mmu few kept.loaded root 0xF0010004 (omega arith) (omega arith))
 
   word_stopped : (v : ℕ) → StoredAs 8 v (record d { stopped = Some (Exit v) })
   unfolding moves board_store device_store
-  word_stopped v = ap (λ r. move_through board (by_supervisor kinds.Store) (transfer.Store sizes.Word) v (mem_of ram d) r) (reaches_device n g held.words ram mmu few kept.loaded root 0xF0010008 (omega arith) (omega arith))
+  word_stopped v =
+      ap (λ r. move_through board (by_supervisor kinds.Store) (transfer.Store sizes.Word) v (mem_of ram d) r)
+      (reaches_device n g held.words ram mmu few kept.loaded root 0xF0010008 (omega arith) (omega arith))
 
   word_trapped : (v : ℕ) → StoredAs 12 v (record d { stopped = Some Trapped })
   unfolding moves board_store device_store
-  word_trapped v = ap (λ r. move_through board (by_supervisor kinds.Store) (transfer.Store sizes.Word) v (mem_of ram d) r) (reaches_device n g held.words ram mmu few kept.loaded root 0xF001000C (omega arith) (omega arith))
+  word_trapped v =
+      ap (λ r. move_through board (by_supervisor kinds.Store) (transfer.Store sizes.Word) v (mem_of ram d) r)
+      (reaches_device n g held.words ram mmu few kept.loaded root 0xF001000C (omega arith) (omega arith))
 
   input_loaded : moves board mmu 0xF0010000 (by_supervisor kinds.Load) (transfer.Load loadings.Word) 0 (mem_of ram d) ≡ (Done (gets d).0 0x100000000, mem_of (device_marked false ram) (gets d).1)
   unfolding moves board_load device_load
@@ -78,7 +89,8 @@ is_or_not a b = by_test (a == b) refl
 differ : (a b : ℕ) → (a == b) ≡ false → a ≡ b → ⊥
 differ a b e same = let no : (a == b) ≡ true = grind (arith, nat_tests) in let bad : true ≡ false = rw no at e in cc
 
-module _ (n : ℕ) (g : Pages) (held : Contents) (ram : List ℕ) (d : Device) (mmu : MmuRegs) (cpu : Cpu n) (few : 4 ≤ n) (many : n ≤ 32) (pages : AreFew g) (root : root_of mmu ≡ 0x2000) (kept : IsKept n g held ram) (running : d.stopped ≡ None) (u : IsSupervisor n cpu) where
+module _ (n : ℕ) (g : Pages) (held : Contents) (ram : List ℕ) (d : Device) (mmu : MmuRegs) (cpu : Cpu n) (few : 4 ≤ n) (many : n ≤ 32) (pages : AreFew g)
+    (root : root_of mmu ≡ 0x2000) (kept : IsKept n g held ram) (running : d.stopped ≡ None) (u : IsSupervisor n cpu) where
   abbrev x : World n Device
   x = world n cpu ram d
 
@@ -107,7 +119,9 @@ module _ (n : ℕ) (g : Pages) (held : Contents) (ram : List ℕ) (d : Device) (
   table_quiet k w i less at word is h = at_quiet n g held ram d mmu cpu few many pages root running u w i tabled (table_fetch k w less at word) is in_table h
 
   table_tame : (k w : ℕ) → k < 1024 → cpu.control.pc ≡ 0xF0000000 + 4 * k → trap_word k ≡ w → word_tame w ≡ true → Nexts cpu → Goal
-  table_tame k w less at word is next_is = table_quiet k w (operation_of (meaning w)) less at word refl (tame_acts n g held tabled d mmu cpu few pages root in_table u (operation_of (meaning w)) is next_is)
+  table_tame k w less at word is next_is =
+      table_quiet k w (operation_of (meaning w)) less at word refl
+      (tame_acts n g held tabled d mmu cpu few pages root in_table u (operation_of (meaning w)) is next_is)
 
   handler_quiet : (k : ℕ) (i : Operation) → k < 1024 → cpu.control.pc ≡ 0xF0001000 + 4 * k → Asks (handler_word n k) i → SuperEnds n g held d (acts board n mmu i (world n cpu handled d)) → Goal
   handler_quiet k i less at is h = at_quiet n g held ram d mmu cpu few many pages root running u (handler_word n k) i handled (handler_fetch k less at) is in_handlers h
@@ -143,19 +157,25 @@ module _ (n : ℕ) (g : Pages) (held : Contents) (ram : List ℕ) (d : Device) (
       ]
 
   at_retry : (k : ℕ) → (k ≡ 19) ⊎ (k ≡ 51) → cpu.control.pc ≡ handler_at k → Goal
-  at_retry k (inl is) at = handler_quiet k (ReturnFromTrap back) (omega arith) at (ap (λ j. operation_of (meaning (handler_word n j))) is ∙ over_returns n) (return_acts n g held handled d mmu cpu few pages root in_handlers u back)
-  at_retry k (inr is) at = handler_quiet k (ReturnFromTrap back) (omega arith) at (ap (λ j. operation_of (meaning (handler_word n j))) is ∙ under_returns n) (return_acts n g held handled d mmu cpu few pages root in_handlers u back)
+  at_retry k (inl is) at =
+      handler_quiet k (ReturnFromTrap back) (omega arith) at (ap (λ j. operation_of (meaning (handler_word n j))) is ∙ over_returns n)
+      (return_acts n g held handled d mmu cpu few pages root in_handlers u back)
+  at_retry k (inr is) at =
+      handler_quiet k (ReturnFromTrap back) (omega arith) at (ap (λ j. operation_of (meaning (handler_word n j))) is ∙ under_returns n)
+      (return_acts n g held handled d mmu cpu few pages root in_handlers u back)
 
   -- ---- the vectors
 
   to_branch : (k t : ℕ) → IsHandler k → trap_to k ≡ t → IsAt cpu (vector_of t) (vector_of t + 4) → Nexts cpu
-  to_branch k t is same at = λ c here later. let follows = at.next in let small : t < 256 = elim is [ inl a ↦ omega arith | inr b ↦ omega arith ] in (Branches k, (is, record { here = omega arith; next = omega arith }))
+  to_branch k t is same at = λ c here later. let follows = at.next in let small : t < 256 = elim is [ inl a ↦ omega arith | inr b ↦ omega arith ] in
+      (Branches k, (is, record { here = omega arith; next = omega arith }))
 
   enters_window : (k t w : ℕ) → IsHandler k → trap_to k ≡ t → t < 256 → IsAt cpu (vector_of t) (vector_of t + 4) → trap_word (4 * t) ≡ 0xA7500000 → Goal
   unfolding tame
   enters_window k t w is same small at word =
       let here = at.here in
-      table_quiet (4 * t) 0xA7500000 (ReadState Wim 19) (omega arith) (omega arith) word reads_mask (tame_acts n g held tabled d mmu cpu few pages root in_table u (ReadState Wim 19) refl (to_branch k t is same at))
+      table_quiet (4 * t) 0xA7500000 (ReadState Wim 19) (omega arith) (omega arith) word reads_mask
+      (tame_acts n g held tabled d mmu cpu few pages root in_table u (ReadState Wim 19) refl (to_branch k t is same at))
 
   enters_other : (t : ℕ) → t < 256 → (t ≡ 5 → ⊥) → (t ≡ 6 → ⊥) → IsAt cpu (vector_of t) (vector_of t + 4) → Goal
   unfolding effect written advanced
@@ -177,7 +197,8 @@ module _ (n : ℕ) (g : Pages) (held : Contents) (ram : List ℕ) (d : Device) (
     ]
   ]
 
-  branches : (k j w disp : ℕ) → IsHandler k → IsAt cpu (vector_of (trap_to k) + 4) (vector_of (trap_to k) + 8) → j < 1024 → cpu.control.pc ≡ 0xF0000000 + 4 * j → trap_word j ≡ w → Asks w (to_handler disp) → (0xF0000000 + 4 * j + 4 * disp) % 2 ^ 32 ≡ handler_at k → Goal
+  branches : (k j w disp : ℕ) → IsHandler k → IsAt cpu (vector_of (trap_to k) + 4) (vector_of (trap_to k) + 8) → j < 1024 →
+      cpu.control.pc ≡ 0xF0000000 + 4 * j → trap_word j ≡ w → Asks w (to_handler disp) → (0xF0000000 + 4 * j + 4 * disp) % 2 ^ 32 ≡ handler_at k → Goal
   unfolding effect branched jumped
   branches k j w disp is at less here word asks to =
       let new : Cpu n = record cpu { control = record cpu.control { pc = cpu.control.npc; npc = (cpu.control.pc + 4 * disp) % 2 ^ 32; annul = false } } in
@@ -191,11 +212,17 @@ module _ (n : ℕ) (g : Pages) (held : Contents) (ram : List ℕ) (d : Device) (
   at_branch k (inr is) at = let here = at.here in branches k 25 0x10800407 0x407 (inr is) at (omega arith) (omega arith) at_6_1 goes_underflow (omega arith)
 
   at_slip : (k : ℕ) → IsHandler k → IsAt cpu (vector_of (trap_to k) + 8) (handler_at k) → Goal
-  at_slip k (inl is) at = let here = at.here in let follows = at.next in table_tame 22 0xA8100001 (omega arith) (omega arith) at_5_2 slip_over (λ c now later. (Handles k, (inl (omega arith), record { here = omega arith; next = omega arith })))
-  at_slip k (inr is) at = let here = at.here in let follows = at.next in table_tame 26 0xA92CE001 (omega arith) (omega arith) at_6_2 slip_under (λ c now later. (Handles k, (inr (omega arith, omega arith), record { here = omega arith; next = omega arith })))
+  at_slip k (inl is) at = let here = at.here in let follows = at.next in
+      table_tame 22 0xA8100001 (omega arith) (omega arith) at_5_2 slip_over
+      (λ c now later. (Handles k, (inl (omega arith), record { here = omega arith; next = omega arith })))
+  at_slip k (inr is) at = let here = at.here in let follows = at.next in
+      table_tame 26 0xA92CE001 (omega arith) (omega arith) at_6_2 slip_under
+      (λ c now later. (Handles k, (inr (omega arith, omega arith), record { here = omega arith; next = omega arith })))
 
   leaves : (t j : ℕ) → IsBack t → IsAt cpu (vector_of t + 8) (vector_of t + 12) → j < 1024 → cpu.control.pc ≡ 0xF0000000 + 4 * j → trap_word j ≡ 0x81C48000 → Goal
-  leaves t j is at less here word = table_quiet j 0x81C48000 (JumpAndLink (jump 18)) less here word jumps_back (jump_acts n g held tabled d mmu cpu few pages root in_table u (jump 18) (λ c now. (Returns t, (is, now ∙ at.next))))
+  leaves t j is at less here word =
+      table_quiet j 0x81C48000 (JumpAndLink (jump 18)) less here word jumps_back
+      (jump_acts n g held tabled d mmu cpu few pages root in_table u (jump 18) (λ c now. (Returns t, (is, now ∙ at.next))))
 
   at_leave : (t : ℕ) → IsBack t → IsAt cpu (vector_of t + 8) (vector_of t + 12) → Goal
   at_leave t (inl is) at = let here = at.here in leaves t 0x206 (inl is) at (omega arith) (omega arith) at_81_2
@@ -212,7 +239,8 @@ module _ (n : ℕ) (g : Pages) (held : Contents) (ram : List ℕ) (d : Device) (
   device_place rd offset reads small = ap (λ a. (a + offset) % 2 ^ 32) reads ∙ (let e : (0xF0010000 + offset) % 2 ^ 32 ≡ 0xF0010000 + offset = omega arith in e)
 
   store_made : (rd offset : ℕ) (e : Device) → reg_of n cpu.regs 19 ≡ 0xF0010000 → offset < 16 → StoredAs n g held tabled mmu pages in_table root d offset (reg_of n cpu.regs rd) e →
-      acts board n mmu (store sizes.Word (at_device rd offset)) (world n cpu tabled d) ≡ (moving (0xF0010000 + offset) (0x100000000 + offset) sizes.Word true, world n (stepped n cpu) (device_marked true tabled) e)
+      acts board n mmu (store sizes.Word (at_device rd offset)) (world n cpu tabled d) ≡
+      (moving (0xF0010000 + offset) (0x100000000 + offset) sizes.Word true, world n (stepped n cpu) (device_marked true tabled) e)
   unfolding transfers taken
   store_made rd offset e reads small done =
       let va = 0xF0010000 + offset in
@@ -223,7 +251,8 @@ module _ (n : ℕ) (g : Pages) (held : Contents) (ram : List ℕ) (d : Device) (
       ∙ ap (F va) done
 
   load_made : reg_of n cpu.regs 19 ≡ 0xF0010000 →
-      acts board n mmu (load loadings.Word (at_device 24 0)) (world n cpu tabled d) ≡ (moving 0xF0010000 0x100000000 sizes.Word false, world n (written n cpu 24 (gets d).0) (device_marked false tabled) (gets d).1)
+      acts board n mmu (load loadings.Word (at_device 24 0)) (world n cpu tabled d) ≡
+      (moving 0xF0010000 0x100000000 sizes.Word false, world n (written n cpu 24 (gets d).0) (device_marked false tabled) (gets d).1)
   unfolding transfers taken written
   load_made reads =
       let F : ℕ → Moved × Memory Device → Outcome × World n Device = λ p l. transfer_ends n p (transfer.Load loadings.Word) 24 cpu l.0 l.1 in
@@ -239,7 +268,8 @@ module _ (n : ℕ) (g : Pages) (held : Contents) (ram : List ℕ) (d : Device) (
   stops_at t j w rd offset e at less here word asks small done halted made =
       at_word n g held ram d mmu cpu few many pages root running u w (store sizes.Word (at_device rd offset)) tabled (table_fetch j w less here word) asks in_table
       (subst (λ o. Ended w o) (sym (store_made rd offset e at.device small done))
-      (good_end n g held ram d mmu cpu few many pages root running u (Some w) _ (world n (stepped n cpu) (device_marked true tabled) e) (device_stays n g held tabled pages in_table true) halted (inr (record { trap = t; system = u.system; at = at; is = made }))))
+      (good_end n g held ram d mmu cpu few many pages root running u (Some w) _ (world n (stepped n cpu) (device_marked true tabled) e)
+      (device_stays n g held tabled pages in_table true) halted (inr (record { trap = t; system = u.system; at = at; is = made }))))
 
   goes_back : (t : ℕ) → IsBack t → IsActing cpu t → Nexts cpu
   goes_back t is at = λ c now later. let follows = at.at.next in let small = at.small in (Leaves t, (is, record { here = omega arith; next = omega arith }))
@@ -249,9 +279,11 @@ module _ (n : ℕ) (g : Pages) (held : Contents) (ram : List ℕ) (d : Device) (
       let here = at.at.here in
       let v = reg_of n cpu.regs 24 in
       let e : Device = record d { output = d.output ++ (v % 2 ^ 8) ∷ [] } in
-      at_word n g held ram d mmu cpu few many pages root running u 0xF024E004 (store sizes.Word (at_device 24 4)) tabled (table_fetch 0x209 0xF024E004 (omega arith) (omega arith) at_82_1) puts_out in_table
+      at_word n g held ram d mmu cpu few many pages root running u 0xF024E004 (store sizes.Word (at_device 24 4)) tabled
+      (table_fetch 0x209 0xF024E004 (omega arith) (omega arith) at_82_1) puts_out in_table
       (subst (λ o. Ended 0xF024E004 o) (sym (store_made 24 4 e at.device (omega arith) (word_put n g held tabled mmu pages in_table root d v)))
-      (good_more n g held ram d mmu cpu few many pages root running u (Some 0xF024E004) _ (world n (stepped n cpu) (device_marked true tabled) e) (device_stays n g held tabled pages in_table true) running
+      (good_more n g held ram d mmu cpu few many pages root running u (Some 0xF024E004) _ (world n (stepped n cpu) (device_marked true tabled) e)
+      (device_stays n g held tabled pages in_table true) running
       (inr (goes_stepped n g held tabled d mmu cpu few pages root in_table u cpu.regs u.shape (goes_back t (inr is) at)))
       (inr (record { trap = t; system = u.system; at = at; is = sym (ap (λ k. acted k v d) is) }))))
 
@@ -259,9 +291,11 @@ module _ (n : ℕ) (g : Pages) (held : Contents) (ram : List ℕ) (d : Device) (
   at_get t is at =
       let here = at.at.here in
       let r = gets d in
-      at_word n g held ram d mmu cpu few many pages root running u 0xF004E000 (load loadings.Word (at_device 24 0)) tabled (table_fetch 0x205 0xF004E000 (omega arith) (omega arith) at_81_1) gets_in in_table
+      at_word n g held ram d mmu cpu few many pages root running u 0xF004E000 (load loadings.Word (at_device 24 0)) tabled
+      (table_fetch 0x205 0xF004E000 (omega arith) (omega arith) at_81_1) gets_in in_table
       (subst (λ o. Ended 0xF004E000 o) (sym (load_made at.device))
-      (good_more n g held ram d mmu cpu few many pages root running u (Some 0xF004E000) _ (world n (written n cpu 24 r.0) (device_marked false tabled) r.1) (device_stays n g held tabled pages in_table false) (gets_going d ∙ running)
+      (good_more n g held ram d mmu cpu few many pages root running u (Some 0xF004E000) _ (world n (written n cpu 24 r.0) (device_marked false tabled) r.1)
+      (device_stays n g held tabled pages in_table false) (gets_going d ∙ running)
       (inr (goes_written n g held tabled d mmu cpu few pages root in_table u 24 r.0 (goes_back t (inl is) at)))
       (inr (record { trap = t; system = u.system; at = at; is = sym (ap (λ k. acted k (reg_of n cpu.regs 24) d) is) }))))
 
@@ -269,13 +303,16 @@ module _ (n : ℕ) (g : Pages) (held : Contents) (ram : List ℕ) (d : Device) (
   at_exit t is at =
       let here = at.at.here in
       let v = reg_of n cpu.regs 24 in
-      stops_at t 0x201 0xF024E008 24 8 (record d { stopped = Some (Exit v) }) at (omega arith) (omega arith) at_80_1 exits (omega arith) (word_stopped n g held tabled mmu pages in_table root d v) refl (sym (ap (λ k. acted k v d) is))
+      stops_at t 0x201 0xF024E008 24 8 (record d { stopped = Some (Exit v) }) at (omega arith) (omega arith) at_80_1 exits (omega arith)
+      (word_stopped n g held tabled mmu pages in_table root d v) refl (sym (ap (λ k. acted k v d) is))
 
   at_stop : (t : ℕ) → (t == 0x80) ≡ false → (t == 0x81) ≡ false → (t == 0x82) ≡ false → IsActing cpu t → Goal
   at_stop t a b c at =
       let here = at.at.here in
       let small = at.small in
-      stops_at t (4 * t + 1) 0xC024E00C 0 12 (record d { stopped = Some Trapped }) at (omega arith) (omega arith) (stop_second t at.not_over at.not_under a b c) stops (omega arith) (word_trapped n g held tabled mmu pages in_table root d (reg_of n cpu.regs 0)) refl (rw a (rw b (rw c refl)))
+      stops_at t (4 * t + 1) 0xC024E00C 0 12 (record d { stopped = Some Trapped }) at (omega arith) (omega arith)
+      (stop_second t at.not_over at.not_under a b c) stops (omega arith) (word_trapped n g held tabled mmu pages in_table root d (reg_of n cpu.regs 0)) refl
+      (rw a (rw b (rw c refl)))
 
   at_act : (t : ℕ) → IsActing cpu t → Goal
   at_act t at = elim (is_or_not t 0x80) [

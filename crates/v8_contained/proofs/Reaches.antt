@@ -118,7 +118,8 @@ reached_is : (g : Pages) (ram : List ℕ) (va : ℕ) (a : Access) (o : Option Ma
 reached_is g ram va a None k m = tt
 reached_is g ram va a (Some p) k m = through_is g ram va a p (permits (rights_of p.acc a.user) a.kind) refl k m.0 m.1
 
-pub reaches : (n : ℕ) (g : Pages) (held : Contents) (ram : List ℕ) (mmu : MmuRegs) (va : ℕ) (a : Access) → AreFew g → root_of mmu ≡ 0x2000 → IsKept n g held ram → va < 2 ^ 32 → Reached g ram va a (walked ram (root_of mmu) va a)
+pub reaches : (n : ℕ) (g : Pages) (held : Contents) (ram : List ℕ) (mmu : MmuRegs) (va : ℕ) (a : Access) → AreFew g → root_of mmu ≡ 0x2000 →
+    IsKept n g held ram → va < 2 ^ 32 → Reached g ram va a (walked ram (root_of mmu) va a)
 unfolding translated
 reaches n g held ram mmu va a few root kept small =
     subst (Reached g ram va a) (sym (ap (λ r. walked ram r va a) root ∙ tables_map g ram few kept.loaded.tables va a small))

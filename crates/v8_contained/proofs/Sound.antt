@@ -1,5 +1,6 @@
 -- Whatever an operation does to a processor, its registers stay words and its places stay those of instructions.
-use Rattle.std.proofs.Common.{◌≡◌, ℕ, zero, suc, ◌+◌, ◌*◌, ◌%◌, ◌^◌, ◌<◌, ◌≤◌, Bool, true, false, cond, List, [], ◌∷◌, length, Option, Some, None, IfSome, refl, sym, ap, ◌∙◌, subst, arith, lit<, rules}
+use Rattle.std.proofs.Common.{◌≡◌, ℕ, zero, suc, ◌+◌, ◌*◌, ◌%◌, ◌^◌, ◌<◌, ◌≤◌, Bool, true, false, cond, List, [], ◌∷◌, length, Option, Some, None, IfSome, refl}
+use Rattle.std.proofs.Common.{sym, ap, ◌∙◌, subst, arith, lit<, rules}
 use Rattle.std.specs.Prelude.{find, ◌==◌, not, slice_index}
 use Rattle.std.proofs.lemmas.Bool.Decides.{nat_tests}
 use Rattle.std.proofs.lemmas.Nat.{xor_lt}
@@ -17,7 +18,8 @@ use Rattle.v8_core.specs.Exchange.TheVariants.{Ones, Register as Exchanged}
 use Rattle.v8_core.specs.Loading.{Loading}
 use Rattle.v8_core.specs.Loading.TheVariants as loadings
 use Rattle.v8_core.specs.Operation.{Operation}
-use Rattle.v8_core.specs.Operation.TheVariants.{Compute, Divide, TaggedTrap, SetHigh, ReadY, WriteY, ReadState, WriteState, Transfer, Save, Restore, Call, BranchOnCondition, JumpAndLink, ReturnFromTrap, TrapOnCondition, Nothing, Illegal, FloatingPoint, Coprocessor}
+use Rattle.v8_core.specs.Operation.TheVariants.{Compute, Divide, TaggedTrap, SetHigh, ReadY, WriteY, ReadState, WriteState, Transfer, Save, Restore, Call}
+use Rattle.v8_core.specs.Operation.TheVariants.{BranchOnCondition, JumpAndLink, ReturnFromTrap, TrapOnCondition, Nothing, Illegal, FloatingPoint, Coprocessor}
 use Rattle.v8_core.specs.StateRegister.{StateRegister}
 use Rattle.v8_core.specs.StateRegister.TheVariants.{Psr, Wim, Tbr}
 use Rattle.v8_core.specs.Transfer.{Transfer as Moving}
@@ -28,7 +30,8 @@ use Rattle.v8_windows.proofs.AfterWrites.{above_less}
 use Rattle.v8_windows.proofs.Masks.{low_bits}
 use Rattle.v8_core.specs.Control.{Control}
 use Rattle.v8_core.specs.Cpu.{Cpu}
-use Rattle.v8_core.specs.Effects.{address_of, advanced, branched, computed, computed_from, effect, jumped, quotient_from, reg, returned, second_of, state_operand, stepped, tagged_from, taken, with_regs, written}
+use Rattle.v8_core.specs.Effects.{address_of, advanced, branched, computed, computed_from, effect, jumped, quotient_from, reg, returned, second_of}
+use Rattle.v8_core.specs.Effects.{state_operand, stepped, tagged_from, taken, with_regs, written}
 use Rattle.v8_core.specs.Registers.{psr_of, psr_window, state_word, tbr_of, trap_base, with_psr, with_state}
 use Rattle.v8_core.specs.Traps.{applies, by_priority, entered, first_trap, state_applies}
 use Rattle.v8_core.specs.Accesses.{faulted}
@@ -160,11 +163,15 @@ sound_written n cpu rd x s small = sound_goes n cpu (with_reg n cpu.regs rd x) (
 
 sound_moved : (n : ℕ) (cpu : Cpu n) (w rd x : ℕ) → IsSound n cpu → w < n → x < 2 ^ 32 → IsSound n (written n (record cpu { regs = moved cpu.regs w }) rd x)
 unfolding written advanced
-sound_moved n cpu w rd x s less small = sound_goes n cpu (with_reg n (moved cpu.regs w) rd x) (advanced cpu.control) s (file_reg n (moved cpu.regs w) rd x (file_moved n cpu.regs w s.file less) small) s.y_word refl refl refl refl
+sound_moved n cpu w rd x s less small =
+    sound_goes n cpu (with_reg n (moved cpu.regs w) rd x) (advanced cpu.control) s
+    (file_reg n (moved cpu.regs w) rd x (file_moved n cpu.regs w s.file less) small) s.y_word refl refl refl refl
 
 sound_computed : (n : ℕ) (cpu : Cpu n) (rd : ℕ) (out : AluOut) → IsSound n cpu → AreResults out → IsSound n (computed n cpu rd out)
 unfolding computed advanced
-sound_computed n cpu rd out s small = sound_goes n cpu (with_reg n cpu.regs rd out.value) (record (advanced cpu.control) { icc = out.icc; y = out.y }) s (file_reg n cpu.regs rd out.value s.file small.0) small.1 refl refl refl refl
+sound_computed n cpu rd out s small =
+    sound_goes n cpu (with_reg n cpu.regs rd out.value) (record (advanced cpu.control) { icc = out.icc; y = out.y }) s
+    (file_reg n cpu.regs rd out.value s.file small.0) small.1 refl refl refl refl
 
 sound_from : (n : ℕ) (cpu : Cpu n) (rd : ℕ) (o : Option AluOut) → IsSound n cpu → IfSome o AreResults → IsSound n (computed_from n cpu rd o)
 sound_from n cpu rd None s small = s
@@ -174,7 +181,8 @@ sound_stepped : (n : ℕ) (cpu : Cpu n) → IsSound n cpu → IsSound n (stepped
 unfolding advanced
 sound_stepped n cpu s = sound_goes n cpu cpu.regs (advanced cpu.control) s s.file s.y_word refl refl refl refl
 
-sound_jumped : (n : ℕ) (cpu : Cpu n) (regs : Windows) (place : ℕ) → IsSound n cpu → IsFile n regs → place < 2 ^ 32 → place % 4 ≡ 0 → IsSound n (record { regs = regs; control = jumped cpu.control place })
+sound_jumped : (n : ℕ) (cpu : Cpu n) (regs : Windows) (place : ℕ) → IsSound n cpu → IsFile n regs → place < 2 ^ 32 → place % 4 ≡ 0 →
+    IsSound n (record { regs = regs; control = jumped cpu.control place })
 unfolding jumped
 sound_jumped n cpu regs place s file small whole = sound_by n cpu regs (jumped cpu.control place) s file s.y_word refl refl s.npc_word s.npc_whole small whole
 
@@ -182,14 +190,29 @@ sound_branched : (n : ℕ) (cpu : Cpu n) (b : Branch) → IsSound n cpu → IsSo
 unfolding branched jumped advanced
 sound_branched n cpu b s = by_test (holds b.cond cpu.control.icc)
   where
-    by_test : (t : Bool) → IsSound n (record cpu { control = cond t (record cpu.control { pc = cpu.control.npc; npc = target cpu.control.pc b.displacement; annul = annuls b cpu.control.icc }) (record cpu.control { pc = cpu.control.npc; npc = following cpu.control.npc; annul = annuls b cpu.control.icc }) })
-    by_test true = sound_by n cpu cpu.regs (record cpu.control { pc = cpu.control.npc; npc = target cpu.control.pc b.displacement; annul = annuls b cpu.control.icc }) s s.file s.y_word refl refl s.npc_word s.npc_whole (target_word cpu.control.pc b.displacement) (target_whole cpu.control.pc b.displacement s.pc_whole)
+    by_test : (t : Bool) →
+        IsSound n (record cpu {
+          control =
+              cond t (record cpu.control { pc = cpu.control.npc; npc = target cpu.control.pc b.displacement; annul = annuls b cpu.control.icc })
+              (record cpu.control { pc = cpu.control.npc; npc = following cpu.control.npc; annul = annuls b cpu.control.icc });
+        })
+    by_test true =
+        sound_by n cpu cpu.regs
+        (record cpu.control {
+          pc = cpu.control.npc;
+          npc = target cpu.control.pc b.displacement;
+          annul =
+              annuls b cpu.control.icc;
+        }) s s.file s.y_word refl refl s.npc_word s.npc_whole (target_word cpu.control.pc b.displacement)
+        (target_whole cpu.control.pc b.displacement s.pc_whole)
     by_test false = sound_goes n cpu cpu.regs (record cpu.control { pc = cpu.control.npc; npc = following cpu.control.npc; annul = annuls b cpu.control.icc }) s s.file s.y_word refl refl refl refl
 
 sound_returned : (n : ℕ) (cpu : Cpu n) (place : ℕ) → IsSound n cpu → place < 2 ^ 32 → place % 4 ≡ 0 → IsSound n (returned n cpu place)
 unfolding returned jumped
 sound_returned n cpu place s small whole =
-    sound_by n cpu (moved cpu.regs (above n cpu.regs.current)) (returned n cpu place).control s (file_moved n cpu.regs (above n cpu.regs.current) s.file (above_less n cpu.regs.current s.file.few s.file.current)) s.y_word refl refl s.npc_word s.npc_whole small whole
+    sound_by n cpu (moved cpu.regs (above n cpu.regs.current)) (returned n cpu place).control s
+    (file_moved n cpu.regs (above n cpu.regs.current) s.file
+    (above_less n cpu.regs.current s.file.few s.file.current)) s.y_word refl refl s.npc_word s.npc_whole small whole
 
 -- ---- state registers that are written
 
@@ -239,9 +262,13 @@ second_word n cpu (Immediate k) s small = small
 pub sound_effect : (n : ℕ) (cpu : Cpu n) (i : Operation) → IsSound n cpu → SmallSecond i → first_trap n cpu i ≡ None → IsSound n (effect n cpu i)
 unfolding effect applies jumped quotient_from tagged_from
 sound_effect n cpu (Compute op f) s small calm =
-    sound_computed n cpu f.rd _ s (outcome_words op (reg n cpu f.rs1) (second_of n cpu f.operand2) cpu.control.icc cpu.control.y (reads_word n cpu.regs f.rs1 s.file) (second_word n cpu f.operand2 s small) s.y_word)
-sound_effect n cpu (Divide op f) s small calm = sound_from n cpu f.rd (quotient_from n cpu op f) s (division_words op (reg n cpu f.rs1) (second_of n cpu f.operand2) cpu.control.icc cpu.control.y s.y_word)
-sound_effect n cpu (TaggedTrap op f) s small calm = sound_from n cpu f.rd (tagged_from n cpu op f) s (tagged_words op (reg n cpu f.rs1) (second_of n cpu f.operand2) cpu.control.icc cpu.control.y s.y_word)
+    sound_computed n cpu f.rd _ s
+    (outcome_words op (reg n cpu f.rs1) (second_of n cpu f.operand2) cpu.control.icc cpu.control.y (reads_word n cpu.regs f.rs1 s.file)
+    (second_word n cpu f.operand2 s small) s.y_word)
+sound_effect n cpu (Divide op f) s small calm =
+    sound_from n cpu f.rd (quotient_from n cpu op f) s (division_words op (reg n cpu f.rs1) (second_of n cpu f.operand2) cpu.control.icc cpu.control.y s.y_word)
+sound_effect n cpu (TaggedTrap op f) s small calm =
+    sound_from n cpu f.rd (tagged_from n cpu op f) s (tagged_words op (reg n cpu f.rs1) (second_of n cpu f.operand2) cpu.control.icc cpu.control.y s.y_word)
 sound_effect n cpu (SetHigh f) s small calm = sound_written n cpu f.rd (f.imm22 * 2 ^ 10 % 2 ^ 32) s (omega arith)
 sound_effect n cpu (ReadY rd) s small calm = sound_written n cpu rd cpu.control.y s s.y_word
 sound_effect n cpu (WriteY f) s small calm =
@@ -259,9 +286,15 @@ sound_effect n cpu (WriteY f) s small calm =
 sound_effect n cpu (ReadState r rd) s small calm = sound_written n cpu rd (state_word n cpu r) s (read_word n cpu r s)
 sound_effect n cpu (WriteState r f) s small calm = sound_state n cpu r f s (none_at (applies n cpu (WriteState r f)) (by_priority 0) 1 calm (lit< tt))
 sound_effect n cpu (Transfer t m) s small calm = s
-sound_effect n cpu (Save f) s small calm = sound_moved n cpu (below n cpu.regs.current) f.rd (address_of n cpu f.rs1 f.operand2) s (below_less n cpu.regs.current s.file.few s.file.current) (address_word n cpu f.rs1 f.operand2)
-sound_effect n cpu (Restore f) s small calm = sound_moved n cpu (above n cpu.regs.current) f.rd (address_of n cpu f.rs1 f.operand2) s (above_less n cpu.regs.current s.file.few s.file.current) (address_word n cpu f.rs1 f.operand2)
-sound_effect n cpu (Call d) s small calm = sound_jumped n cpu (with_reg n cpu.regs 15 cpu.control.pc) (target cpu.control.pc d) s (file_reg n cpu.regs 15 cpu.control.pc s.file s.pc_word) (target_word cpu.control.pc d) (target_whole cpu.control.pc d s.pc_whole)
+sound_effect n cpu (Save f) s small calm =
+    sound_moved n cpu (below n cpu.regs.current) f.rd (address_of n cpu f.rs1 f.operand2) s (below_less n cpu.regs.current s.file.few s.file.current)
+    (address_word n cpu f.rs1 f.operand2)
+sound_effect n cpu (Restore f) s small calm =
+    sound_moved n cpu (above n cpu.regs.current) f.rd (address_of n cpu f.rs1 f.operand2) s (above_less n cpu.regs.current s.file.few s.file.current)
+    (address_word n cpu f.rs1 f.operand2)
+sound_effect n cpu (Call d) s small calm =
+    sound_jumped n cpu (with_reg n cpu.regs 15 cpu.control.pc) (target cpu.control.pc d) s (file_reg n cpu.regs 15 cpu.control.pc s.file s.pc_word)
+    (target_word cpu.control.pc d) (target_whole cpu.control.pc d s.pc_whole)
 sound_effect n cpu (BranchOnCondition b) s small calm = sound_branched n cpu b s
 sound_effect n cpu (JumpAndLink f) s small calm =
     sound_jumped n cpu (with_reg n cpu.regs f.rd cpu.control.pc) (address_of n cpu f.rs1 f.operand2) s (file_reg n cpu.regs f.rd cpu.control.pc s.file s.pc_word) (address_word n cpu f.rs1 f.operand2)
@@ -301,4 +334,6 @@ received_words (transfer.Exchange Exchanged) rd k small = (small, tt)
 
 pub sound_taken : (n : ℕ) (cpu : Cpu n) (t : Moving) (rd k : ℕ) → IsSound n cpu → k < limit_of (size_of t) → IsSound n (taken n cpu t rd k)
 unfolding taken advanced
-sound_taken n cpu t rd k s small = sound_goes n cpu (with_regs n cpu.regs (received t rd k)) (advanced cpu.control) s (file_regs n cpu.regs (received t rd k) s.file (received_words t rd k small)) s.y_word refl refl refl refl
+sound_taken n cpu t rd k s small =
+    sound_goes n cpu (with_regs n cpu.regs (received t rd k)) (advanced cpu.control) s
+    (file_regs n cpu.regs (received t rd k) s.file (received_words t rd k small)) s.y_word refl refl refl refl

@@ -9,7 +9,8 @@ use Rattle.v8_core.specs.Transfers.{exchanged_size, loaded_size, sent, size_of, 
 use Rattle.v8_core.specs.Exchange.TheVariants.{Ones, Register}
 use Rattle.v8_core.specs.MemoryOperand.{MemoryOperand}
 use Rattle.v8_core.specs.Operation.{Operation}
-use Rattle.v8_core.specs.Operation.TheVariants.{Compute, Divide, TaggedTrap, SetHigh, ReadY, WriteY, ReadState, WriteState, Transfer, Save, Restore, Call, BranchOnCondition, JumpAndLink, ReturnFromTrap, TrapOnCondition, Nothing, Illegal, FloatingPoint, Coprocessor}
+use Rattle.v8_core.specs.Operation.TheVariants.{Compute, Divide, TaggedTrap, SetHigh, ReadY, WriteY, ReadState, WriteState, Transfer, Save, Restore, Call}
+use Rattle.v8_core.specs.Operation.TheVariants.{BranchOnCondition, JumpAndLink, ReturnFromTrap, TrapOnCondition, Nothing, Illegal, FloatingPoint, Coprocessor}
 use Rattle.v8_core.specs.Transfer.{Transfer as Moving}
 use Rattle.v8_core.specs.Transfer.TheVariants as transfer
 use Rattle.v8_core.specs.Meaning.{exchanged_after, limit_of, stored_after}
@@ -85,7 +86,8 @@ ram_gives : (ram : List ℕ) (d : Device) (pa : ℕ) (size : Size) (o : Option �
 ram_gives ram d pa size None e a b = tt
 ram_gives ram d pa size (Some v) e a b = (number_fits ram pa size v a e, b)
 
-load_by : (ram : List ℕ) (d : Device) (pa : ℕ) (size : Size) (b : Bool) → AreHeld ram d → IfSome (cond b (beside d (number_at ram pa size)) (device_load d (pa - device_base) size)) (Gives (limit_of size))
+load_by : (ram : List ℕ) (d : Device) (pa : ℕ) (size : Size) (b : Bool) → AreHeld ram d →
+    IfSome (cond b (beside d (number_at ram pa size)) (device_load d (pa - device_base) size)) (Gives (limit_of size))
 load_by ram d pa size true h = ram_gives ram d pa size (number_at ram pa size) refl h.bytes h.input
 load_by ram d pa size false h = device_gives d (pa - device_base) size h.input
 
@@ -99,7 +101,9 @@ abbrev Leaves : List ℕ × Device → Type 0
 Leaves x = AreHeld x.0 x.1
 
 put_by : (d : Device) (v : ℕ) (a b c : Bool) → AreBytes d.input →
-    IfSome (if a then Some (record d { output = d.output ++ (v % 2 ^ 8) ∷ [] }) else (if b then Some (record d { stopped = Some (Exit v) }) else (if c then Some (record d { stopped = Some Trapped }) else None))) (λ e. AreBytes e.input)
+    IfSome (if a then Some (record d { output = d.output ++ (v % 2 ^ 8) ∷ [] })
+    else (if b then Some (record d { stopped = Some (Exit v) }) else (if c then Some (record d { stopped = Some Trapped }) else None)))
+    (λ e. AreBytes e.input)
 put_by d v true b c i = i
 put_by d v false true c i = i
 put_by d v false false true i = i
@@ -150,7 +154,8 @@ stored_answers : (bound was : ℕ) (o : Option (List ℕ × Device)) → was < b
 stored_answers bound was None small l = tt
 stored_answers bound was (Some x) small l = (small, l)
 
-exchanged_answers : (ram : List ℕ) (d : Device) (pa : ℕ) (size : Size) (v : ℕ) (o : Option (ℕ × Device)) → v < limit_of size → AreHeld ram d → IfSome o (Gives (limit_of size)) → IfSome (exchanged_after board_store ram pa size v o) (Answers (limit_of size))
+exchanged_answers : (ram : List ℕ) (d : Device) (pa : ℕ) (size : Size) (v : ℕ) (o : Option (ℕ × Device)) → v < limit_of size → AreHeld ram d →
+    IfSome o (Gives (limit_of size)) → IfSome (exchanged_after board_store ram pa size v o) (Answers (limit_of size))
 exchanged_answers ram d pa size v None small h g = tt
 exchanged_answers ram d pa size v (Some x) small h g =
     stored_answers (limit_of size) x.0 (board_store ram x.1 pa size v) g.0 (store_leaves ram x.1 pa size v small (record { size = h.size; bytes = h.bytes; input = g.1 }))
@@ -169,20 +174,23 @@ OnDone (Fault st) P = Unit
 abbrev MovesTo : ℕ → Moved × Memory Device → Type 0
 MovesTo bound r = OnDone r.0 (λ v. v < bound) × AreHeld r.1.ram r.1.device
 
-answered_to : (ram : List ℕ) (d : Device) (page : Page) (a : Access) (bound : ℕ) (o : Option (ℕ × List ℕ × Device)) → AreHeld ram d → IfSome o (Answers bound) → MovesTo bound (move_answered (record { ram = ram; device = d }) page a o)
+answered_to : (ram : List ℕ) (d : Device) (page : Page) (a : Access) (bound : ℕ) (o : Option (ℕ × List ℕ × Device)) → AreHeld ram d → IfSome o (Answers bound) →
+    MovesTo bound (move_answered (record { ram = ram; device = d }) page a o)
 answered_to ram d page a bound None h g = (tt, h)
 answered_to ram d page a bound (Some x) h g = g
 
 marks_held : (ram : List ℕ) (d : Device) (place : ℕ) (store : Bool) → AreHeld ram d → AreHeld (marked_ram ram place store) d
 marks_held ram d place store h = record { size = length-marked_ram ram place store ∙ h.size; bytes = mark_bytes ram place store h.bytes; input = h.input }
 
-through_to : (ram : List ℕ) (d : Device) (a : Access) (t : Moving) (v : ℕ) (r : Result Page MmuFault) → v < limit_of (size_of t) → AreHeld ram d → MovesTo (limit_of (size_of t)) (move_through board a t v (record { ram = ram; device = d }) r)
+through_to : (ram : List ℕ) (d : Device) (a : Access) (t : Moving) (v : ℕ) (r : Result Page MmuFault) → v < limit_of (size_of t) → AreHeld ram d →
+    MovesTo (limit_of (size_of t)) (move_through board a t v (record { ram = ram; device = d }) r)
 through_to ram d a t v (Err e) small h = (tt, h)
 through_to ram d a t v (Ok page) small h =
     let marks = marked_ram ram page.place (writes_memory t) in
     answered_to ram d page a (limit_of (size_of t)) (answers board marks d page.pa t v) h (answers_fit marks d page.pa t v small (marks_held ram d page.place (writes_memory t) h))
 
-moves_to : (mmu : MmuRegs) (va : ℕ) (a : Access) (t : Moving) (v : ℕ) (ram : List ℕ) (d : Device) → v < limit_of (size_of t) → AreHeld ram d → MovesTo (limit_of (size_of t)) (moves board mmu va a t v (record { ram = ram; device = d }))
+moves_to : (mmu : MmuRegs) (va : ℕ) (a : Access) (t : Moving) (v : ℕ) (ram : List ℕ) (d : Device) → v < limit_of (size_of t) → AreHeld ram d →
+    MovesTo (limit_of (size_of t)) (moves board mmu va a t v (record { ram = ram; device = d }))
 unfolding moves
 moves_to mmu va a t v ram d small h = through_to ram d a t v (walked ram (root_of mmu) va a) small h
 
@@ -278,7 +286,8 @@ tries_fine n mmu x f =
     let fetch = fetches mmu x.cpu.control.pc (record { user = is_user n x.cpu; kind = kinds.Fetch }) x.memory.ram in
     let a = proceeds board n mmu x fetch.0 fetch.1 in
     ended_fine n x a.0 a.1.0.access a.1.0.trap a.1.1
-    (proceeded n mmu x.cpu x.memory.device f.cpu x.memory.ram fetch.0 fetch.1 (fetches_held mmu x.cpu.control.pc (record { user = is_user n x.cpu; kind = kinds.Fetch }) x.memory.ram x.memory.device f.held))
+    (proceeded n mmu x.cpu x.memory.device f.cpu x.memory.ram fetch.0 fetch.1
+    (fetches_held mmu x.cpu.control.pc (record { user = is_user n x.cpu; kind = kinds.Fetch }) x.memory.ram x.memory.device f.held))
 
 goes_on_fine : (n : ℕ) (mmu : MmuRegs) (x : World n Device) (stop : Option Stop) (error : Option ℕ) (annul : Bool) → IsFine n x → IsFine n (goes_on board n mmu x stop error annul).1
 goes_on_fine n mmu x (Some st) error annul f = f

@@ -113,7 +113,8 @@ apart_fixed g at i Half few free whole less fixed = let most = few.data_pages in
 apart_fixed g at i Word few free whole less fixed = let most = few.data_pages in let low = free.low in apart_by g at 4 i free fixed (λ from to. (omega arith, omega arith))
 apart_fixed g at i Double few free whole less fixed = let most = few.data_pages in let low = free.low in apart_by g at 8 i free fixed (λ from to. (omega arith, omega arith))
 
-pub number_stored : (n : ℕ) (g : Pages) (held : Contents) (ram : List ℕ) (at : ℕ) (size : Size) (old v : ℕ) → AreFew g → IsKept n g held ram → number_at ram at size ≡ Some old → IsFree g at → IsKept n g held (with_number ram at size v)
+pub number_stored : (n : ℕ) (g : Pages) (held : Contents) (ram : List ℕ) (at : ℕ) (size : Size) (old v : ℕ) → AreFew g → IsKept n g held ram →
+    number_at ram at size ≡ Some old → IsFree g at → IsKept n g held (with_number ram at size v)
 number_stored n g held ram at size old v few k there free =
     let h = number_is ram at size old there in
     let low = free.low in

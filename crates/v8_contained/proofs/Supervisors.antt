@@ -107,10 +107,23 @@ pair_quiet (transfer.Exchange x) e = no_word e
 small_word : (a : ℕ) → a % 2 ^ 32 < 2 ^ 32
 small_word a = omega arith
 
-pub super_goes : (n : ℕ) (cpu : Cpu n) (regs : Windows) (c : Control) → IsSupervisor n cpu → IsShaped n regs → c.s ≡ cpu.control.s → c.et ≡ cpu.control.et → c.ps ≡ cpu.control.ps → c.annul ≡ cpu.control.annul → c.base ≡ cpu.control.base → c.error ≡ cpu.control.error → c.npc < 2 ^ 32 →
+pub super_goes : (n : ℕ) (cpu : Cpu n) (regs : Windows) (c : Control) → IsSupervisor n cpu → IsShaped n regs → c.s ≡ cpu.control.s → c.et ≡ cpu.control.et →
+    c.ps ≡ cpu.control.ps → c.annul ≡ cpu.control.annul → c.base ≡ cpu.control.base → c.error ≡ cpu.control.error → c.npc < 2 ^ 32 →
     (p : Place) × Stands {n = n} (record { regs = regs; control = c }) p → IsSupervisor n (record { regs = regs; control = c })
 super_goes n cpu regs c u shape s et ps annul base error npc at =
-    record { shape = shape; system = s ∙ u.system; off = et ∙ u.off; before = ps ∙ u.before; straight = annul ∙ u.straight; table = base ∙ u.table; sane = error ∙ u.sane; npc_word = npc; place = at.0; stands = at.1 }
+    record {
+      shape = shape;
+      system = s ∙ u.system;
+      off = et ∙ u.off;
+      before = ps ∙ u.before;
+      straight = annul ∙ u.straight;
+      table = base ∙ u.table;
+      sane =
+          error ∙ u.sane;
+      npc_word = npc;
+      place = at.0;
+      stands = at.1;
+    }
 
 -- where the next word is, whatever the registers
 abbrev pub Nexts : {n : ℕ} → Cpu n → Type 0
@@ -127,10 +140,13 @@ pub record SuperEnds (n : ℕ) (g : Pages) (held : Contents) (d : Device) (o : O
   pub device : o.1.memory.device ≡ d
   pub mode : MadeBy n o.0.trap o.1.cpu
 
-module _ (n : ℕ) (g : Pages) (held : Contents) (ram : List ℕ) (d : Device) (mmu : MmuRegs) (cpu : Cpu n) (few : 4 ≤ n) (pages : AreFew g) (root : root_of mmu ≡ 0x2000) (kept : IsKept n g held ram) (u : IsSupervisor n cpu) where
+module _ (n : ℕ) (g : Pages) (held : Contents) (ram : List ℕ) (d : Device) (mmu : MmuRegs) (cpu : Cpu n) (few : 4 ≤ n) (pages : AreFew g)
+    (root : root_of mmu ≡ 0x2000) (kept : IsKept n g held ram) (u : IsSupervisor n cpu) where
   pub goes_written : (rd x : ℕ) → Nexts cpu → IsSupervisor n (written n cpu rd x)
   unfolding written advanced
-  goes_written rd x at = super_goes n cpu (with_reg n cpu.regs rd x) (advanced cpu.control) u (shaped_reg n cpu.regs rd x few u.shape) refl refl refl refl refl refl (small_word (cpu.control.npc + 4)) (at (record { regs = with_reg n cpu.regs rd x; control = advanced cpu.control }) refl refl)
+  goes_written rd x at =
+      super_goes n cpu (with_reg n cpu.regs rd x) (advanced cpu.control) u (shaped_reg n cpu.regs rd x few u.shape) refl refl refl refl refl refl
+      (small_word (cpu.control.npc + 4)) (at (record { regs = with_reg n cpu.regs rd x; control = advanced cpu.control }) refl refl)
 
   goes_taken : (t : Moving) (rd number : ℕ) → Nexts cpu → IsSupervisor n (taken n cpu t rd number)
   unfolding taken advanced
@@ -141,19 +157,23 @@ module _ (n : ℕ) (g : Pages) (held : Contents) (ram : List ℕ) (d : Device) (
 
   pub goes_stepped : (regs : Windows) → IsShaped n regs → Nexts cpu → IsSupervisor n (record { regs = regs; control = advanced cpu.control })
   unfolding advanced
-  goes_stepped regs shape at = super_goes n cpu regs (advanced cpu.control) u shape refl refl refl refl refl refl (small_word (cpu.control.npc + 4)) (at (record { regs = regs; control = advanced cpu.control }) refl refl)
+  goes_stepped regs shape at =
+      super_goes n cpu regs (advanced cpu.control) u shape refl refl refl refl refl refl (small_word (cpu.control.npc + 4))
+      (at (record { regs = regs; control = advanced cpu.control }) refl refl)
 
   -- a window that is entered, and a register there
   goes_moved : (w rd x : ℕ) → w < n → Nexts cpu → IsSupervisor n (written n (record cpu { regs = moved cpu.regs w }) rd x)
   unfolding written advanced
   goes_moved w rd x less at =
-      super_goes n cpu (with_reg n (moved cpu.regs w) rd x) (advanced cpu.control) u (shaped_reg n (moved cpu.regs w) rd x few (shaped_moved n cpu.regs w u.shape less)) refl refl refl refl refl refl (small_word (cpu.control.npc + 4))
+      super_goes n cpu (with_reg n (moved cpu.regs w) rd x) (advanced cpu.control) u
+      (shaped_reg n (moved cpu.regs w) rd x few (shaped_moved n cpu.regs w u.shape less)) refl refl refl refl refl refl (small_word (cpu.control.npc + 4))
       (at (record { regs = with_reg n (moved cpu.regs w) rd x; control = advanced cpu.control }) refl refl)
 
   pub plainly : (new : Cpu n) → IsSupervisor n new → SuperEnds n g held d (record { access = None; trap = None }, world n new ram d)
   plainly new h = record { kept = kept; device = refl; mode = inr h }
 
-  transferred : (va rd : ℕ) (t : Moving) (e : Moved) (m : Memory Device) → Nexts cpu → MoveIs n g held d false (writes_memory t) va (size_of t) (e, m) → SuperEnds n g held d (transfer_ends n va t rd cpu e m)
+  transferred : (va rd : ℕ) (t : Moving) (e : Moved) (m : Memory Device) → Nexts cpu → MoveIs n g held d false (writes_memory t) va (size_of t) (e, m) →
+      SuperEnds n g held d (transfer_ends n va t rd cpu e m)
   transferred va rd t (Done v pa) m at h = record { kept = h.kept; device = h.device; mode = inr (goes_taken t rd v at) }
   transferred va rd t (Fault st) m at h = record { kept = h.kept; device = h.device; mode = u.off }
 
@@ -170,7 +190,9 @@ module _ (n : ℕ) (g : Pages) (held : Contents) (ram : List ℕ) (d : Device) (
       let va = place_of n cpu o in
       let x = sent (reg n cpu) t o.rd in
       let r = moves board mmu va (data_access false t) t x (mem_of ram d) in
-      subst (λ (a : Access). SuperEnds n g held d (transfer_ends n va t o.rd cpu (moves board mmu va a t x (mem_of ram d)).0 (moves board mmu va a t x (mem_of ram d)).1)) (sym (accessed o.space t normal))
+      subst (λ (a : Access). SuperEnds n g held d
+      (transfer_ends n va t o.rd cpu (moves board mmu va a t x (mem_of ram d)).0 (moves board mmu va a t x (mem_of ram d)).1))
+      (sym (accessed o.space t normal))
       (transferred va o.rd t r.0 r.1 at (move_is n g held ram d mmu false va t x pages root kept (super_address o) (pair_quiet t pair)))
 
   writes_mask : (r : StateRegister) (x : ℕ) → is_wim r ≡ true → Nexts cpu → IsSupervisor n (stepped n (with_state n cpu r x))
@@ -184,7 +206,10 @@ module _ (n : ℕ) (g : Pages) (held : Contents) (ram : List ℕ) (d : Device) (
 
   pub tame_acts : (i : Operation) → tame i ≡ true → Nexts cpu → SuperEnds n g held d (acts board n mmu i (world n cpu ram d))
   unfolding tame effect computed advanced
-  tame_acts (Compute op f) e at = plainly (effect n cpu (Compute op f)) (super_goes n cpu _ _ u (shaped_reg n cpu.regs f.rd _ few u.shape) refl refl refl refl refl refl (small_word (cpu.control.npc + 4)) (at (effect n cpu (Compute op f)) refl refl))
+  tame_acts (Compute op f) e at =
+      plainly (effect n cpu (Compute op f))
+      (super_goes n cpu _ _ u (shaped_reg n cpu.regs f.rd _ few u.shape) refl refl refl refl refl refl (small_word (cpu.control.npc + 4))
+      (at (effect n cpu (Compute op f)) refl refl))
   tame_acts (SetHigh f) e at = plainly (effect n cpu (SetHigh f)) (goes_written f.rd _ at)
   tame_acts (ReadState r rd) e at = plainly (effect n cpu (ReadState r rd)) (goes_written rd (state_word n cpu r) at)
   tame_acts (WriteState r f) e at = plainly (effect n cpu (WriteState r f)) (writes_mask r _ e at)
@@ -197,7 +222,8 @@ module _ (n : ℕ) (g : Pages) (held : Contents) (ram : List ℕ) (d : Device) (
   pub jump_acts : (f : Three) → ((c : Cpu n) → c.control.pc ≡ cpu.control.npc → (p : Place) × Stands c p) → SuperEnds n g held d (acts board n mmu (JumpAndLink f) (world n cpu ram d))
   unfolding effect jumped address_of
   jump_acts f at = plainly (effect n cpu (JumpAndLink f))
-      (super_goes n cpu (with_reg n cpu.regs f.rd cpu.control.pc) _ u (shaped_reg n cpu.regs f.rd cpu.control.pc few u.shape) refl refl refl refl refl refl (small_word _) (at (effect n cpu (JumpAndLink f)) refl))
+      (super_goes n cpu (with_reg n cpu.regs f.rd cpu.control.pc) _ u (shaped_reg n cpu.regs f.rd cpu.control.pc few u.shape) refl refl refl refl refl refl
+      (small_word _) (at (effect n cpu (JumpAndLink f)) refl))
 
   -- the return to user code
   pub return_acts : (f : Two) → SuperEnds n g held d (acts board n mmu (ReturnFromTrap f) (world n cpu ram d))
@@ -223,7 +249,8 @@ stuck : (n : ℕ) (cpu : Cpu n) (t : ℕ) → cpu.control.et ≡ false → IsSom
 unfolding entered
 stuck n cpu t off = rw off refl
 
-module _ (n : ℕ) (g : Pages) (held : Contents) (ram : List ℕ) (d : Device) (mmu : MmuRegs) (cpu : Cpu n) (few : 4 ≤ n) (many : n ≤ 32) (pages : AreFew g) (root : root_of mmu ≡ 0x2000) (running : d.stopped ≡ None) (u : IsSupervisor n cpu) where
+module _ (n : ℕ) (g : Pages) (held : Contents) (ram : List ℕ) (d : Device) (mmu : MmuRegs) (cpu : Cpu n) (few : 4 ≤ n) (many : n ≤ 32) (pages : AreFew g)
+    (root : root_of mmu ≡ 0x2000) (running : d.stopped ≡ None) (u : IsSupervisor n cpu) where
   abbrev x : World n Device
   x = world n cpu ram d
 
@@ -233,13 +260,28 @@ module _ (n : ℕ) (g : Pages) (held : Contents) (ram : List ℕ) (d : Device) (
   own_turn : (word : Option ℕ) (access : Option DataAccess) → IsOwn g (is_user n cpu) cpu.control.pc word access
   own_turn word access = subst (λ (b : Bool). IsOwn g (not b) cpu.control.pc word access) (sym u.system) tt
 
-  pub good_end : (word : Option ℕ) (access : Option DataAccess) (mid : World n Device) → IsKept n g held mid.memory.ram → IsSome mid.memory.device.stopped → (mid.memory.device ≡ d) ⊎ ByVector n x mid → Good (ends board n x word access None mid)
-  good_end word access mid l stopped same = record { keeps = record { few = few; many = many; pages = pages; root = root; kept = l; mode = inl (inl stopped) }; own = own_turn word access; device = same }
+  pub good_end : (word : Option ℕ) (access : Option DataAccess) (mid : World n Device) → IsKept n g held mid.memory.ram → IsSome mid.memory.device.stopped →
+      (mid.memory.device ≡ d) ⊎ ByVector n x mid → Good (ends board n x word access None mid)
+  good_end word access mid l stopped same =
+      record {
+        keeps = record { few = few; many = many; pages = pages; root = root; kept = l; mode = inl (inl stopped) };
+        own = own_turn word access;
+        device =
+            same;
+      }
 
-  pub good_more : (word : Option ℕ) (access : Option DataAccess) (mid : World n Device) → IsKept n g held mid.memory.ram → mid.memory.device.stopped ≡ None → IsUser n mid.cpu ⊎ IsSupervisor n mid.cpu → (mid.memory.device ≡ d) ⊎ ByVector n x mid → Good (ends board n x word access None mid)
-  good_more word access mid l going mode same = record { keeps = record { few = few; many = many; pages = pages; root = root; kept = l; mode = inr (record { running = going; mode = mode }) }; own = own_turn word access; device = same }
+  pub good_more : (word : Option ℕ) (access : Option DataAccess) (mid : World n Device) → IsKept n g held mid.memory.ram → mid.memory.device.stopped ≡ None →
+      IsUser n mid.cpu ⊎ IsSupervisor n mid.cpu → (mid.memory.device ≡ d) ⊎ ByVector n x mid → Good (ends board n x word access None mid)
+  good_more word access mid l going mode same =
+      record {
+        keeps = record { few = few; many = many; pages = pages; root = root; kept = l; mode = inr (record { running = going; mode = mode }) };
+        own =
+            own_turn word access;
+        device = same;
+      }
 
-  ended : (word : Option ℕ) (access : Option DataAccess) (trap : Option ℕ) (mid : World n Device) → SuperEnds n g held d (record { access = access; trap = trap }, mid) → Good (ends board n x word access trap mid)
+  ended : (word : Option ℕ) (access : Option DataAccess) (trap : Option ℕ) (mid : World n Device) →
+      SuperEnds n g held d (record { access = access; trap = trap }, mid) → Good (ends board n x word access trap mid)
   ended word access None mid h = good_more word access mid h.kept (ap (λ (e : Device). e.stopped) h.device ∙ running) h.mode (inl h.device)
   ended word access (Some t) mid h = record {
     keeps = record { few = few; many = many; pages = pages; root = root; kept = h.kept; mode = inl (inr (stuck n mid.cpu t h.mode)) };
@@ -250,22 +292,26 @@ module _ (n : ℕ) (g : Pages) (held : Contents) (ram : List ℕ) (d : Device) (
   abbrev Made : ℕ → Outcome × World n Device → Type 0
   Made w o = Good (ends board n x (Some w) o.0.access o.0.trap o.1)
 
-  executed : (w : ℕ) (i : Operation) (marks : List ℕ) (o : Option ℕ) → IsKept n g held marks → Made w (acts board n mmu i (world n cpu marks d)) → Made w (executes_or board n mmu i (world n cpu marks d) o)
+  executed : (w : ℕ) (i : Operation) (marks : List ℕ) (o : Option ℕ) → IsKept n g held marks → Made w (acts board n mmu i (world n cpu marks d)) →
+      Made w (executes_or board n mmu i (world n cpu marks d) o)
   executed w i marks None after done = done
   executed w i marks (Some t) after done = ended (Some w) None (Some t) (world n cpu marks d) (record { kept = after; device = refl; mode = u.off })
 
   -- a turn where the word is known, and what its operation makes
-  pub at_word : (w : ℕ) (i : Operation) (marks : List ℕ) → fetches mmu cpu.control.pc super_fetch ram ≡ (Ok w, marks) → operation_of (meaning w) ≡ i → IsKept n g held marks → Made w (acts board n mmu i (world n cpu marks d)) → Good (next board n mmu x)
+  pub at_word : (w : ℕ) (i : Operation) (marks : List ℕ) → fetches mmu cpu.control.pc super_fetch ram ≡ (Ok w, marks) → operation_of (meaning w) ≡ i →
+      IsKept n g held marks → Made w (acts board n mmu i (world n cpu marks d)) → Good (next board n mmu x)
   unfolding tries attempts executes
   at_word w i marks fetch is after done =
       let ready : Ready board n cpu d = record { running = running; sane = u.sane; straight = u.straight } in
       let F : Result ℕ ℕ × List ℕ → Turn × World n Device = λ f. (let a = proceeds board n mmu x f.0 f.1 in ends board n x a.0 a.1.0.access a.1.0.trap a.1.1) in
-      let mode : fetches mmu cpu.control.pc (record { user = is_user n cpu; kind = kinds.Fetch }) ram ≡ (Ok w, marks) = ap (λ (b : Bool). fetches mmu cpu.control.pc (record { user = not b; kind = kinds.Fetch }) ram) u.system ∙ fetch in
+      let mode : fetches mmu cpu.control.pc (record { user = is_user n cpu; kind = kinds.Fetch }) ram ≡ (Ok w, marks) =
+      ap (λ (b : Bool). fetches mmu cpu.control.pc (record { user = not b; kind = kinds.Fetch }) ram) u.system ∙ fetch in
       subst Good (sym (tries_as board n mmu cpu ram d ready ∙ ap F mode))
       (subst (λ (j : Operation). Made w (executes_or board n mmu j (world n cpu marks d) (first_trap n cpu j))) (sym is) (executed w i marks (first_trap n cpu i) after done))
 
   -- the device isn't reached
-  pub at_quiet : (w : ℕ) (i : Operation) (marks : List ℕ) → fetches mmu cpu.control.pc super_fetch ram ≡ (Ok w, marks) → operation_of (meaning w) ≡ i → IsKept n g held marks → SuperEnds n g held d (acts board n mmu i (world n cpu marks d)) → Good (next board n mmu x)
+  pub at_quiet : (w : ℕ) (i : Operation) (marks : List ℕ) → fetches mmu cpu.control.pc super_fetch ram ≡ (Ok w, marks) → operation_of (meaning w) ≡ i →
+      IsKept n g held marks → SuperEnds n g held d (acts board n mmu i (world n cpu marks d)) → Good (next board n mmu x)
   at_quiet w i marks fetch is after h =
       let o = acts board n mmu i (world n cpu marks d) in
       at_word w i marks fetch is after (ended (Some w) o.0.access o.0.trap o.1 h)

@@ -12,7 +12,8 @@ no_some : {A : Type 0} (o : Option A) → o ≡ None → IsSome o → ⊥
 no_some None none some = let no : false ≡ true = some in cc
 no_some (Some x) none some = cc
 
-user_of : (n : ℕ) (g : Pages) (held : Contents) (mmu : MmuRegs) (x : World n Device) → IsContained n g held mmu x → x.memory.device.stopped ≡ None → x.cpu.control.error ≡ None → x.cpu.control.s ≡ false → IsUser n x.cpu
+user_of : (n : ℕ) (g : Pages) (held : Contents) (mmu : MmuRegs) (x : World n Device) → IsContained n g held mmu x → x.memory.device.stopped ≡ None →
+    x.cpu.control.error ≡ None → x.cpu.control.s ≡ false → IsUser n x.cpu
 user_of n g held mmu x c running sane user = elim c.mode [
   | inl over ↦ elim over [ inl stopped ↦ absurd (no_some x.memory.device.stopped running stopped) | inr error ↦ absurd (no_some x.cpu.control.error sane error) ]
   | inr goes ↦ elim goes.mode [ inl u ↦ u | inr s ↦ absurd (let no : false ≡ true = sym user ∙ s.system in cc) ]

@@ -57,18 +57,22 @@ in_code g va pa acc place (Writable h) may whole = absurd (let no : false ≡ tr
 in_code g va pa acc place (System h) may whole = absurd (let no : false ≡ true = rw h.acc at may in cc)
 in_code g va pa acc place (Registers h) may whole = absurd (let no : false ≡ true = rw h.acc at may in cc)
 
-fetch_answer : (n : ℕ) (g : Pages) (held : Contents) (ram marks : List ℕ) (va : ℕ) (page : Page) (o p : Option ℕ) → IsKept n g held ram → IsKept n g held marks → entry_of ram page.pa ≡ o → (page.pa % 4 ≡ 0 → InCode g va) → FetchIs n g held va (fetch_answered ram page (fetch_by true) marks o p)
+fetch_answer : (n : ℕ) (g : Pages) (held : Contents) (ram marks : List ℕ) (va : ℕ) (page : Page) (o p : Option ℕ) → IsKept n g held ram →
+    IsKept n g held marks → entry_of ram page.pa ≡ o → (page.pa % 4 ≡ 0 → InCode g va) → FetchIs n g held va (fetch_answered ram page (fetch_by true) marks o p)
 fetch_answer n g held ram marks va page None p kept after e own = record { kept = kept; own = tt }
 fetch_answer n g held ram marks va page (Some w) None kept after e own = record { kept = kept; own = tt }
 fetch_answer n g held ram marks va page (Some w) (Some x) kept after e own = record { kept = after; own = own (entry_is ram page.pa w e).0.aligned }
 
-fetch_reached : (n : ℕ) (g : Pages) (held : Contents) (ram : List ℕ) (va : ℕ) (r : Result Page MmuFault) → IsKept n g held ram → Reached g ram va (fetch_by true) r → FetchIs n g held va (fetch_through (fetch_by true) ram r)
+fetch_reached : (n : ℕ) (g : Pages) (held : Contents) (ram : List ℕ) (va : ℕ) (r : Result Page MmuFault) → IsKept n g held ram →
+    Reached g ram va (fetch_by true) r → FetchIs n g held va (fetch_through (fetch_by true) ram r)
 fetch_reached n g held ram va (Err e) kept reach = record { kept = kept; own = tt }
 fetch_reached n g held ram va (Ok page) kept reach =
     let marks = marked_ram ram page.place false in
-    fetch_answer n g held ram marks va page (entry_of ram page.pa) (entry_of marks page.pa) kept (marked_stays n g held ram page.place reach.target false kept reach.mark) refl (in_code g va page.pa reach.acc page.place reach.kind reach.may)
+    fetch_answer n g held ram marks va page (entry_of ram page.pa) (entry_of marks page.pa) kept
+    (marked_stays n g held ram page.place reach.target false kept reach.mark) refl (in_code g va page.pa reach.acc page.place reach.kind reach.may)
 
-pub fetch_is : (n : ℕ) (g : Pages) (held : Contents) (ram : List ℕ) (mmu : MmuRegs) (va : ℕ) → AreFew g → root_of mmu ≡ 0x2000 → IsKept n g held ram → va < 2 ^ 32 → FetchIs n g held va (fetches mmu va (fetch_by true) ram)
+pub fetch_is : (n : ℕ) (g : Pages) (held : Contents) (ram : List ℕ) (mmu : MmuRegs) (va : ℕ) → AreFew g → root_of mmu ≡ 0x2000 → IsKept n g held ram →
+    va < 2 ^ 32 → FetchIs n g held va (fetches mmu va (fetch_by true) ram)
 unfolding fetches
 fetch_is n g held ram mmu va few root kept small = fetch_reached n g held ram va (walked ram (root_of mmu) va (fetch_by true)) kept (reaches n g held ram mmu va (fetch_by true) few root kept small)
 
@@ -103,7 +107,8 @@ user_entered n cpu t few u small =
 
 -- ---- the turn
 
-module _ (n : ℕ) (g : Pages) (held : Contents) (ram : List ℕ) (d : Device) (mmu : MmuRegs) (cpu : Cpu n) (few : 4 ≤ n) (many : n ≤ 32) (pages : AreFew g) (root : root_of mmu ≡ 0x2000) (kept : IsKept n g held ram) (running : d.stopped ≡ None) (u : IsUser n cpu) where
+module _ (n : ℕ) (g : Pages) (held : Contents) (ram : List ℕ) (d : Device) (mmu : MmuRegs) (cpu : Cpu n) (few : 4 ≤ n) (many : n ≤ 32) (pages : AreFew g)
+    (root : root_of mmu ≡ 0x2000) (kept : IsKept n g held ram) (running : d.stopped ≡ None) (u : IsUser n cpu) where
   abbrev x : World n Device
   x = world n cpu ram d
 
@@ -113,7 +118,8 @@ module _ (n : ℕ) (g : Pages) (held : Contents) (ram : List ℕ) (d : Device) (
   own_turn : (word : Option ℕ) (access : Option DataAccess) → IsOwnFetch g cpu.control.pc word → IsOwnAccess g access → IsOwn g (is_user n cpu) cpu.control.pc word access
   own_turn word access f a = subst (λ (b : Bool). IsOwn g (not b) cpu.control.pc word access) (sym u.user) (f, a)
 
-  ended : (word : Option ℕ) (access : Option DataAccess) (trap : Option ℕ) (mid : World n Device) → IsOwnFetch g cpu.control.pc word → UserEnds n g held d (record { access = access; trap = trap }, mid) → TurnIs n g held mmu x (ends board n x word access trap mid)
+  ended : (word : Option ℕ) (access : Option DataAccess) (trap : Option ℕ) (mid : World n Device) → IsOwnFetch g cpu.control.pc word →
+      UserEnds n g held d (record { access = access; trap = trap }, mid) → TurnIs n g held mmu x (ends board n x word access trap mid)
   ended word access None mid f h = record { keeps = contained mid h.kept h.device (inl h.cpu); own = own_turn word access f h.access; device = inl h.device }
   ended word access (Some t) mid f h = record {
     keeps = contained (record mid { cpu = entered n mid.cpu t }) h.kept h.device (inr (user_entered n mid.cpu t few h.cpu h.trap));
@@ -146,7 +152,9 @@ module _ (n : ℕ) (g : Pages) (held : Contents) (ram : List ℕ) (d : Device) (
   annulled : TurnIs n g held mmu x (turn_of n cpu Annulled None None, record x { cpu = skipped n cpu })
   unfolding advanced
   annulled = record {
-    keeps = contained (record x { cpu = skipped n cpu }) kept refl (inl (user_goes n cpu cpu.regs (record (advanced cpu.control) { annul = false }) u u.shape refl refl refl refl u.npc_word (let w : (cpu.control.npc + 4) % 2 ^ 32 < 2 ^ 32 = omega arith in w)));
+    keeps = contained (record x { cpu = skipped n cpu }) kept refl
+        (inl (user_goes n cpu cpu.regs (record (advanced cpu.control) { annul = false }) u u.shape refl refl refl refl u.npc_word
+        (let w : (cpu.control.npc + 4) % 2 ^ 32 < 2 ^ 32 = omega arith in w)));
     own = own_turn None None tt tt;
     device = inl refl;
   }

@@ -10,7 +10,8 @@ use Rattle.v8_core.specs.Spaces.{is_normal}
 use Rattle.v8_core.specs.Transfers.{received, sent, size_of, writes_memory}
 use Rattle.v8_core.specs.MemoryOperand.{MemoryOperand}
 use Rattle.v8_core.specs.Operation.{Operation}
-use Rattle.v8_core.specs.Operation.TheVariants.{Compute, Divide, TaggedTrap, SetHigh, ReadY, WriteY, ReadState, WriteState, Transfer, Save, Restore, Call, BranchOnCondition, JumpAndLink, ReturnFromTrap, TrapOnCondition, Nothing, Illegal, FloatingPoint, Coprocessor}
+use Rattle.v8_core.specs.Operation.TheVariants.{Compute, Divide, TaggedTrap, SetHigh, ReadY, WriteY, ReadState, WriteState, Transfer, Save, Restore, Call}
+use Rattle.v8_core.specs.Operation.TheVariants.{BranchOnCondition, JumpAndLink, ReturnFromTrap, TrapOnCondition, Nothing, Illegal, FloatingPoint, Coprocessor}
 use Rattle.v8_core.specs.Transfer.{Transfer as Moving}
 use Rattle.v8_core.specs.Space.{Space}
 use Rattle.v8_core.specs.Space.TheVariants as spaces
@@ -80,19 +81,23 @@ normal_is spaces.Missing mode user e = absurd (let no : true ≡ false = rw user
 small_word : (a : ℕ) → a % 2 ^ 32 < 2 ^ 32
 small_word a = omega arith
 
-pub user_goes : (n : ℕ) (cpu : Cpu n) (regs : Windows) (c : Control) → IsUser n cpu → IsShaped n regs → c.s ≡ cpu.control.s → c.et ≡ cpu.control.et → c.base ≡ cpu.control.base → c.error ≡ cpu.control.error → c.pc < 2 ^ 32 → c.npc < 2 ^ 32 →
+pub user_goes : (n : ℕ) (cpu : Cpu n) (regs : Windows) (c : Control) → IsUser n cpu → IsShaped n regs → c.s ≡ cpu.control.s → c.et ≡ cpu.control.et →
+    c.base ≡ cpu.control.base → c.error ≡ cpu.control.error → c.pc < 2 ^ 32 → c.npc < 2 ^ 32 →
     IsUser n (record { regs = regs; control = c })
 user_goes n cpu regs c u shape s et base error pc npc =
     record { shape = shape; user = s ∙ u.user; traps = et ∙ u.traps; table = base ∙ u.table; sane = error ∙ u.sane; pc_word = pc; npc_word = npc }
 
 pub user_written : (n : ℕ) (cpu : Cpu n) (rd x : ℕ) → 4 ≤ n → IsUser n cpu → IsUser n (written n cpu rd x)
 unfolding written advanced
-user_written n cpu rd x few u = user_goes n cpu (with_reg n cpu.regs rd x) (advanced cpu.control) u (shaped_reg n cpu.regs rd x few u.shape) refl refl refl refl u.npc_word (small_word (cpu.control.npc + 4))
+user_written n cpu rd x few u =
+    user_goes n cpu (with_reg n cpu.regs rd x) (advanced cpu.control) u (shaped_reg n cpu.regs rd x few u.shape) refl refl refl refl u.npc_word
+    (small_word (cpu.control.npc + 4))
 
 pub user_taken : (n : ℕ) (cpu : Cpu n) (t : Moving) (rd number : ℕ) → 4 ≤ n → IsUser n cpu → IsUser n (taken n cpu t rd number)
 unfolding taken advanced
 user_taken n cpu t rd number few u =
-    user_goes n cpu (with_regs n cpu.regs (received t rd number)) (advanced cpu.control) u (shaped_regs n cpu.regs (received t rd number) few u.shape) refl refl refl refl u.npc_word (small_word (cpu.control.npc + 4))
+    user_goes n cpu (with_regs n cpu.regs (received t rd number)) (advanced cpu.control) u
+    (shaped_regs n cpu.regs (received t rd number) few u.shape) refl refl refl refl u.npc_word (small_word (cpu.control.npc + 4))
 
 pub user_stepped : (n : ℕ) (cpu : Cpu n) → IsUser n cpu → IsUser n (stepped n cpu)
 unfolding advanced
@@ -104,7 +109,8 @@ user_faulted n cpu st u = user_goes n cpu cpu.regs (record cpu.control { status 
 user_computed : (n : ℕ) (cpu : Cpu n) (rd : ℕ) (out : AluOut) → 4 ≤ n → IsUser n cpu → IsUser n (computed n cpu rd out)
 unfolding computed advanced
 user_computed n cpu rd out few u =
-    user_goes n cpu (with_reg n cpu.regs rd out.value) (record (advanced cpu.control) { icc = out.icc; y = out.y }) u (shaped_reg n cpu.regs rd out.value few u.shape) refl refl refl refl u.npc_word (small_word (cpu.control.npc + 4))
+    user_goes n cpu (with_reg n cpu.regs rd out.value) (record (advanced cpu.control) { icc = out.icc; y = out.y }) u
+    (shaped_reg n cpu.regs rd out.value few u.shape) refl refl refl refl u.npc_word (small_word (cpu.control.npc + 4))
 
 user_from : (n : ℕ) (cpu : Cpu n) (rd : ℕ) (o : Option AluOut) → 4 ≤ n → IsUser n cpu → IsUser n (computed_from n cpu rd o)
 user_from n cpu rd None few u = u
@@ -121,9 +127,28 @@ user_branched : (n : ℕ) (cpu : Cpu n) (b : Branch) → IsUser n cpu → IsUser
 unfolding branched jumped advanced
 user_branched n cpu b u = by_test (holds b.cond cpu.control.icc)
   where
-    by_test : (t : Bool) → IsUser n (record cpu { control = cond t (record cpu.control { pc = cpu.control.npc; npc = target cpu.control.pc b.displacement; annul = annuls b cpu.control.icc }) (record cpu.control { pc = cpu.control.npc; npc = following cpu.control.npc; annul = annuls b cpu.control.icc }) })
-    by_test true = user_goes n cpu cpu.regs (record cpu.control { pc = cpu.control.npc; npc = target cpu.control.pc b.displacement; annul = annuls b cpu.control.icc }) u u.shape refl refl refl refl u.npc_word (small_word (cpu.control.pc + 4 * b.displacement))
-    by_test false = user_goes n cpu cpu.regs (record cpu.control { pc = cpu.control.npc; npc = following cpu.control.npc; annul = annuls b cpu.control.icc }) u u.shape refl refl refl refl u.npc_word (small_word (cpu.control.npc + 4))
+    by_test : (t : Bool) →
+        IsUser n (record cpu {
+          control =
+              cond t (record cpu.control { pc = cpu.control.npc; npc = target cpu.control.pc b.displacement; annul = annuls b cpu.control.icc })
+              (record cpu.control { pc = cpu.control.npc; npc = following cpu.control.npc; annul = annuls b cpu.control.icc });
+        })
+    by_test true =
+        user_goes n cpu cpu.regs
+        (record cpu.control {
+          pc = cpu.control.npc;
+          npc = target cpu.control.pc b.displacement;
+          annul =
+              annuls b cpu.control.icc;
+        }) u u.shape refl refl refl refl u.npc_word (small_word (cpu.control.pc + 4 * b.displacement))
+    by_test false =
+        user_goes n cpu cpu.regs
+        (record cpu.control {
+          pc = cpu.control.npc;
+          npc = following cpu.control.npc;
+          annul =
+              annuls b cpu.control.icc;
+        }) u u.shape refl refl refl refl u.npc_word (small_word (cpu.control.npc + 4))
 
 user_address : (n : ℕ) (cpu : Cpu n) (o : MemoryOperand) → place_of n cpu o < 2 ^ 32
 unfolding address_of
@@ -149,8 +174,12 @@ user_effect n cpu (WriteY f) few u calm = user_goes n cpu cpu.regs _ u u.shape r
 user_effect n cpu (ReadState r rd) few u calm = absurd (no_user cpu.control.s u.user calm)
 user_effect n cpu (WriteState r f) few u calm = absurd (state_refused n cpu r f u.user calm)
 user_effect n cpu (Transfer t m) few u calm = u
-user_effect n cpu (Save f) few u calm = user_written n (record cpu { regs = moved cpu.regs (below n cpu.regs.current) }) f.rd _ few (user_moved n cpu (below n cpu.regs.current) (below_less n cpu.regs.current few u.shape.current) u)
-user_effect n cpu (Restore f) few u calm = user_written n (record cpu { regs = moved cpu.regs (above n cpu.regs.current) }) f.rd _ few (user_moved n cpu (above n cpu.regs.current) (above_less n cpu.regs.current few u.shape.current) u)
+user_effect n cpu (Save f) few u calm =
+    user_written n (record cpu { regs = moved cpu.regs (below n cpu.regs.current) }) f.rd _ few
+    (user_moved n cpu (below n cpu.regs.current) (below_less n cpu.regs.current few u.shape.current) u)
+user_effect n cpu (Restore f) few u calm =
+    user_written n (record cpu { regs = moved cpu.regs (above n cpu.regs.current) }) f.rd _ few
+    (user_moved n cpu (above n cpu.regs.current) (above_less n cpu.regs.current few u.shape.current) u)
 user_effect n cpu (Call d) few u calm = user_jumped n cpu 15 cpu.control.pc _ few (small_word (cpu.control.pc + 4 * d)) u
 user_effect n cpu (BranchOnCondition b) few u calm = user_branched n cpu b u
 user_effect n cpu (JumpAndLink f) few u calm = user_jumped n cpu f.rd cpu.control.pc _ few (small_word _) u
@@ -171,7 +200,8 @@ pub record UserEnds (n : ℕ) (g : Pages) (held : Contents) (d : Device) (o : Ou
   pub trap : IfSome o.0.trap (λ t. t < 256)
   pub access : IsOwnAccess g o.0.access
 
-module _ (n : ℕ) (g : Pages) (held : Contents) (ram : List ℕ) (d : Device) (mmu : MmuRegs) (cpu : Cpu n) (few : 4 ≤ n) (pages : AreFew g) (root : root_of mmu ≡ 0x2000) (kept : IsKept n g held ram) (u : IsUser n cpu) where
+module _ (n : ℕ) (g : Pages) (held : Contents) (ram : List ℕ) (d : Device) (mmu : MmuRegs) (cpu : Cpu n) (few : 4 ≤ n) (pages : AreFew g)
+    (root : root_of mmu ≡ 0x2000) (kept : IsKept n g held ram) (u : IsUser n cpu) where
   ended : (va rd : ℕ) (t : Moving) (e : Moved) (m : Memory Device) → MoveIs n g held d true (writes_memory t) va (size_of t) (e, m) → UserEnds n g held d (transfer_ends n va t rd cpu e m)
   ended va rd t (Done v pa) m h = record { kept = h.kept; device = h.device; cpu = user_taken n cpu t rd v few u; trap = tt; access = h.owns }
   ended va rd t (Fault st) m h = record { kept = h.kept; device = h.device; cpu = user_faulted n cpu st u; trap = lit< tt; access = tt }
@@ -185,7 +215,9 @@ module _ (n : ℕ) (g : Pages) (held : Contents) (ram : List ℕ) (d : Device) (
       let va = place_of n cpu o in
       let x = sent (reg n cpu) t o.rd in
       let r = moves board mmu va (data_access true t) t x (mem_of ram d) in
-      subst (λ (a : Access). UserEnds n g held d (transfer_ends n va t o.rd cpu (moves board mmu va a t x (mem_of ram d)).0 (moves board mmu va a t x (mem_of ram d)).1)) (sym (accessed o.space t normal))
+      subst (λ (a : Access). UserEnds n g held d
+      (transfer_ends n va t o.rd cpu (moves board mmu va a t x (mem_of ram d)).0 (moves board mmu va a t x (mem_of ram d)).1))
+      (sym (accessed o.space t normal))
       (ended va o.rd t r.0 r.1 (move_is n g held ram d mmu true va t x pages root kept (user_address n cpu o) tt))
 
   plainly : (new : Cpu n) → IsUser n new → UserEnds n g held d (record { access = None; trap = None }, world n new ram d)

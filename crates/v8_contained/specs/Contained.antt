@@ -1,5 +1,6 @@
 -- What a board keeps, whatever words its code has: the invariant of containment.
-use Rattle.std.specs.Prelude.{ℕ, ◌≡◌, ◌+◌, ◌*◌, ◌%◌, ◌/◌, ◌^◌, ◌<◌, ◌≤◌, ◌⊎◌, ◌==◌, if◌then◌else◌, Bool, true, false, List, [], ◌∷◌, ◌++◌, length, get_or, slice_index, Option, Some, None, IsSome}
+use Rattle.std.specs.Prelude.{ℕ, ◌≡◌, ◌+◌, ◌*◌, ◌%◌, ◌/◌, ◌^◌, ◌<◌, ◌≤◌, ◌⊎◌, ◌==◌, if◌then◌else◌, Bool, true, false}
+use Rattle.std.specs.Prelude.{List, [], ◌∷◌, ◌++◌, length, get_or, slice_index, Option, Some, None, IsSome}
 use Rattle.v8_core.specs.Transfers.{bytes_in}
 use Rattle.v8_core.specs.Windows.{Windows, reg_of}
 use Rattle.v8_core.specs.Walked.{root_of}
@@ -9,7 +10,8 @@ use Rattle.v8_core.specs.Cpu.{Cpu}
 use Rattle.v8_core.specs.Accesses.{World}
 use Rattle.v8_core.specs.declared.turn.DataAccess.{DataAccess}
 use Rattle.v8_core.specs.declared.turn.Turn.{Turn}
-use Rattle.v8_map.specs.declared.TheConstants.{PAGE, CODE_START, DATA_PLACE, TRAP_TABLE, HANDLERS, DEVICE, CONTEXT_TABLE}
+use Rattle.v8_map.specs.declared.TheConstants.{PAGE, CODE_START, DATA_PLACE, TRAP_TABLE, HANDLERS, DEVICE}
+use Rattle.v8_map.specs.declared.TheConstants.{CONTEXT_TABLE}
 use Rattle.v8_loaded.specs.Layout.{Pages, AreFew, IsLoaded, data_count, is_writable}
 use Rattle.v8_loaded.specs.AddressMap.{may_be_read, may_be_written}
 use Rattle.v8_loaded.specs.Board.{Device, gets}
@@ -125,14 +127,16 @@ pub record Contents : Type 0 where
 abbrev pub HasFixed : Pages → List ℕ → List ℕ → Type 0
 HasFixed g bytes ram = (i : ℕ) → i < PAGE * data_count g → is_writable g (i / PAGE) ≡ false → slice_index ram (DATA_PLACE + i) ≡ slice_index bytes i
 
--- what stays as it was loaded: tables, R and M aside, trap table, handlers, code, and the pages of data that may not be written
+-- what stays as it was loaded: tables, R and M aside, trap table, handlers, code, and the pages of data that may not be
+-- written
 pub record IsKept (n : ℕ) (g : Pages) (held : Contents) (ram : List ℕ) : Type 0 where
   pub loaded : IsLoaded n g held.words ram
   pub fixed : HasFixed g held.bytes ram
 
 -- ---- the invariant
 
--- What was loaded is there, and user code runs, or a vector or a handler that it trapped into, or the machine has ended.
+-- What was loaded is there, and user code runs, or a vector or a handler that it trapped into, or the machine has
+-- ended.
 pub record IsContained (n : ℕ) (g : Pages) (held : Contents) (mmu : MmuRegs) (x : World n Device) : Type 0 where
   pub few : 4 ≤ n
   pub many : n ≤ 32
@@ -175,9 +179,10 @@ pub record ByVector (n : ℕ) (old new : World n Device) : Type 0 where
   pub at : IsActing old.cpu trap
   pub is : new.memory.device ≡ acted trap (reg_of n old.cpu.regs 24) old.memory.device
 
--- What a turn of a contained board is: it stays contained; what user code fetched and reached is its own; and the device is as it
--- was, or as a vector makes it.
-pub record TurnIs (n : ℕ) (g : Pages) (held : Contents) (mmu : MmuRegs) (old : World n Device) (made : Turn × World n Device) : Type 0 where
+-- What a turn of a contained board is: it stays contained; what user code fetched and reached is its own; and the
+-- device is as it was, or as a vector makes it.
+pub record TurnIs (n : ℕ) (g : Pages) (held : Contents) (mmu : MmuRegs) (old : World n Device) (made : Turn
+    × World n Device) : Type 0 where
   pub keeps : IsContained n g held mmu made.1
   pub own : IsOwn g made.0.user made.0.pc made.0.word made.0.access
   pub device : (made.1.memory.device ≡ old.memory.device) ⊎ ByVector n old made.1

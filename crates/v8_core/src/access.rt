@@ -7,8 +7,8 @@ pub enum Moved {
     Fault(u32),
 }
 
-/// How a fetch ends: the word with what takes its mark away again, the place and the former word of the page's entry; or the
-/// fault status.
+/// How a fetch ends: the word with what takes its mark away again, the place and the former word of the page's entry;
+/// or the fault status.
 #[derive(Clone, Copy)]
 pub enum Fetched {
     Word { word: u32, place: u64, before: u32 },

@@ -1,11 +1,13 @@
 //! The machine: a processor and an MMU on a bus.
-ghost use Rattle.std.specs.Prelude.{◌≡◌, ℕ, ◌+◌, ◌*◌, ◌/◌, ◌%◌, ◌^◌, ◌<◌, ◌≤◌, ◌↔◌, IsTrue, IfErr, IfOk, IfSome, OnErr, if◌then◌else◌};
+ghost use Rattle.std.specs.Prelude.{◌≡◌, ℕ, ◌+◌, ◌*◌, ◌/◌, ◌%◌, ◌^◌, ◌<◌, ◌≤◌, ◌↔◌, IsTrue, IfErr, IfOk, IfSome, OnErr};
+ghost use Rattle.std.specs.Prelude.{if◌then◌else◌};
 ghost use Rattle.std.specs.Borrow.{Lends, sem};
 ghost use Rattle.v8_mmu.specs.Answers.{Grows, failed_after};
 ghost use Rattle.v8_mmu.specs.Paths.{LeadsTo};
 ghost use Rattle.v8_mmu.specs.Walked.{root_of};
 ghost use Rattle.v8_state.specs.Windows.{IsFile, reg_of, with_reg};
-ghost use Rattle.v8_state.specs.Registers.{booted, cleared, psr_of, psr_window, started_with, tbr_of, trap_base, with_psr, with_wim};
+ghost use Rattle.v8_state.specs.Registers.{booted, cleared, psr_of, psr_window, started_with, tbr_of, trap_base};
+ghost use Rattle.v8_state.specs.Registers.{with_psr, with_wim};
 ghost use Rattle.v8_core.specs.Accesses.{world};
 ghost use Rattle.v8_core.specs.Calls.{calls_by, most_calls};
 ghost use Rattle.v8_core.specs.Steps.{next};
@@ -60,8 +62,9 @@ impl<const N: usize, B: Bus> Machine<N, B> {
         }
     }
 
-    /// Starts a program: window 0, WIM 2, user mode, traps enabled, the trap table at F0000000, %sp 000FFFC0, PC 00040000;
-    /// fault status 0, no annulled instruction, no error mode. Other registers and Y stay, and so does the bus.
+    /// Starts a program: window 0, WIM 2, user mode, traps enabled, the trap table at F0000000, %sp 000FFFC0, PC
+    /// 00040000; fault status 0, no annulled instruction, no error mode. Other registers and Y stay, and so does the
+    /// bus.
     pub fn boot(&mut self)
         ensures cpu { self.new.cpu ≡ booted N self.old.cpu }
         ensures file { IsFile N self.new.cpu.regs }
@@ -71,10 +74,10 @@ impl<const N: usize, B: Bus> Machine<N, B> {
         self.cpu.boot();
     }
 
-    /// One turn (chapters 5 to 7). A machine that has stopped or is in error mode tells that again, without a word or an
-    /// access, and changes nothing. The port is called at most once: by the access that is told of, where the bus's meaning says
-    /// that it may be, or by the one that it failed. On its fault nothing has changed, page bits included, and its count of failures
-    /// rose by one, as it does nowhere else; the fault is the one that the port answered.
+    /// One turn (chapters 5 to 7). A machine that has stopped or is in error mode tells that again, without a word or
+    /// an access, and changes nothing. The port is called at most once: by the access that is told of, where the bus's
+    /// meaning says that it may be, or by the one that it failed. On its fault nothing has changed, page bits included,
+    /// and its count of failures rose by one, as it does nowhere else; the fault is the one that the port answered.
     #[tactic(auto, unfolding(crate::specs::Steps::next))]
     #[inline(always)]
     pub fn step(&mut self) -> Result<Turn, PortFault>
@@ -86,7 +89,8 @@ impl<const N: usize, B: Bus> Machine<N, B> {
         ensures ram { OnErr result (B.ram self.new.bus ≡ B.ram self.old.bus) }
         ensures device { OnErr result (B.device self.new.bus ≡ B.device self.old.bus) }
         ensures count { B.failed self.new.bus ≡ failed_after result (B.failed self.old.bus) }
-        ensures calls { Grows (most_calls (λ turn. calls_by B.meaning (B.device self.old.bus) turn.access) result) (B.calls self.old.bus) (B.calls self.new.bus) }
+        ensures calls { Grows (most_calls (λ turn. calls_by B.meaning (B.device self.old.bus) turn.access) result)
+            (B.calls self.old.bus) (B.calls self.new.bus) }
         ensures own { IfErr result (λ fault. B.fault self.new.bus ≡ fault) }
     {
         if let Some(stop) = self.bus.stop() {
@@ -163,7 +167,11 @@ impl<const N: usize, B: Bus> Machine<N, B> {
 
     /// Writes TBA and tt; TBR has no other bits.
     pub fn set_tbr(&mut self, word: u32)
-        ensures cpu { self.new.cpu ≡ record self.old.cpu { control = record self.old.cpu.control { base = trap_base word; tt = word / 2 ^ 4 % 2 ^ 8 } } }
+        ensures cpu { self.new.cpu ≡
+            record self.old.cpu {
+              control =
+                  record self.old.cpu.control { base = trap_base word; tt = word / 2 ^ 4 % 2 ^ 8 };
+            } }
         ensures mmu { self.new.mmu ≡ self.old.mmu }
         ensures bus { self.new.bus ≡ self.old.bus }
     {
@@ -248,10 +256,12 @@ impl<const N: usize, B: Bus> Machine<N, B> {
         &self.bus
     }
 
-    /// The bus, to be written to. The machine then goes on with the bus as it was left; its processor and the registers of its MMU
-    /// stay. What it keeps of translations is dropped: where the port alone is to be written to, `port_mut` keeps it.
+    /// The bus, to be written to. The machine then goes on with the bus as it was left; its processor and the registers
+    /// of its MMU stay. What it keeps of translations is dropped: where the port alone is to be written to, `port_mut`
+    /// keeps it.
     pub fn bus_mut(&mut self) -> &mut B
-        ensures* writes_back { sem 𝓛 (Lends (the_row N.row B.row B.Bus) B.row self.entry result (λ w. record self.old { bus = w })) }
+        ensures* writes_back { sem 𝓛
+            (Lends (the_row N.row B.row B.Bus) B.row self.entry result (λ w. record self.old { bus = w })) }
         ensures value { result.now ≡ self.old.bus }
     {
         self.cache.clear();
@@ -269,10 +279,12 @@ impl<const N: usize, B: Bus> Machine<N, B> {
 impl<const N: usize, B: PortBus> Machine<N, B> {
     ghost use Rattle.v8_core.specs.contracts.machine.Machine.{the_row};
 
-    /// The port of the bus, to be written to. The machine then goes on with the bus that has the port as it was left; its processor,
-    /// the registers of its MMU and RAM stay, and so what it keeps of translations does.
+    /// The port of the bus, to be written to. The machine then goes on with the bus that has the port as it was left;
+    /// its processor, the registers of its MMU and RAM stay, and so what it keeps of translations does.
     pub fn port_mut(&mut self) -> &mut B::Port
-        ensures* writes_back { sem 𝓛 (Lends (the_row N.row B.row B.Bus) B.Port.row self.entry result (λ w. record self.old { bus = B.with_port self.old.bus w })) }
+        ensures* writes_back { sem 𝓛
+            (Lends (the_row N.row B.row B.Bus) B.Port.row self.entry result
+            (λ w. record self.old { bus = B.with_port self.old.bus w })) }
         ensures value { result.now ≡ B.port self.old.bus }
     {
         self.bus.port_mut()

@@ -25,8 +25,8 @@ pub struct DataAccess {
     pub store: bool,
 }
 
-/// A turn: what happened, and the current window, the mode and the place before it. `word` is there where a fetch completed,
-/// `access` where a data access did.
+/// A turn: what happened, and the current window, the mode and the place before it. `word` is there where a fetch
+/// completed, `access` where a data access did.
 #[derive(Clone, Copy, PartialEq, Eq)]
 pub struct Turn {
     pub event: Event,

@@ -60,7 +60,8 @@ stored_kept : (old new : List ℕ) (d e : Option Stop) (at : ℕ) (size : Size) 
 stored_kept old new d e at size (Some ram) kept same = λ p apart. let is : new ≡ ram = ap (ram_in old) same in ap (λ r. entry_of r p) is ∙ kept p apart
 stored_kept old new d e at size None kept same = cc
 
-small_by : (old new : List ℕ) (d e : Option Stop) (at v : ℕ) (size : Size) (b : Bool) → Some (new, e) ≡ (if b then Some (old, Some (Exit v)) else stored_with d (ram_store old at size v)) → KeepsWords old new at (bytes_in size)
+small_by : (old new : List ℕ) (d e : Option Stop) (at v : ℕ) (size : Size) (b : Bool) →
+    Some (new, e) ≡ (if b then Some (old, Some (Exit v)) else stored_with d (ram_store old at size v)) → KeepsWords old new at (bytes_in size)
 small_by old new d e at v size true same = λ p apart. let is : new ≡ old = ap (ram_in old) same in ap (λ r. entry_of r p) is
 small_by old new d e at v size false same = stored_kept old new d e at size (ram_store old at size v) (ram_kept old at v size) same
 

@@ -1,5 +1,7 @@
--- A small bus: some bytes of RAM from address 0, and at 10000000 a word that reads 7 and that, written, stops the machine.
-use Rattle.std.specs.Prelude.{ℕ, Bool, true, false, ◌+◌, ◌*◌, ◌/◌, ◌%◌, ◌^◌, ◌==◌, ◌&&◌, List, ◌++◌, take, drop, length, slice_index, slice_set, nat_le, Option, Some, None, if◌then◌else◌}
+-- A small bus: some bytes of RAM from address 0, and at 10000000 a word that reads 7 and that, written, stops the
+-- machine.
+use Rattle.std.specs.Prelude.{ℕ, Bool, true, false, ◌+◌, ◌*◌, ◌/◌, ◌%◌, ◌^◌, ◌==◌, ◌&&◌, List, ◌++◌, take, drop, length}
+use Rattle.std.specs.Prelude.{slice_index, slice_set, nat_le, Option, Some, None, if◌then◌else◌}
 use Rattle.std.specs.Int.{w64, from_be_bytes, to_be_bytes}
 use Rattle.std.specs.Option.{option_map}
 use Rattle.v8_word.specs.declared.Size.{Size}
@@ -23,9 +25,11 @@ ram_load ram at Double = if nat_le (at + 8) (length ram) then Some (from_be_byte
 
 abbrev pub ram_store : List ℕ → ℕ → Size → ℕ → Option (List ℕ)
 ram_store ram at Byte v = if nat_le (at + 1) (length ram) then Some (slice_set ram at v) else None
-ram_store ram at Half v = if has_half ram at then Some (slice_set (slice_set ram at (v / 2 ^ 8)) (at + 1) (v % 2 ^ 8)) else None
+ram_store ram at Half v =
+    if has_half ram at then Some (slice_set (slice_set ram at (v / 2 ^ 8)) (at + 1) (v % 2 ^ 8)) else None
 ram_store ram at Word v = option_map (λ old. with_entry ram at v) (entry_of ram at)
-ram_store ram at Double v = if nat_le (at + 8) (length ram) then Some (take at ram ++ to_be_bytes w64 v ++ drop (at + 8) ram) else None
+ram_store ram at Double v =
+    if nat_le (at + 8) (length ram) then Some (take at ram ++ to_be_bytes w64 v ++ drop (at + 8) ram) else None
 
 -- the RAM after a store that was answered or not
 abbrev pub kept : Bool → List ℕ → Option (List ℕ)
@@ -62,4 +66,11 @@ small_swap ram d at size v = exchanged_after small_store ram at size v (small_lo
 
 -- a port that is broken fails wherever it is called
 abbrev pub small : Meaning (Option Stop)
-small = record { stopped = λ d. d; load = small_load; store = small_store; swap = small_swap; asks = λ d at size store. true }
+small = record {
+  stopped = λ d. d;
+  load = small_load;
+  store = small_store;
+  swap = small_swap;
+  asks =
+      λ d at size store. true;
+}

@@ -1,7 +1,8 @@
 //! A small bus for tests.
 #![tactic(auto, unfolding(v8_mmu::specs::Ram::entry_of, v8_mmu::specs::Ram::with_entry))]
 
-ghost use Rattle.std.specs.Prelude.{◌≡◌, ℕ, ◌+◌, ◌*◌, ◌/◌, ◌%◌, ◌^◌, ◌<◌, ◌≤◌, take, drop, ◌++◌, length, nat_le, ◌==◌, ◌&&◌, IsTrue, ◌↔◌, IfSome, Some, None, IsSome, false, replicate};
+ghost use Rattle.std.specs.Prelude.{◌≡◌, ℕ, ◌+◌, ◌*◌, ◌/◌, ◌%◌, ◌^◌, ◌<◌, ◌≤◌, take, drop, ◌++◌, length, nat_le, ◌==◌};
+ghost use Rattle.std.specs.Prelude.{◌&&◌, IsTrue, ◌↔◌, IfSome, Some, None, IsSome, false, replicate};
 ghost use Rattle.std.specs.Option.{unwrap_or};
 ghost use Rattle.std.specs.Int.{w32, w64, from_be_bytes, to_be_bytes};
 ghost use Rattle.v8_mmu.specs.Answers.{one_more};
@@ -17,8 +18,8 @@ use want::Want;
 /// The address of the device's one word.
 const DEVICE: u64 = 0x1000_0000;
 
-/// `M` bytes of RAM, and a device of one word: it reads 7, and a word written to it stops the machine. A port that is broken
-/// fails at each call.
+/// `M` bytes of RAM, and a device of one word: it reads 7, and a word written to it stops the machine. A port that is
+/// broken fails at each call.
 #[derive(Drop)]
 pub struct Small<const M: usize> {
     bytes: [u8; M],
@@ -285,7 +286,8 @@ impl<const M: usize> Small<M> {
 
     fn take(&mut self, pa: u64, size: Size, value: u64) -> bool
         requires { value < limit_of size }
-        ensures done { answered result self.new.bytes self.new.stop ≡ small_store self.old.bytes self.old.stop pa size value }
+        ensures done { answered result self.new.bytes self.new.stop ≡
+            small_store self.old.bytes self.old.stop pa size value }
         ensures refused { result ≡ false → (self.new.bytes ≡ self.old.bytes) × (self.new.stop ≡ self.old.stop) }
         ensures failures { self.new.failures ≡ self.old.failures }
     {

@@ -7,8 +7,8 @@ use v8_mmu::{MmuRegs, PortFault, Stop};
 use v8_word::{Reg, Size, TrapType};
 use want::Want;
 
-// One page table entry, at ROOT, maps each address to itself. Code begins at CODE and data at 2000; trap vectors begin at
-// VECTORS, and that of `ta 3` returns after it has put the trap's place into %g2.
+// One page table entry, at ROOT, maps each address to itself. Code begins at CODE and data at 2000; trap vectors begin
+// at VECTORS, and that of `ta 3` returns after it has put the trap's place into %g2.
 const ROOT: u64 = 0xFFC;
 
 const CODE: u32 = 0x1000;
@@ -503,7 +503,8 @@ static PROGRAMS: [Program; 47] = [
     },
 ];
 
-/// Words of which the last traps: PSR before them, the pages' ACC, the words, the trap, and the fault status that it leaves.
+/// Words of which the last traps: PSR before them, the pages' ACC, the words, the trap, and the fault status that it
+/// leaves.
 type Trapping = (u32, u32, &'static [u32], u8, u32);
 
 static TRAPS: [Trapping; 41] = [
@@ -798,8 +799,8 @@ fn turns_tell_what_moved(rt: HostRuntime) {
     }
 }
 
-// Accesses of the entry that maps them: %g1 before and after, and the entry after. A page entry of ACC 3 is E, R is 20 and M is 40
-// (hexadecimal). The fetch of the word has set R.
+// Accesses of the entry that maps them: %g1 before and after, and the entry after. A page entry of ACC 3 is E, R is 20
+// and M is 40 (hexadecimal). The fetch of the word has set R.
 const OWN_ENTRY: [(u32, u32, u32, u32); 7] = [
     // ld [%g0+0xFFC],%g1
     (0xC2002FFC, 0, 0x2E, 0x2E),

@@ -272,7 +272,8 @@ fn decoded(word: u32) -> Instr
     }
 }
 
-/// The instruction of a word, by the format table (appendix F): `Undefined` of a word that no row has. Unused bits are ignored.
+/// The instruction of a word, by the format table (appendix F): `Undefined` of a word that no row has. Unused bits are
+/// ignored.
 #[inline(always)]
 pub fn decode(word: u32) -> Instr
     ensures value { result ≡ meaning word }
@@ -281,7 +282,8 @@ pub fn decode(word: u32) -> Instr
     decoded(word)
 }
 
-/// Whether a word is spelled as its instruction is: all its unused bits are 0. Every other word decodes as the canonical one.
+/// Whether a word is spelled as its instruction is: all its unused bits are 0. Every other word decodes as the
+/// canonical one.
 pub fn is_canonical(word: u32) -> bool
     ensures same { IsTrue result ↔ (spelling (meaning word) ≡ word) }
     ensures unused { IsTrue result ↔ IsCanonical word }

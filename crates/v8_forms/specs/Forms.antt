@@ -1,7 +1,9 @@
--- The forms of statements (appendix A and appendix B): a name, the operands behind it, and the word that these are filled into (appendix F).
+-- The forms of statements (appendix A and appendix B): a name, the operands behind it, and the word that these are
+-- filled into (appendix F).
 use Rattle.std.specs.Prelude.{ℕ, ◌+◌, ◌%◌, ◌^◌, ℤ, pos, negsuc, Bool, true, false, List, [], ◌∷◌, ◌++◌, map, codes}
 use Rattle.v8_forms.specs.declared.part.Part.{Part}
-use Rattle.v8_forms.specs.declared.part.Part.TheVariants.{Register, State, Second, Address, Memory, Elsewhere, Number, Call, Branch}
+use Rattle.v8_forms.specs.declared.part.Part.TheVariants.{Register, State, Second, Address, Memory, Elsewhere, Number}
+use Rattle.v8_forms.specs.declared.part.Part.TheVariants.{Call, Branch}
 use Rattle.v8_forms.specs.declared.part.Field.{Field}
 use Rattle.v8_forms.specs.declared.part.Field.TheVariants.{Rd, Rs1, Rs2, Rs1AndRd, Rs2AndRd}
 use Rattle.v8_forms.specs.declared.part.Range.{Range}
@@ -20,7 +22,8 @@ form_of r = record { name = r.name.now; conditional = r.conditional; parts = r.p
 
 -- ---- where operands stand in a word
 
--- what a register's number is multiplied by: rd stands at bit 25, rs1 at 14, rs2 at 0, and one register may stand in two fields
+-- what a register's number is multiplied by: rd stands at bit 25, rs1 at 14, rs2 at 0, and one register may stand in
+-- two fields
 abbrev pub scale : Field → ℕ
 scale Rd = 2 ^ 25
 scale Rs1 = 2 ^ 14

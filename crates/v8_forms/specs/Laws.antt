@@ -1,9 +1,11 @@
 -- The laws of the table of forms.
-use Rattle.std.specs.Prelude.{◌≡◌, ℕ, ◌+◌, ◌*◌, ◌^◌, Bool, true, false, not, ◌&&◌, ◌||◌, if◌then◌else◌, List, [], ◌∷◌, ◌++◌, map}
+use Rattle.std.specs.Prelude.{◌≡◌, ℕ, ◌+◌, ◌*◌, ◌^◌, Bool, true, false, not, ◌&&◌, ◌||◌, if◌then◌else◌, List, [], ◌∷◌}
+use Rattle.std.specs.Prelude.{◌++◌, map}
 use Rattle.std.specs.Str.{bytes_eq}
 use Rattle.std.specs.List.{list_all, list_any}
 use Rattle.v8_formats.specs.declared.instr.Instr.{Instr}
-use Rattle.v8_formats.specs.declared.instr.Instr.TheVariants.{FpOperate, CpOperate, FpMemory, CpMemory, FpBranch, CpBranch, Undefined}
+use Rattle.v8_formats.specs.declared.instr.Instr.TheVariants.{FpOperate, CpOperate, FpMemory, CpMemory, FpBranch}
+use Rattle.v8_formats.specs.declared.instr.Instr.TheVariants.{CpBranch, Undefined}
 use Rattle.v8_formats.specs.Table.{matches, meaning, table}
 use Rattle.v8_forms.specs.declared.part.Part.{Part}
 use Rattle.v8_forms.specs.declared.part.Part.TheVariants as parts
@@ -27,7 +29,8 @@ names f = if f.conditional then map (λ suffix. f.name ++ suffix) suffixes else 
 
 -- a name of one is a name of the other, and their operands are of the same kinds
 abbrev are_alike : Form → Form → Bool
-are_alike f g = bytes_eq (map kind f.parts) (map kind g.parts) && list_any (λ name. list_any (bytes_eq name) (names f)) (names g)
+are_alike f g =
+    bytes_eq (map kind f.parts) (map kind g.parts) && list_any (λ name. list_any (bytes_eq name) (names f)) (names g)
 
 abbrev pub are_told : List Form → Bool
 are_told [] = true
@@ -57,11 +60,14 @@ is_state _ = false
 -- the words of a form with the least operands, one for each state register
 abbrev starts : Form → List ℕ
 starts f =
-    if list_any (λ p. is_state p) f.parts then f.word ∷ (f.word + 2 ^ 19) ∷ (f.word + 2 * 2 ^ 19) ∷ (f.word + 3 * 2 ^ 19) ∷ []
+    if list_any (λ p. is_state p) f.parts then f.word ∷ (f.word + 2 ^ 19) ∷ (f.word + 2 * 2 ^ 19)
+    ∷ (f.word + 3 * 2 ^ 19) ∷ []
     else f.word ∷ []
 
--- the words of the forms of instructions are of instructions with a syntax, and each row of the format table with a syntax has such a form
+-- the words of the forms of instructions are of instructions with a syntax, and each row of the format table with a
+-- syntax has such a form
 abbrev pub CoversTheTable : Type 0
 CoversTheTable =
     (list_all (λ f. list_all (λ w. has_syntax (meaning w)) (starts f)) natives ≡ true)
-    × (list_all (λ r. not (has_syntax (r.gives r.value)) || list_any (λ f. list_any (matches r) (starts f)) natives) table ≡ true)
+    × (list_all (λ r. not (has_syntax (r.gives r.value))
+    || list_any (λ f. list_any (matches r) (starts f)) natives) table ≡ true)

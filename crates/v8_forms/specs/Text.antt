@@ -1,5 +1,7 @@
--- The text of an instruction (appendix A): decimal numbers, targets in bytes from the instruction, both parts of an address, no synthetic form.
-use Rattle.std.specs.Prelude.{ℕ, ◌+◌, ◌-◌, ◌*◌, ◌/◌, ◌%◌, ◌^◌, ◌==◌, nat_lt, Bool, true, if◌then◌else◌, List, [], ◌∷◌, ◌++◌, get_or, Option, Some, None, codes}
+-- The text of an instruction (appendix A): decimal numbers, targets in bytes from the instruction, both parts of an
+-- address, no synthetic form.
+use Rattle.std.specs.Prelude.{ℕ, ◌+◌, ◌-◌, ◌*◌, ◌/◌, ◌%◌, ◌^◌, ◌==◌, nat_lt, Bool, true, if◌then◌else◌, List, [], ◌∷◌}
+use Rattle.std.specs.Prelude.{◌++◌, get_or, Option, Some, None, codes}
 use Rattle.std.specs.List.{find}
 use Rattle.std.specs.Fmt.{decimal, digit_glyph}
 use Rattle.v8_word.specs.Registers.{frame_pointer, stack_pointer}
@@ -53,7 +55,8 @@ number_in ranges.Space w = bits_of w 5 8
 number_in ranges.Whole w = w
 
 abbrev pub operand_in : Range → ℕ → Operand
-operand_in range w = if bits_of w 13 1 == 1 then operands.Immediate (number_in range w) else operands.Register (bits_of w 0 5)
+operand_in range w =
+    if bits_of w 13 1 == 1 then operands.Immediate (number_in range w) else operands.Register (bits_of w 0 5)
 
 abbrev pub near : ℕ → ℕ
 near w = sign_extend 22 (bits_of w 0 22)
@@ -153,7 +156,8 @@ part_text parts.State w = special_text (special_in w)
 part_text (parts.Second range) w = operand_text (operand_in range w)
 part_text (parts.Address range) w = address_text (bits_of w 14 5) (operand_in range w)
 part_text parts.Memory w = memory_text (bits_of w 14 5) (operand_in ranges.Signed w)
-part_text parts.Elsewhere w = memory_text (bits_of w 14 5) (operands.Register (bits_of w 0 5)) ++ codes " " ++ decimal (number_in ranges.Space w)
+part_text parts.Elsewhere w =
+    memory_text (bits_of w 14 5) (operands.Register (bits_of w 0 5)) ++ codes " " ++ decimal (number_in ranges.Space w)
 part_text (parts.Number range) w = decimal (number_in range w)
 part_text parts.Call w = target_text (far w)
 part_text parts.Branch w = target_text (near w)
@@ -182,8 +186,10 @@ form_text f w = f.name ++ suffix_text f.conditional w ++ operands_text f.parts w
 -- eight digits
 abbrev pub hexadecimal : ℕ → List ℕ
 hexadecimal w =
-    digit_glyph true (w / 0x10000000 % 16) ∷ digit_glyph true (w / 0x1000000 % 16) ∷ digit_glyph true (w / 0x100000 % 16) ∷ digit_glyph true (w / 0x10000 % 16)
-    ∷ digit_glyph true (w / 0x1000 % 16) ∷ digit_glyph true (w / 0x100 % 16) ∷ digit_glyph true (w / 0x10 % 16) ∷ digit_glyph true (w % 16) ∷ []
+    digit_glyph true (w / 0x10000000 % 16) ∷ digit_glyph true (w / 0x1000000 % 16)
+    ∷ digit_glyph true (w / 0x100000 % 16) ∷ digit_glyph true (w / 0x10000 % 16)
+    ∷ digit_glyph true (w / 0x1000 % 16) ∷ digit_glyph true (w / 0x100 % 16) ∷ digit_glyph true (w / 0x10 % 16)
+    ∷ digit_glyph true (w % 16) ∷ []
 
 abbrev pub shown : Option Form → ℕ → List ℕ
 shown (Some f) w = form_text f w

@@ -3,7 +3,8 @@ ghost use Rattle.std.specs.Prelude.{◌≡◌, ℕ, ◌+◌, ◌-◌, ◌*◌, �
 ghost use Rattle.std.specs.List.{find};
 ghost use Rattle.v8_word.specs.Word.{bits_of};
 ghost use Rattle.v8_forms.specs.Forms.{form_of, plus};
-ghost use Rattle.v8_forms.specs.Text.{annuls, condition_in, far, filled, is_word_of, near, native_of, number_in, operand_in, register_in, special_in, value, values};
+ghost use Rattle.v8_forms.specs.Text.{annuls, condition_in, far, filled, is_word_of, near, native_of, number_in};
+ghost use Rattle.v8_forms.specs.Text.{operand_in, register_in, special_in, value, values};
 
 use crate::bits::{annul_bit, code_of, elsewhere_bits, low_bits, operand_bits, scale, sum_bits};
 use crate::part::{Field, Part, Range, Special};
@@ -151,7 +152,8 @@ fn is_word_of(row: &Row, word: u32) -> bool
 }
 
 fn first_with(rows: &[Row], word: u32) -> Option<Row>
-    ensures { MatchOption result (find (λ f. is_word_of f word) (map form_of rows.now) ≡ None) (λ r. find (λ f. is_word_of f word) (map form_of rows.now) ≡ Some (form_of r)) }
+    ensures { MatchOption result (find (λ f. is_word_of f word) (map form_of rows.now) ≡ None)
+        (λ r. find (λ f. is_word_of f word) (map form_of rows.now) ≡ Some (form_of r)) }
 {
     match rows.split_first() {
         Some((row, others)) => {

@@ -7,8 +7,8 @@ pub fn forms_are_told_apart()
     ensures { TellsFormsApart }
 {}
 
-/// The words of the forms of instructions are of instructions with a syntax, and each row of the format table with a syntax has
-/// such a form.
+/// The words of the forms of instructions are of instructions with a syntax, and each row of the format table with a
+/// syntax has such a form.
 #[tactic(auto, using(crate::proofs::Tables::covers_table))]
 pub fn forms_cover_the_table()
     ensures { CoversTheTable }

@@ -5,7 +5,9 @@ ghost use Rattle.arrayvec.specs.ArrayString.{array_string_len};
 ghost use Rattle.v8_formats.specs.Spelling.{spelling};
 ghost use Rattle.v8_formats.specs.declared.instr.Operand.TheVariants as operands;
 ghost use Rattle.v8_forms.specs.Forms.{form_of};
-ghost use Rattle.v8_forms.specs.Text.{group_text, register_text, special_text, signed_text, offset_text, operand_text, address_text, memory_text, target_text, part_text, lead_text, behind_text, operands_text, suffix_text, form_text, hexadecimal, text_of};
+ghost use Rattle.v8_forms.specs.Text.{group_text, register_text, special_text, signed_text, offset_text, operand_text};
+ghost use Rattle.v8_forms.specs.Text.{address_text, memory_text, target_text, part_text, lead_text, behind_text};
+ghost use Rattle.v8_forms.specs.Text.{operands_text, suffix_text, form_text, hexadecimal, text_of};
 
 use crate::fields::{
     annuls, far, native_of, near, number_in, operand_in, register_in, space_in, special_in,
@@ -270,8 +272,9 @@ fn push_form(out: &mut ArrayString<64>, row: &Row, word: u32)
     push_operands(out, row.parts, word);
 }
 
-/// The text of an instruction, in the place of what `out` held (appendix A): decimal numbers, targets as `.+N` and `.-N` in bytes,
-/// no synthetic form. A word without syntax is `.word 0x` and eight digits. It takes no memory and always fits.
+/// The text of an instruction, in the place of what `out` held (appendix A): decimal numbers, targets as `.+N` and
+/// `.-N` in bytes, no synthetic form. A word without syntax is `.word 0x` and eight digits. It takes no memory and
+/// always fits.
 #[tactic(auto, unfolding(crate::specs::Text::text_of))]
 pub fn print_instr(instr: &Instr, out: &mut ArrayString<64>)
     ensures { out.new.bytes ≡ text_of instr.now }

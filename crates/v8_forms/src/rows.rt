@@ -4,8 +4,8 @@ ghost use Rattle.v8_forms.specs.Forms.{form_of, forms, natives, suffixes};
 
 use crate::part::{Field, Part, Range};
 
-/// A name, the operands behind it, and the word that these are filled into. Behind a conditional name stands the suffix of a
-/// condition, whose number stands at bit 25.
+/// A name, the operands behind it, and the word that these are filled into. Behind a conditional name stands the suffix
+/// of a condition, whose number stands at bit 25.
 #[derive(Clone, Copy)]
 pub struct Row {
     pub name: &'static str,

@@ -47,20 +47,18 @@ trap_word k = slice_index (vector (k / 4)) (k % 4)
 
 -- ---- the handlers of n windows
 
--- The mask, in %l3, is turned one place to the right; the window below the one that the trap entered is stored from its %sp on.
--- srl %l3,1,%g1; sll %l3,n-1,%l5; or %l5,%g1,%g1; save; wr %g1,%g0,%wim; nop; nop; nop
--- std %l0, %l2, %l4, %l6, %i0, %i2, %i4, %i6 to [%sp], [%sp+8], .. [%sp+56]
--- restore; or %g0,%l4,%g1; jmpl %l1,%g0; rett %l2
+-- The mask, in %l3, is turned one place to the right; the window below the one that the trap entered is stored from its
+-- %sp on. srl %l3,1,%g1; sll %l3,n-1,%l5; or %l5,%g1,%g1; save; wr %g1,%g0,%wim; nop; nop; nop std %l0, %l2, %l4, %l6,
+-- %i0, %i2, %i4, %i6 to [%sp], [%sp+8], .. [%sp+56] restore; or %g0,%l4,%g1; jmpl %l1,%g0; rett %l2
 abbrev pub overflow_handler : ℕ → List ℕ
 overflow_handler n =
     0x8334E001 ∷ (0xAB2CE000 + (n - 1)) ∷ 0x82154001 ∷ 0x81E00000 ∷ 0x81904000 ∷ nop ∷ nop ∷ nop
     ∷ 0xE03BA000 ∷ 0xE43BA008 ∷ 0xE83BA010 ∷ 0xEC3BA018 ∷ 0xF03BA020 ∷ 0xF43BA028 ∷ 0xF83BA030 ∷ 0xFC3BA038
     ∷ 0x81E80000 ∷ 0x82100014 ∷ 0x81C44000 ∷ 0x81CC8000 ∷ []
 
--- The mask, in %l3, is turned one place to the left; the window two above the one that the trap entered is loaded from its %sp on.
--- srl %l3,n-1,%l5; or %l5,%l4,%l4; wr %l4,%g0,%wim; nop; nop; nop; restore; restore
--- ldd [%sp], [%sp+8], .. [%sp+56] to %l0, %l2, %l4, %l6, %i0, %i2, %i4, %i6
--- save; save; jmpl %l1,%g0; rett %l2
+-- The mask, in %l3, is turned one place to the left; the window two above the one that the trap entered is loaded from
+-- its %sp on. srl %l3,n-1,%l5; or %l5,%l4,%l4; wr %l4,%g0,%wim; nop; nop; nop; restore; restore ldd [%sp], [%sp+8], ..
+-- [%sp+56] to %l0, %l2, %l4, %l6, %i0, %i2, %i4, %i6 save; save; jmpl %l1,%g0; rett %l2
 abbrev pub underflow_handler : ℕ → List ℕ
 underflow_handler n =
     (0xAB34E000 + (n - 1)) ∷ 0xA8154014 ∷ 0x81950000 ∷ nop ∷ nop ∷ nop ∷ 0x81E80000 ∷ 0x81E80000

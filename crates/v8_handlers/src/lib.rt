@@ -2,7 +2,8 @@
 #![tactic(auto)]
 
 ghost use Rattle.std.specs.Prelude.{◌≡◌, ℕ, ◌<◌, ◌≤◌, ◌-◌, slice_index, length};
-ghost use Rattle.v8_handlers.specs.Handlers.{vector, overflow_handler, underflow_handler, trap_word, page_word, handler_word};
+ghost use Rattle.v8_handlers.specs.Handlers.{vector, overflow_handler, underflow_handler, trap_word, page_word};
+ghost use Rattle.v8_handlers.specs.Handlers.{handler_word};
 
 /// `sethi 0,%g0`
 const NOP: u32 = 0x0100_0000;
@@ -31,8 +32,8 @@ fn trap_word(k: usize) -> u32
     words[k % 4]
 }
 
-/// The overflow handler of a machine of n windows: turns WIM one place to the right and stores the window below the one that the trap
-/// entered. The trap's vector has put WIM into %l3 and %g1 into %l4.
+/// The overflow handler of a machine of n windows: turns WIM one place to the right and stores the window below the one
+/// that the trap entered. The trap's vector has put WIM into %l3 and %g1 into %l4.
 fn overflow_handler(n: u32) -> [u32; 20]
     requires few { 4 ≤ n }
     requires many { n ≤ 32 }
@@ -62,8 +63,8 @@ fn overflow_handler(n: u32) -> [u32; 20]
     ]
 }
 
-/// The underflow handler of a machine of n windows: turns WIM one place to the left and loads the window two above the one that the
-/// trap entered. The trap's vector has put WIM into %l3 and WIM, shifted one place to the left, into %l4.
+/// The underflow handler of a machine of n windows: turns WIM one place to the left and loads the window two above the
+/// one that the trap entered. The trap's vector has put WIM into %l3 and WIM, shifted one place to the left, into %l4.
 fn underflow_handler(n: u32) -> [u32; 20]
     requires few { 4 ≤ n }
     requires many { n ≤ 32 }
@@ -109,9 +110,10 @@ fn page_word(overflow: &[u32; 20], underflow: &[u32; 20], k: usize) -> u32
     }
 }
 
-/// The words of the trap table of a machine of N windows, which begins at F0000000 and has four words for each trap type (chapter 7).
-/// Window overflow and underflow go to their handlers, trap types 80, 81 and 82 are the services `exit`, `get` and `put`, and every
-/// other trap stops the machine by a store to the device. N is 4 to 32; the words are the same for each.
+/// The words of the trap table of a machine of N windows, which begins at F0000000 and has four words for each trap
+/// type (chapter 7). Window overflow and underflow go to their handlers, trap types 80, 81 and 82 are the services
+/// `exit`, `get` and `put`, and every other trap stops the machine by a store to the device. N is 4 to 32; the words
+/// are the same for each.
 pub fn trap_table<const N: usize>() -> [u32; 1024]
     ensures { (k : ℕ) → k < 1024 → slice_index result k ≡ trap_word k }
 {
@@ -122,8 +124,8 @@ pub fn trap_table<const N: usize>() -> [u32; 1024]
     table
 }
 
-/// The words of the page of window handlers of a machine of N windows, which begins at F0001000: the overflow handler at its start,
-/// the underflow handler from byte 80 (hexadecimal) on, all else `nop`. N is 4 to 32.
+/// The words of the page of window handlers of a machine of N windows, which begins at F0001000: the overflow handler
+/// at its start, the underflow handler from byte 80 (hexadecimal) on, all else `nop`. N is 4 to 32.
 pub fn handler_page<const N: usize>() -> [u32; 1024]
     requires few { 4 ≤ N }
     requires many { N ≤ 32 }

@@ -16,7 +16,8 @@ use Rattle.v8_layout.proofs.Entries.{PageEntry, acc_small, data_entry_is, data_e
 -- ---- where a walk ends
 
 -- at an entry 0
-pub missing_ends : (ram : List ℕ) (va : ℕ) (a : Access) (left level place : ℕ) → entry_of ram place ≡ Some 0 → goes_from ram va a left level place (entry_of ram place) ≡ Err (record { ft = 1; level = level; at = access_type a })
+pub missing_ends : (ram : List ℕ) (va : ℕ) (a : Access) (left level place : ℕ) → entry_of ram place ≡ Some 0 →
+    goes_from ram va a left level place (entry_of ram place) ≡ Err (record { ft = 1; level = level; at = access_type a })
 missing_ends ram va a zero level place e = rw e refl
 missing_ends ram va a (suc left) level place e = rw e refl
 
@@ -57,13 +58,15 @@ from_root g ram t va a i w one small is =
     (down_one ram va a 2 0 0x2000 0x241 t.context refl ∙ ap (λ p. goes_from ram va a 2 1 p (entry_of ram p)) at, t.regions i small ∙ ap Some is)
 
 -- no region there
-pub no_region : (g : Pages) (ram : List ℕ) → HasTables g ram → (va : ℕ) (a : Access) (i : ℕ) → va / 2 ^ 24 ≡ i → i < 256 → region_entry i ≡ 0 → walked ram 0x2000 va a ≡ Err (record { ft = 1; level = 1; at = access_type a })
+pub no_region : (g : Pages) (ram : List ℕ) → HasTables g ram → (va : ℕ) (a : Access) (i : ℕ) → va / 2 ^ 24 ≡ i → i < 256 → region_entry i ≡ 0 →
+    walked ram 0x2000 va a ≡ Err (record { ft = 1; level = 1; at = access_type a })
 no_region g ram t va a i one small is =
     let r = from_root g ram t va a i 0 one small is in
     r.0 ∙ missing_ends ram va a 2 1 (0x2400 + 4 * i) r.1
 
 -- to a table of 256 KB regions, which stands at a place and is the program's or the system's
-to_second : (g : Pages) (ram : List ℕ) → HasTables g ram → (va : ℕ) (a : Access) (i w second j x : ℕ) → va / 2 ^ 24 ≡ i → i < 256 → region_entry i ≡ w → w % 4 ≡ 1 → w / 4 * 64 ≡ second → second < 0x10000 → va / 2 ^ 18 % 64 ≡ j → entry_of ram (second + 4 * j) ≡ Some x →
+to_second : (g : Pages) (ram : List ℕ) → HasTables g ram → (va : ℕ) (a : Access) (i w second j x : ℕ) → va / 2 ^ 24 ≡ i → i < 256 → region_entry i ≡ w →
+    w % 4 ≡ 1 → w / 4 * 64 ≡ second → second < 0x10000 → va / 2 ^ 18 % 64 ≡ j → entry_of ram (second + 4 * j) ≡ Some x →
     (walked ram 0x2000 va a ≡ goes_from ram va a 1 2 (second + 4 * j) (entry_of ram (second + 4 * j)))
 to_second g ram t va a i w second j x one small is kind place low two there =
     let r = from_root g ram t va a i w one small is in
@@ -71,7 +74,8 @@ to_second g ram t va a i w second j x one small is kind place low two there =
     r.0 ∙ down_one ram va a 1 1 (0x2400 + 4 * i) w r.1 kind ∙ ap (λ p. goes_from ram va a 1 2 p (entry_of ram p)) at
 
 -- to a table of pages
-to_third : (g : Pages) (ram : List ℕ) → HasTables g ram → (va : ℕ) (a : Access) (i w second j x third k : ℕ) → va / 2 ^ 24 ≡ i → i < 256 → region_entry i ≡ w → w % 4 ≡ 1 → w / 4 * 64 ≡ second → second < 0x10000 → va / 2 ^ 18 % 64 ≡ j → entry_of ram (second + 4 * j) ≡ Some x →
+to_third : (g : Pages) (ram : List ℕ) → HasTables g ram → (va : ℕ) (a : Access) (i w second j x third k : ℕ) → va / 2 ^ 24 ≡ i → i < 256 → region_entry i ≡ w →
+    w % 4 ≡ 1 → w / 4 * 64 ≡ second → second < 0x10000 → va / 2 ^ 18 % 64 ≡ j → entry_of ram (second + 4 * j) ≡ Some x →
     x % 4 ≡ 1 → x / 4 * 64 ≡ third → third < 0x10000 → va / 2 ^ 12 % 64 ≡ k → (walked ram 0x2000 va a ≡ goes_from ram va a 0 3 (third + 4 * k) (entry_of ram (third + 4 * k)))
 to_third g ram t va a i w second j x third k one small is kind place low two there kind2 place2 low2 three =
     let at : named_place va 2 x ≡ third + 4 * k = omega (arith, three) in
@@ -88,7 +92,8 @@ to_page : (g : Pages) (ram : List ℕ) (va : ℕ) (a : Access) (place pa acc : �
 unfolding translated
 to_page g ram va a place pa acc is walk ends = walk ∙ ends ∙ sym (ap (reached va a) is)
 
-to_nothing : (g : Pages) (ram : List ℕ) (va : ℕ) (a : Access) (level : ℕ) → page_at g va ≡ None → missing_level va ≡ level → walked ram 0x2000 va a ≡ Err (record { ft = 1; level = level; at = access_type a }) → Ends ram g va a
+to_nothing : (g : Pages) (ram : List ℕ) (va : ℕ) (a : Access) (level : ℕ) → page_at g va ≡ None → missing_level va ≡ level →
+    walked ram 0x2000 va a ≡ Err (record { ft = 1; level = level; at = access_type a }) → Ends ram g va a
 unfolding translated
 to_nothing g ram va a level is at walk =
     walk ∙ sym (ap (reached va a) is ∙ ap (λ l. Err (record { ft = 1; level = l; at = access_type a })) at)
@@ -121,8 +126,11 @@ pub code_at : (g : Pages) (va : ℕ) → 0x40000 ≤ va → va < 0x40000 + 4096 
 unfolding page_at
 code_at g va low high = rw (inside 0x40000 (0x40000 + 4096 * g.code_count) va low high) refl
 
-code_walk : (g : Pages) (ram : List ℕ) → HasTables g ram → (va : ℕ) (a : Access) (i : ℕ) → 0x40000 ≤ va → va < 0x80000 → va / 2 ^ 12 % 64 ≡ i → walked ram 0x2000 va a ≡ goes_from ram va a 0 3 (0x2A00 + 4 * i) (entry_of ram (0x2A00 + 4 * i))
-code_walk g ram t va a i low high three = to_third g ram t va a 0 0x281 0x2800 1 0x2A1 0x2A00 i (omega arith) (omega arith) refl refl refl (omega arith) (omega arith) (t.programs 1 (omega arith)) refl refl (omega arith) three
+code_walk : (g : Pages) (ram : List ℕ) → HasTables g ram → (va : ℕ) (a : Access) (i : ℕ) → 0x40000 ≤ va → va < 0x80000 → va / 2 ^ 12 % 64 ≡ i →
+    walked ram 0x2000 va a ≡ goes_from ram va a 0 3 (0x2A00 + 4 * i) (entry_of ram (0x2A00 + 4 * i))
+code_walk g ram t va a i low high three =
+    to_third g ram t va a 0 0x281 0x2800 1 0x2A1 0x2A00 i (omega arith) (omega arith) refl refl refl (omega arith) (omega arith)
+    (t.programs 1 (omega arith)) refl refl (omega arith) three
 
 code_entry_is : (g : Pages) (i : ℕ) → i < g.code_count → code_entry g i ≡ 0x1012 + 0x100 * i
 code_entry_is g i less = grind (arith, nat_tests)
@@ -146,7 +154,8 @@ code_maps g ram few t va a low high = by_count (nat_lt i g.code_count) refl
     by_count true e =
         let less : i < g.code_count = grind (arith, nat_tests) in
         let entry = entry_from ram (0x2A00 + 4 * i) (0x1012 + 0x100 * i) (subst (HasEntry ram (0x2A00 + 4 * i)) (code_entry_is g i less) (t.code_pages i (omega arith))) in
-        to_page g ram va a (0x2A00 + 4 * i) (va - 0x30000) 4 (code_at g va low (omega arith)) walk (page_reached ram va a (0x2A00 + 4 * i) (0x1012 + 0x100 * i) (va - 0x30000) 4 entry (omega arith) (omega arith) (omega arith))
+        to_page g ram va a (0x2A00 + 4 * i) (va - 0x30000) 4 (code_at g va low (omega arith)) walk
+        (page_reached ram va a (0x2A00 + 4 * i) (0x1012 + 0x100 * i) (va - 0x30000) 4 entry (omega arith) (omega arith) (omega arith))
     by_count false e =
         let past : g.code_count ≤ i = grind (arith, nat_tests) in
         let entry = entry_from ram (0x2A00 + 4 * i) 0 (subst (HasEntry ram (0x2A00 + 4 * i)) (no_code_entry g i past) (t.code_pages i (omega arith))) in
@@ -157,7 +166,8 @@ code_maps g ram few t va a low high = by_count (nat_lt i g.code_count) refl
 
 -- ---- data
 
-pub data_at : (g : Pages) (va : ℕ) → AreFew g → 0x80000 ≤ va → va < 0x80000 + 4096 * data_count g → page_at g va ≡ Some (mapped (va - 0x30000) (data_acc g ((va - 0x80000) / 4096)) (0x2B00 + 4 * ((va - 0x80000) / 4096)))
+pub data_at : (g : Pages) (va : ℕ) → AreFew g → 0x80000 ≤ va → va < 0x80000 + 4096 * data_count g →
+    page_at g va ≡ Some (mapped (va - 0x30000) (data_acc g ((va - 0x80000) / 4096)) (0x2B00 + 4 * ((va - 0x80000) / 4096)))
 unfolding page_at
 data_at g va few low high =
     let code = few.code in
@@ -170,14 +180,16 @@ data_maps g ram few t va a low high = by_count (nat_lt i (data_count g)) refl
     i = (va - 0x80000) / 4096
 
     walk : walked ram 0x2000 va a ≡ goes_from ram va a 0 3 (0x2B00 + 4 * i) (entry_of ram (0x2B00 + 4 * i))
-    walk = to_third g ram t va a 0 0x281 0x2800 2 0x2B1 0x2B00 i (omega arith) (omega arith) refl refl refl (omega arith) (omega arith) (t.programs 2 (omega arith)) refl refl (omega arith) (omega arith)
+    walk = to_third g ram t va a 0 0x281 0x2800 2 0x2B1 0x2B00 i (omega arith) (omega arith) refl refl refl (omega arith) (omega arith)
+        (t.programs 2 (omega arith)) refl refl (omega arith) (omega arith)
 
     by_count : (b : Bool) → nat_lt i (data_count g) ≡ b → Ends ram g va a
     by_count true e =
         let less : i < data_count g = grind (arith, nat_tests) in
         let acc = acc_small g i in
         let entry = entry_from ram (0x2B00 + 4 * i) (data_entry_word g i) (subst (HasEntry ram (0x2B00 + 4 * i)) (data_entry_is g i less) (t.data_pages i (omega arith))) in
-        to_page g ram va a (0x2B00 + 4 * i) (va - 0x30000) (data_acc g i) (data_at g va few low (omega arith)) walk (page_reached ram va a (0x2B00 + 4 * i) (data_entry_word g i) (va - 0x30000) (data_acc g i) entry (omega arith) (omega arith) (omega arith))
+        to_page g ram va a (0x2B00 + 4 * i) (va - 0x30000) (data_acc g i) (data_at g va few low (omega arith)) walk
+        (page_reached ram va a (0x2B00 + 4 * i) (data_entry_word g i) (va - 0x30000) (data_acc g i) entry (omega arith) (omega arith) (omega arith))
     by_count false e =
         let past : data_count g ≤ i = grind (arith, nat_tests) in
         let entry = entry_from ram (0x2B00 + 4 * i) 0 (subst (HasEntry ram (0x2B00 + 4 * i)) (no_data_entry g i past) (t.data_pages i (omega arith))) in
@@ -211,7 +223,8 @@ stack_maps g ram few t va a low high = by_count (nat_le (64 - g.stack_count) i) 
     i = (va - 0xC0000) / 4096
 
     walk : walked ram 0x2000 va a ≡ goes_from ram va a 0 3 (0x2C00 + 4 * i) (entry_of ram (0x2C00 + 4 * i))
-    walk = to_third g ram t va a 0 0x281 0x2800 3 0x2C1 0x2C00 i (omega arith) (omega arith) refl refl refl (omega arith) (omega arith) (t.programs 3 (omega arith)) refl refl (omega arith) (omega arith)
+    walk = to_third g ram t va a 0 0x281 0x2800 3 0x2C1 0x2C00 i (omega arith) (omega arith) refl refl refl (omega arith) (omega arith)
+        (t.programs 3 (omega arith)) refl refl (omega arith) (omega arith)
 
     by_count : (b : Bool) → nat_le (64 - g.stack_count) i ≡ b → Ends ram g va a
     by_count true e =
@@ -219,7 +232,8 @@ stack_maps g ram few t va a low high = by_count (nat_le (64 - g.stack_count) i) 
         let stack = few.stack in
         let small : i < 64 = omega arith in
         let entry = entry_from ram (0x2C00 + 4 * i) (0x9006 + 0x100 * (i - 48)) (subst (HasEntry ram (0x2C00 + 4 * i)) (stack_entry_is g i above small) (t.stack_pages i small)) in
-        to_page g ram va a (0x2C00 + 4 * i) (va - 0x60000) 1 (stack_at g va few (omega arith) high) walk (page_reached ram va a (0x2C00 + 4 * i) (0x9006 + 0x100 * (i - 48)) (va - 0x60000) 1 entry (omega arith) (omega arith) (omega arith))
+        to_page g ram va a (0x2C00 + 4 * i) (va - 0x60000) 1 (stack_at g va few (omega arith) high) walk
+        (page_reached ram va a (0x2C00 + 4 * i) (0x9006 + 0x100 * (i - 48)) (va - 0x60000) 1 entry (omega arith) (omega arith) (omega arith))
     by_count false e =
         let before : i < 64 - g.stack_count = grind (arith, nat_tests) in
         let entry = entry_from ram (0x2C00 + 4 * i) 0 (subst (HasEntry ram (0x2C00 + 4 * i)) (no_stack_entry g i before) (t.stack_pages i (omega arith))) in
@@ -231,8 +245,11 @@ stack_maps g ram few t va a low high = by_count (nat_le (64 - g.stack_count) i) 
 
 -- ---- the system
 
-system_walk : (g : Pages) (ram : List ℕ) → HasTables g ram → (va : ℕ) (a : Access) (i : ℕ) → 0xF0000000 ≤ va → va < 0xF0040000 → va / 2 ^ 12 % 64 ≡ i → walked ram 0x2000 va a ≡ goes_from ram va a 0 3 (0x2D00 + 4 * i) (entry_of ram (0x2D00 + 4 * i))
-system_walk g ram t va a i low high three = to_third g ram t va a 0xF0 0x291 0x2900 0 0x2D1 0x2D00 i (omega arith) (omega arith) refl refl refl (omega arith) (omega arith) (t.systems 0 (omega arith)) refl refl (omega arith) three
+system_walk : (g : Pages) (ram : List ℕ) → HasTables g ram → (va : ℕ) (a : Access) (i : ℕ) → 0xF0000000 ≤ va → va < 0xF0040000 → va / 2 ^ 12 % 64 ≡ i →
+    walked ram 0x2000 va a ≡ goes_from ram va a 0 3 (0x2D00 + 4 * i) (entry_of ram (0x2D00 + 4 * i))
+system_walk g ram t va a i low high three =
+    to_third g ram t va a 0xF0 0x291 0x2900 0 0x2D1 0x2D00 i (omega arith) (omega arith) refl refl refl (omega arith) (omega arith)
+    (t.systems 0 (omega arith)) refl refl (omega arith) three
 
 pub below_system : (g : Pages) → AreFew g → (va : ℕ) → 0x100000 ≤ va → ((0x40000 + 4096 * g.code_count ≤ va) × (0x80000 + 4096 * data_count g ≤ va))
 below_system g few va low =
@@ -318,7 +335,8 @@ no_program g ram few t va a high sides =
     let there : entry_of ram (0x2800 + 4 * j) ≡ Some 0 = t.programs j (omega arith) ∙ ap Some none in
     let level : missing_level va ≡ 2 = elim sides [ inl low ↦ grind (arith, nat_tests) | inr above ↦ grind (arith, nat_tests) ] in
     to_nothing g ram va a 2
-    (nothing_at g va (elim sides [ inl low ↦ inl low | inr above ↦ inr (omega arith) ]) (elim sides [ inl low ↦ inl (omega arith) | inr above ↦ inr (omega arith) ]) (elim sides [ inl low ↦ inl (omega arith) | inr above ↦ inr above ])
+    (nothing_at g va (elim sides [ inl low ↦ inl low | inr above ↦ inr (omega arith) ])
+    (elim sides [ inl low ↦ inl (omega arith) | inr above ↦ inr (omega arith) ]) (elim sides [ inl low ↦ inl (omega arith) | inr above ↦ inr above ])
     (inl (omega arith)) (inl (omega arith)) (inl (omega arith)))
     level
     (to_second g ram t va a 0 0x281 0x2800 j 0 (omega arith) (omega arith) refl refl refl (omega arith) refl there ∙ missing_ends ram va a 1 2 (0x2800 + 4 * j) there)
@@ -345,7 +363,8 @@ no_other g ram few t va a word low sides =
     let none : region_entry i ≡ 0 = no_other_region i (omega arith) (elim sides [ inl l ↦ inl (omega arith) | inr h ↦ inr (omega arith) ]) in
     let level : missing_level va ≡ 1 = elim sides [ inl l ↦ grind (arith, nat_tests) | inr h ↦ grind (arith, nat_tests) ] in
     to_nothing g ram va a 1
-    (nothing_at g va (inr past.0) (inr past.1) (inr (omega arith)) (elim sides [ inl l ↦ inl l | inr h ↦ inr (omega arith) ]) (elim sides [ inl l ↦ inl (omega arith) | inr h ↦ inr (omega arith) ]) (elim sides [ inl l ↦ inl (omega arith) | inr h ↦ inr (omega arith) ]))
+    (nothing_at g va (inr past.0) (inr past.1) (inr (omega arith)) (elim sides [ inl l ↦ inl l | inr h ↦ inr (omega arith) ])
+    (elim sides [ inl l ↦ inl (omega arith) | inr h ↦ inr (omega arith) ]) (elim sides [ inl l ↦ inl (omega arith) | inr h ↦ inr (omega arith) ]))
     level
     (no_region g ram t va a i refl (omega arith) none)
 

@@ -1,5 +1,6 @@
 -- A mark on a page's entry, and a store above the tables, keep what is loaded.
-use Rattle.std.proofs.Common.{◌≡◌, ◌≢◌, ℕ, ◌+◌, ◌-◌, ◌*◌, ◌/◌, ◌%◌, ◌^◌, ◌<◌, ◌≤◌, ◌⊎◌, inl, inr, Bool, true, false, cond, List, length, Option, Some, None, IsSomeAnd, IfSome, refl, sym, ap, ◌∙◌, subst, arith}
+use Rattle.std.proofs.Common.{◌≡◌, ◌≢◌, ℕ, ◌+◌, ◌-◌, ◌*◌, ◌/◌, ◌%◌, ◌^◌, ◌<◌, ◌≤◌, ◌⊎◌, inl, inr, Bool, true, false, cond, List, length, Option, Some, None}
+use Rattle.std.proofs.Common.{IsSomeAnd, IfSome, refl, sym, ap, ◌∙◌, subst, arith}
 use Rattle.std.specs.Prelude.{◌==◌, nat_le}
 use Rattle.std.proofs.lemmas.Bool.Decides.{nat_tests}
 use Rattle.v8_mmu.specs.Ram.{entry_of, with_entry}
@@ -52,7 +53,8 @@ kept_here ram place t store h =
     let kind : w % 4 ≡ 2 = kind_back w t h.entry.is h.kind in
     record {
       word = marked w store;
-      there = ap (λ r. entry_of r place) (marked_is ram place w store h.entry.there) ∙ entry_of-with_entry ram place (marked w store) (entry_is ram place w h.entry.there).0 (word_small w t store h.entry.is h.small h.kind);
+      there = ap (λ r. entry_of r place) (marked_is ram place w store h.entry.there)
+          ∙ entry_of-with_entry ram place (marked w store) (entry_is ram place w h.entry.there).0 (word_small w t store h.entry.is h.small h.kind);
       is = (unmarked_marked w store kind).1 ∙ h.entry.is;
     }
 
@@ -64,7 +66,8 @@ sides p q a b other = by_side (nat_le (p + 4) q) refl
     by_side false e = let no : q < p + 4 = grind (arith, nat_tests) in inr (omega arith)
 
 -- any entry of a table of pages
-pub kept_entry : (ram : List ℕ) (place t : ℕ) (store : Bool) → Markable ram place t → (p u : ℕ) → p % 4 ≡ 0 → IsSomeAnd (entry_of ram p) (λ w. unmarked w ≡ u) → IsSomeAnd (entry_of (marked_ram ram place store) p) (λ w. unmarked w ≡ u)
+pub kept_entry : (ram : List ℕ) (place t : ℕ) (store : Bool) → Markable ram place t → (p u : ℕ) → p % 4 ≡ 0 → IsSomeAnd (entry_of ram p) (λ w. unmarked w ≡ u) →
+    IsSomeAnd (entry_of (marked_ram ram place store) p) (λ w. unmarked w ≡ u)
 kept_entry ram place t store h p u aligned e = by_place (p == place) refl
   where
     by_place : (b : Bool) → (p == place) ≡ b → IsSomeAnd (entry_of (marked_ram ram place store) p) (λ w. unmarked w ≡ u)
@@ -73,7 +76,8 @@ kept_entry ram place t store h p u aligned e = by_place (p == place) refl
         let was : IsSomeAnd (entry_of ram place) (λ w. unmarked w ≡ u) = subst (λ q. IsSomeAnd (entry_of ram q) (λ w. unmarked w ≡ u)) same e in
         let t_is : t ≡ u = sym h.entry.is ∙ (rw h.entry.there at was) in
         let now : IsSomeAnd (entry_of (marked_ram ram place store) place) (λ w. unmarked w ≡ t) = entry_back (marked_ram ram place store) place t (kept_here ram place t store h) in
-        subst (λ q. IsSomeAnd (entry_of (marked_ram ram place store) q) (λ w. unmarked w ≡ u)) (sym same) (subst (λ v. IsSomeAnd (entry_of (marked_ram ram place store) place) (λ w. unmarked w ≡ v)) t_is now)
+        subst (λ q. IsSomeAnd (entry_of (marked_ram ram place store) q) (λ w. unmarked w ≡ u)) (sym same)
+        (subst (λ v. IsSomeAnd (entry_of (marked_ram ram place store) place) (λ w. unmarked w ≡ v)) t_is now)
     by_place false is =
         let other : p ≢ place = grind (arith, nat_tests) in
         subst (λ o. IsSomeAnd o (λ w. unmarked w ≡ u)) (sym (kept_elsewhere ram place t store h p (sides p place aligned h.aligned other))) e
@@ -163,7 +167,8 @@ stack_markable g ram l few i low less =
 -- ---- stores
 
 -- RAM that is the same below the data
-pub loaded_by : (n : ℕ) (g : Pages) (words ram new : List ℕ) → AreFew g → length new ≡ length ram → ((p : ℕ) → p + 4 ≤ 0x50000 → entry_of new p ≡ entry_of ram p) → IsLoaded n g words ram → IsLoaded n g words new
+pub loaded_by : (n : ℕ) (g : Pages) (words ram new : List ℕ) → AreFew g → length new ≡ length ram →
+    ((p : ℕ) → p + 4 ≤ 0x50000 → entry_of new p ≡ entry_of ram p) → IsLoaded n g words ram → IsLoaded n g words new
 loaded_by n g words ram new few same kept l =
     let most = few.code in
     let t = l.tables in
@@ -205,14 +210,21 @@ pub mapped_markable : (g : Pages) (ram : List ℕ) → HasTables g ram → AreFe
 unfolding page_at
 mapped_markable g ram l few va =
     one_more (within 0x40000 (0x40000 + 4096 * g.code_count) va) (mapped (va - 0x30000) 4 (0x2A00 + 4 * ((va - 0x40000) / 4096))) _ (CanMark ram)
-    (λ e. let s = inside_is 0x40000 (0x40000 + 4096 * g.code_count) va e in (0x1012 + 0x100 * ((va - 0x40000) / 4096), code_markable g ram l few ((va - 0x40000) / 4096) (let low = s.0 in let high = s.1 in omega arith)))
+    (λ e. let s = inside_is 0x40000 (0x40000 + 4096 * g.code_count) va e in
+    (0x1012 + 0x100 * ((va - 0x40000) / 4096), code_markable g ram l few ((va - 0x40000) / 4096) (let low = s.0 in let high = s.1 in omega arith)))
     (one_more (within 0x80000 (0x80000 + 4096 * data_count g) va) (mapped (va - 0x30000) (data_acc g ((va - 0x80000) / 4096)) (0x2B00 + 4 * ((va - 0x80000) / 4096))) _ (CanMark ram)
-    (λ e. let s = inside_is 0x80000 (0x80000 + 4096 * data_count g) va e in (data_entry_word g ((va - 0x80000) / 4096), data_markable g ram l few ((va - 0x80000) / 4096) (let low = s.0 in let high = s.1 in omega arith)))
+    (λ e. let s = inside_is 0x80000 (0x80000 + 4096 * data_count g) va e in
+    (data_entry_word g ((va - 0x80000) / 4096), data_markable g ram l few ((va - 0x80000) / 4096) (let low = s.0 in let high = s.1 in omega arith)))
     (one_more (within (0x100000 - 4096 * g.stack_count) 0x100000 va) (mapped (va - 0x60000) 1 (0x2C00 + 4 * ((va - 0xC0000) / 4096))) _ (CanMark ram)
-    (λ e. let s = inside_is (0x100000 - 4096 * g.stack_count) 0x100000 va e in (0x9006 + 0x100 * ((va - 0xC0000) / 4096 - 48), stack_markable g ram l few ((va - 0xC0000) / 4096) (let low = s.0 in let most = few.stack in omega arith) (let high = s.1 in omega arith)))
+    (λ e. let s = inside_is (0x100000 - 4096 * g.stack_count) 0x100000 va e in (
+      0x9006 + 0x100 * ((va - 0xC0000) / 4096 - 48),
+      stack_markable g ram l few ((va - 0xC0000) / 4096) (let low = s.0 in let most = few.stack in
+          omega arith) (let high = s.1 in omega arith),
+    ))
     (one_more (within 0xF0000000 0xF0001000 va) (mapped (va - 0xF0000000) 6 0x2D00) _ (CanMark ram) (λ e. (0x1A, system_markable g ram l 0 0x1A (omega arith) refl refl (omega arith)))
     (one_more (within 0xF0001000 0xF0002000 va) (mapped (va - 0xF0000000) 6 0x2D04) _ (CanMark ram) (λ e. (0x11A, system_markable g ram l 1 0x11A (omega arith) refl refl (omega arith)))
-    (one_more (within 0xF0010000 0xF0011000 va) (mapped (va - 0xF0010000 + 0x100000000) 7 0x2D40) None (CanMark ram) (λ e. (0x1000001E, system_markable g ram l 16 0x1000001E (omega arith) refl refl (omega arith))) tt)))))
+    (one_more (within 0xF0010000 0xF0011000 va) (mapped (va - 0xF0010000 + 0x100000000) 7 0x2D40) None (CanMark ram)
+    (λ e. (0x1000001E, system_markable g ram l 16 0x1000001E (omega arith) refl refl (omega arith))) tt)))))
 
 keep_if : (n : ℕ) (g : Pages) (words ram : List ℕ) (store : Bool) → IsLoaded n g words ram → (o : Option Mapped) → IfSome o (CanMark ram) → IfSome o (λ p. IsLoaded n g words (marked_ram ram p.place store))
 keep_if n g words ram store l None h = tt

@@ -6,7 +6,8 @@ use Rattle.v8_mmu.specs.Walked.{Page}
 use Rattle.v8_mmu.specs.declared.access.Access.{Access}
 use Rattle.v8_mmu.specs.declared.translation.MmuFault.{MmuFault}
 use Rattle.v8_layout.specs.Layout.{Pages, AreFew, data_count, is_writable}
-use Rattle.v8_layout.specs.AddressMap.{Mapped, code_page, data_number, data_page, device_page, handlers_page, in_data, in_stack, mapped, may_be_read, may_be_written, page_at, reached, stack_page, through, translated, trap_table_page, within}
+use Rattle.v8_layout.specs.AddressMap.{Mapped, code_page, data_number, data_page, device_page, handlers_page, in_data, in_stack, mapped, may_be_read}
+use Rattle.v8_layout.specs.AddressMap.{may_be_written, page_at, reached, stack_page, through, translated, trap_table_page, within}
 use Rattle.v8_layout.specs.Laws.{RightsHold, StoresAreForbidden, user_load, user_store}
 use Rattle.v8_layout.proofs.Map.{data_at, inside_is, outside, tables_map}
 

@@ -44,8 +44,10 @@ tables_kept g old new t same =
       size = same.size ∙ t.size;
       context = exact_kept old new same 0x2000 0x241 (omega arith) (omega arith) refl (λ e. one_of_one true 0x241 refl e) t.context;
       contexts = λ i one small. exact_kept old new same (0x2000 + 4 * i) 0 (omega arith) (omega arith) (omega arith) (λ e. omega arith) (t.contexts i one small);
-      regions = λ i small. exact_kept old new same (0x2400 + 4 * i) (region_entry i) (omega arith) (omega arith) (omega arith) (one_of_two (i == 0) (i == 0xF0) 0x281 0x291 refl refl) (t.regions i small);
-      programs = λ i small. exact_kept old new same (0x2800 + 4 * i) (program_entry i) (omega arith) (omega arith) (omega arith) (one_of_three (i == 1) (i == 2) (i == 3) 0x2A1 0x2B1 0x2C1 refl refl refl) (t.programs i small);
+      regions = λ i small. exact_kept old new same (0x2400 + 4 * i) (region_entry i) (omega arith) (omega arith) (omega arith)
+          (one_of_two (i == 0) (i == 0xF0) 0x281 0x291 refl refl) (t.regions i small);
+      programs = λ i small. exact_kept old new same (0x2800 + 4 * i) (program_entry i) (omega arith) (omega arith) (omega arith)
+          (one_of_three (i == 1) (i == 2) (i == 3) 0x2A1 0x2B1 0x2C1 refl refl refl) (t.programs i small);
       systems = λ i small. exact_kept old new same (0x2900 + 4 * i) (system_region_entry i) (omega arith) (omega arith) (omega arith) (one_of_one (i == 0) 0x2D1 refl) (t.systems i small);
       code_pages = λ i small. entry_kept old new same (0x2A00 + 4 * i) (code_entry g i) (omega arith) (omega arith) (omega arith) (t.code_pages i small);
       data_pages = λ i small. entry_kept old new same (0x2B00 + 4 * i) (data_entry g i) (omega arith) (omega arith) (omega arith) (t.data_pages i small);

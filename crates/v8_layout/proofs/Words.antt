@@ -27,36 +27,48 @@ region_word g i small =
 program_word : (g : Pages) (i : ℕ) → i < 64 → table_word g (512 + i) ≡ program_entry i
 unfolding table_word
 program_word g i small =
-    rw (not_first (512 + i) (omega arith)) (rw (high_test (512 + i) 256 (omega arith)) (rw (high_test (512 + i) 512 (omega arith)) (rw (low_test (512 + i) 576 (omega arith)) (ap program_entry (beyond (512 + i) 512 i refl)))))
+    rw (not_first (512 + i) (omega arith))
+    (rw (high_test (512 + i) 256 (omega arith))
+    (rw (high_test (512 + i) 512 (omega arith)) (rw (low_test (512 + i) 576 (omega arith)) (ap program_entry (beyond (512 + i) 512 i refl)))))
 
 system_region_word : (g : Pages) (i : ℕ) → i < 64 → table_word g (576 + i) ≡ system_region_entry i
 unfolding table_word
 system_region_word g i small =
-    rw (not_first (576 + i) (omega arith)) (rw (high_test (576 + i) 256 (omega arith)) (rw (high_test (576 + i) 512 (omega arith)) (rw (high_test (576 + i) 576 (omega arith)) (rw (low_test (576 + i) 640 (omega arith))
+    rw (not_first (576 + i) (omega arith))
+    (rw (high_test (576 + i) 256 (omega arith))
+    (rw (high_test (576 + i) 512 (omega arith)) (rw (high_test (576 + i) 576 (omega arith)) (rw (low_test (576 + i) 640 (omega arith))
     (ap system_region_entry (beyond (576 + i) 576 i refl))))))
 
 code_word : (g : Pages) (i : ℕ) → i < 64 → table_word g (640 + i) ≡ code_entry g i
 unfolding table_word
 code_word g i small =
-    rw (not_first (640 + i) (omega arith)) (rw (high_test (640 + i) 256 (omega arith)) (rw (high_test (640 + i) 512 (omega arith)) (rw (high_test (640 + i) 576 (omega arith)) (rw (high_test (640 + i) 640 (omega arith))
+    rw (not_first (640 + i) (omega arith))
+    (rw (high_test (640 + i) 256 (omega arith))
+    (rw (high_test (640 + i) 512 (omega arith)) (rw (high_test (640 + i) 576 (omega arith)) (rw (high_test (640 + i) 640 (omega arith))
     (rw (low_test (640 + i) 704 (omega arith)) (ap (code_entry g) (beyond (640 + i) 640 i refl)))))))
 
 data_word : (g : Pages) (i : ℕ) → i < 64 → table_word g (704 + i) ≡ data_entry g i
 unfolding table_word
 data_word g i small =
-    rw (not_first (704 + i) (omega arith)) (rw (high_test (704 + i) 256 (omega arith)) (rw (high_test (704 + i) 512 (omega arith)) (rw (high_test (704 + i) 576 (omega arith)) (rw (high_test (704 + i) 640 (omega arith))
+    rw (not_first (704 + i) (omega arith))
+    (rw (high_test (704 + i) 256 (omega arith))
+    (rw (high_test (704 + i) 512 (omega arith)) (rw (high_test (704 + i) 576 (omega arith)) (rw (high_test (704 + i) 640 (omega arith))
     (rw (high_test (704 + i) 704 (omega arith)) (rw (low_test (704 + i) 768 (omega arith)) (ap (data_entry g) (beyond (704 + i) 704 i refl))))))))
 
 stack_word : (g : Pages) (i : ℕ) → i < 64 → table_word g (768 + i) ≡ stack_entry g i
 unfolding table_word
 stack_word g i small =
-    rw (not_first (768 + i) (omega arith)) (rw (high_test (768 + i) 256 (omega arith)) (rw (high_test (768 + i) 512 (omega arith)) (rw (high_test (768 + i) 576 (omega arith)) (rw (high_test (768 + i) 640 (omega arith))
+    rw (not_first (768 + i) (omega arith))
+    (rw (high_test (768 + i) 256 (omega arith))
+    (rw (high_test (768 + i) 512 (omega arith)) (rw (high_test (768 + i) 576 (omega arith)) (rw (high_test (768 + i) 640 (omega arith))
     (rw (high_test (768 + i) 704 (omega arith)) (rw (high_test (768 + i) 768 (omega arith)) (rw (low_test (768 + i) 832 (omega arith)) (ap (stack_entry g) (beyond (768 + i) 768 i refl)))))))))
 
 system_word : (g : Pages) (i : ℕ) → i < 64 → table_word g (832 + i) ≡ system_entry i
 unfolding table_word
 system_word g i small =
-    rw (not_first (832 + i) (omega arith)) (rw (high_test (832 + i) 256 (omega arith)) (rw (high_test (832 + i) 512 (omega arith)) (rw (high_test (832 + i) 576 (omega arith)) (rw (high_test (832 + i) 640 (omega arith))
+    rw (not_first (832 + i) (omega arith))
+    (rw (high_test (832 + i) 256 (omega arith))
+    (rw (high_test (832 + i) 512 (omega arith)) (rw (high_test (832 + i) 576 (omega arith)) (rw (high_test (832 + i) 640 (omega arith))
     (rw (high_test (832 + i) 704 (omega arith)) (rw (high_test (832 + i) 768 (omega arith)) (rw (high_test (832 + i) 832 (omega arith)) (ap system_entry (beyond (832 + i) 832 i refl)))))))))
 
 context_word : (g : Pages) (i : ℕ) → 0 < i → i < 256 → table_word g i ≡ 0

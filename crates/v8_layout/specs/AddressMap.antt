@@ -1,11 +1,16 @@
 -- The address map: what each virtual address is on a loaded board.
-use Rattle.std.specs.Prelude.{ℕ, ◌+◌, ◌*◌, ◌-◌, ◌/◌, nat_lt, nat_le, ◌&&◌, ◌||◌, Bool, Option, Some, None, Result, Ok, Err, if◌then◌else◌}
+use Rattle.std.specs.Prelude.{ℕ, ◌+◌, ◌*◌, ◌-◌, ◌/◌, nat_lt, nat_le, ◌&&◌, ◌||◌, Bool, Option, Some, None, Result, Ok}
+use Rattle.std.specs.Prelude.{Err, if◌then◌else◌}
 use Rattle.v8_mmu.specs.Permissions.{rights_of, permits, access_type}
 use Rattle.v8_mmu.specs.Walked.{Page}
 use Rattle.v8_mmu.specs.declared.access.Access.{Access}
 use Rattle.v8_mmu.specs.declared.translation.MmuFault.{MmuFault}
-use Rattle.v8_map.specs.declared.TheConstants.{PAGE, CODE_START, CODE_PLACE, CODE_TABLE, DATA_START, DATA_PLACE, DATA_TABLE, STACK_LOWEST, STACK_END, STACK_PLACE, STACK_TABLE, TRAP_TABLE, TRAP_TABLE_PLACE, HANDLERS, HANDLERS_PLACE, DEVICE, DEVICE_PLACE, SYSTEM_TABLE}
-use Rattle.v8_layout.specs.Layout.{Pages, data_acc, data_count, is_writable, region, large_region, stack_region, system_region, user_runs, user_writes, system_runs, system_writes}
+use Rattle.v8_map.specs.declared.TheConstants.{PAGE, CODE_START, CODE_PLACE, CODE_TABLE, DATA_START, DATA_PLACE}
+use Rattle.v8_map.specs.declared.TheConstants.{DATA_TABLE, STACK_LOWEST, STACK_END, STACK_PLACE, STACK_TABLE}
+use Rattle.v8_map.specs.declared.TheConstants.{TRAP_TABLE, TRAP_TABLE_PLACE, HANDLERS, HANDLERS_PLACE, DEVICE}
+use Rattle.v8_map.specs.declared.TheConstants.{DEVICE_PLACE, SYSTEM_TABLE}
+use Rattle.v8_layout.specs.Layout.{Pages, data_acc, data_count, is_writable, region, large_region, stack_region}
+use Rattle.v8_layout.specs.Layout.{system_region, user_runs, user_writes, system_runs, system_writes}
 
 -- An address of a mapped page: where it lies in physical memory, its page's ACC, and where the page's entry lies.
 pub record Mapped : Type 0 where
@@ -37,16 +42,19 @@ abbrev pub data_number : ℕ → ℕ
 data_number va = (va - DATA_START) / PAGE
 
 abbrev pub data_page : Pages → ℕ → Mapped
-data_page g va = mapped (lowered DATA_START DATA_PLACE va) (data_acc g (data_number va)) (entry_in DATA_TABLE DATA_START va)
+data_page g va =
+    mapped (lowered DATA_START DATA_PLACE va) (data_acc g (data_number va)) (entry_in DATA_TABLE DATA_START va)
 
 abbrev pub stack_page : ℕ → Mapped
 stack_page va = mapped (lowered STACK_LOWEST STACK_PLACE va) user_writes (entry_in STACK_TABLE stack_region va)
 
 abbrev pub trap_table_page : ℕ → Mapped
-trap_table_page va = mapped (lowered TRAP_TABLE TRAP_TABLE_PLACE va) system_runs (entry_in SYSTEM_TABLE system_region TRAP_TABLE)
+trap_table_page va =
+    mapped (lowered TRAP_TABLE TRAP_TABLE_PLACE va) system_runs (entry_in SYSTEM_TABLE system_region TRAP_TABLE)
 
 abbrev pub handlers_page : ℕ → Mapped
-handlers_page va = mapped (lowered HANDLERS HANDLERS_PLACE va) system_runs (entry_in SYSTEM_TABLE system_region HANDLERS)
+handlers_page va =
+    mapped (lowered HANDLERS HANDLERS_PLACE va) system_runs (entry_in SYSTEM_TABLE system_region HANDLERS)
 
 abbrev pub device_page : ℕ → Mapped
 device_page va = mapped (va - DEVICE + DEVICE_PLACE) system_writes (entry_in SYSTEM_TABLE system_region DEVICE)
@@ -80,7 +88,8 @@ may_be_written g va = (in_data g va && is_writable g (data_number va)) || in_sta
 
 -- ---- accesses
 
--- The level of the entry 0 that an unmapped address ends at: in a table of pages, in one of 256 KB regions, or in that of 16 MB regions.
+-- The level of the entry 0 that an unmapped address ends at: in a table of pages, in one of 256 KB regions, or in that
+-- of 16 MB regions.
 abbrev pub missing_level : ℕ → ℕ
 missing_level va =
     if within CODE_START (stack_region + region) va || within system_region (system_region + region) va then 3 else

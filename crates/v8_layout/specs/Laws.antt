@@ -1,5 +1,6 @@
 -- What holds of a loaded board's tables.
-use Rattle.std.specs.Prelude.{ℕ, ◌≡◌, ◌%◌, ◌^◌, ◌<◌, ◌≤◌, List, length, Bool, true, false, IsSomeAnd, IfSome, Err, is_ok}
+use Rattle.std.specs.Prelude.{ℕ, ◌≡◌, ◌%◌, ◌^◌, ◌<◌, ◌≤◌, List, length, Bool, true, false, IsSomeAnd, IfSome, Err}
+use Rattle.std.specs.Prelude.{is_ok}
 use Rattle.v8_mmu.specs.Ram.{entry_of}
 use Rattle.v8_mmu.specs.Paths.{marked_ram}
 use Rattle.v8_mmu.specs.Walked.{walked}
@@ -24,7 +25,8 @@ TablesMap = (g : Pages) (ram : List ℕ) → AreFew g → HasTables g ram → Is
 
 -- and keep spelling it as long as none of their words changes but in R and M
 abbrev pub TablesStay : Type 0
-TablesStay = (g : Pages) (old new : List ℕ) → AreFew g → HasTables g old → SameTables old new → HasTables g new × IsMapped g new
+TablesStay = (g : Pages) (old new : List ℕ) → AreFew g → HasTables g old → SameTables old new →
+    HasTables g new × IsMapped g new
 
 -- ---- what user code may do where
 
@@ -39,10 +41,11 @@ abbrev pub RightsHold : Type 0
 RightsHold = (g : Pages) (ram : List ℕ) (va : ℕ) → AreFew g → HasTables g ram → va < 2 ^ 32 →
     (is_ok (walked ram CONTEXT_TABLE va user_load) ≡ may_be_read g va) × (is_ok (walked ram CONTEXT_TABLE va user_store) ≡ may_be_written g va)
 
--- A store where what is there may be read and not written is forbidden by the page's entry, which is one of level 3: fault type 2,
--- access type 4, a store to user data.
+-- A store where what is there may be read and not written is forbidden by the page's entry, which is one of level 3:
+-- fault type 2, access type 4, a store to user data.
 abbrev pub StoresAreForbidden : Type 0
-StoresAreForbidden = (g : Pages) (ram : List ℕ) (va : ℕ) → AreFew g → HasTables g ram → va < 2 ^ 32 → may_be_read g va ≡ true → may_be_written g va ≡ false →
+StoresAreForbidden = (g : Pages) (ram : List ℕ) (va : ℕ) → AreFew g → HasTables g ram → va < 2 ^ 32 →
+    may_be_read g va ≡ true → may_be_written g va ≡ false →
     walked ram CONTEXT_TABLE va user_store ≡ Err (record { ft = 2; level = 3; at = 4 })
 
 -- ---- marks

@@ -1,11 +1,16 @@
 -- What lies in RAM once an image is loaded: the page tables (appendix H), the trap table, the handlers and the code.
-use Rattle.std.specs.Prelude.{ℕ, ◌≡◌, ◌+◌, ◌*◌, ◌-◌, ◌/◌, ◌%◌, ◌<◌, ◌≤◌, ◌==◌, nat_lt, nat_le, ◌&&◌, Bool, false, List, length, slice_index, get_or, Some, IsSomeAnd, if◌then◌else◌}
+use Rattle.std.specs.Prelude.{ℕ, ◌≡◌, ◌+◌, ◌*◌, ◌-◌, ◌/◌, ◌%◌, ◌<◌, ◌≤◌, ◌==◌, nat_lt, nat_le, ◌&&◌, Bool, false, List}
+use Rattle.std.specs.Prelude.{length, slice_index, get_or, Some, IsSomeAnd, if◌then◌else◌}
 use Rattle.v8_mmu.specs.Ram.{entry_of}
 use Rattle.v8_handlers.specs.Handlers.{trap_word, handler_word}
-use Rattle.v8_map.specs.declared.TheConstants.{PAGE, CODE_START, CODE_PLACE, CODE_TABLE, DATA_START, DATA_PLACE, DATA_TABLE, STACK_LOWEST, STACK_PLACE, STACK_TABLE, TRAP_TABLE, TRAP_TABLE_PLACE, HANDLERS, HANDLERS_PLACE, DEVICE, DEVICE_PLACE, RAM, CONTEXT_TABLE, REGION_TABLE, PROGRAM_TABLE, SYSTEM_REGION_TABLE, SYSTEM_TABLE}
+use Rattle.v8_map.specs.declared.TheConstants.{PAGE, CODE_START, CODE_PLACE, CODE_TABLE, DATA_START, DATA_PLACE}
+use Rattle.v8_map.specs.declared.TheConstants.{DATA_TABLE, STACK_LOWEST, STACK_PLACE, STACK_TABLE, TRAP_TABLE}
+use Rattle.v8_map.specs.declared.TheConstants.{TRAP_TABLE_PLACE, HANDLERS, HANDLERS_PLACE, DEVICE, DEVICE_PLACE, RAM}
+use Rattle.v8_map.specs.declared.TheConstants.{CONTEXT_TABLE, REGION_TABLE, PROGRAM_TABLE, SYSTEM_REGION_TABLE}
+use Rattle.v8_map.specs.declared.TheConstants.{SYSTEM_TABLE}
 
--- The pages of 4 KB that are mapped: how many of code and of the stack, and of each page of data whether it may be written. Each may
--- be read.
+-- The pages of 4 KB that are mapped: how many of code and of the stack, and of each page of data whether it may be
+-- written. Each may be read.
 pub record Pages : Type 0 where
   pub code_count : ℕ
   pub writable : List Bool
@@ -57,8 +62,8 @@ maps place acc = place / PAGE * 256 + acc * 4 + 2
 abbrev pub maps_after : ℕ → ℕ → ℕ → ℕ
 maps_after place acc i = maps place acc + 256 * i
 
--- ACC: what user and supervisor may execute, read, or read and write, and what the supervisor alone may read and execute, or read, write
--- and execute
+-- ACC: what user and supervisor may execute, read, or read and write, and what the supervisor alone may read and
+-- execute, or read, write and execute
 abbrev pub user_runs : ℕ
 user_runs = 4
 
@@ -78,7 +83,9 @@ system_writes = 7
 
 -- 16 MB each: the lowest for programs, and the system's
 abbrev pub region_entry : ℕ → ℕ
-region_entry i = if i == 0 then leads_to PROGRAM_TABLE else (if i == system_region / large_region then leads_to SYSTEM_REGION_TABLE else 0)
+region_entry i =
+    if i == 0 then leads_to PROGRAM_TABLE
+    else (if i == system_region / large_region then leads_to SYSTEM_REGION_TABLE else 0)
 
 -- 256 KB each: code, data and the stack
 abbrev pub program_entry : ℕ → ℕ
@@ -102,7 +109,9 @@ data_entry g i = if nat_lt i (data_count g) then maps_after DATA_PLACE (data_acc
 
 -- the last pages of the 64 are the stack's, of which the lowest that it can have is number 48
 abbrev pub stack_entry : Pages → ℕ → ℕ
-stack_entry g i = if nat_le (64 - g.stack_count) i && nat_lt i 64 then maps_after STACK_PLACE user_writes (i - (STACK_LOWEST - stack_region) / PAGE) else 0
+stack_entry g i =
+    if nat_le (64 - g.stack_count) i
+    && nat_lt i 64 then maps_after STACK_PLACE user_writes (i - (STACK_LOWEST - stack_region) / PAGE) else 0
 
 -- the trap table, the handlers and the device, for the supervisor alone
 abbrev pub system_entry : ℕ → ℕ

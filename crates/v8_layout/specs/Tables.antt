@@ -1,7 +1,8 @@
 -- The page tables word by word, one table after another.
 use Rattle.std.specs.Prelude.{ℕ, ◌-◌, ◌==◌, nat_lt, if◌then◌else◌}
 use Rattle.v8_map.specs.declared.TheConstants.{REGION_TABLE}
-use Rattle.v8_layout.specs.Layout.{Pages, leads_to, region_entry, program_entry, system_region_entry, code_entry, data_entry, stack_entry, system_entry}
+use Rattle.v8_layout.specs.Layout.{Pages, leads_to, region_entry, program_entry, system_region_entry, code_entry}
+use Rattle.v8_layout.specs.Layout.{data_entry, stack_entry, system_entry}
 
 -- the context's entry, and then each table in its place; what no table has is 0
 unfoldable pub table_word : Pages → ℕ → ℕ

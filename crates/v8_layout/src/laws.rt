@@ -6,13 +6,14 @@ pub fn tables_map_addresses()
     ensures { TablesMap }
 {}
 
-/// RAM whose table words have changed in R and M alone has the tables of a loaded board still, and so the same address map.
+/// RAM whose table words have changed in R and M alone has the tables of a loaded board still, and so the same address
+/// map.
 pub fn tables_stay()
     ensures { TablesStay }
 {}
 
-/// There user code may load exactly what may be read, and store exactly where what is there may be written. A store where it may only
-/// be read is refused for the access rights of its page.
+/// There user code may load exactly what may be read, and store exactly where what is there may be written. A store
+/// where it may only be read is refused for the access rights of its page.
 pub fn rights_are_those_of_the_pages()
     ensures exact { RightsHold }
     ensures forbidden { StoresAreForbidden }

@@ -1,6 +1,8 @@
 //! The words of the page tables.
-ghost use Rattle.std.specs.Prelude.{◌≡◌, ℕ, ◌+◌, ◌-◌, ◌*◌, ◌^◌, ◌<◌, ◌≤◌, ◌==◌, nat_lt, slice_index, length, if◌then◌else◌};
-ghost use Rattle.v8_layout.specs.Layout.{leads_to, maps, code_entry, data_entry, program_entry, region_entry, stack_entry, system_entry, system_region_entry};
+ghost use Rattle.std.specs.Prelude.{◌≡◌, ℕ, ◌+◌, ◌-◌, ◌*◌, ◌^◌, ◌<◌, ◌≤◌, ◌==◌, nat_lt, slice_index, length};
+ghost use Rattle.std.specs.Prelude.{if◌then◌else◌};
+ghost use Rattle.v8_layout.specs.Layout.{leads_to, maps, code_entry, data_entry, program_entry, region_entry};
+ghost use Rattle.v8_layout.specs.Layout.{stack_entry, system_entry, system_region_entry};
 ghost use Rattle.v8_layout.specs.Tables.{table_word};
 
 use v8_map::{
@@ -14,8 +16,8 @@ const REGION: u32 = 64 * PAGE;
 
 const LARGE_REGION: u32 = 64 * REGION;
 
-/// Numbers of entries: of the system in the table of large regions, of each part in that of the programs' regions, of the stack's lowest
-/// page in the stack's table, and of handlers and device in the system's.
+/// Numbers of entries: of the system in the table of large regions, of each part in that of the programs' regions, of
+/// the stack's lowest page in the stack's table, and of handlers and device in the system's.
 const SYSTEM: u32 = TRAP_TABLE / LARGE_REGION;
 
 const CODE: u32 = CODE_START / REGION;
@@ -30,7 +32,8 @@ const HANDLERS_PAGE: u32 = (HANDLERS - TRAP_TABLE) / PAGE;
 
 const DEVICE_PAGE: u32 = (DEVICE - TRAP_TABLE) / PAGE;
 
-/// ACC: what user and supervisor may execute, read, or read and write, and what the supervisor alone may read and execute, or also write.
+/// ACC: what user and supervisor may execute, read, or read and write, and what the supervisor alone may read and
+/// execute, or also write.
 const USER_RUNS: u32 = 4;
 
 const USER_READS: u32 = 0;
@@ -41,8 +44,8 @@ const SYSTEM_RUNS: u32 = 6;
 
 const SYSTEM_WRITES: u32 = 7;
 
-/// The pages of 4 KB that a board maps: so many of code and of the stack, 64 and 16 at most, and for each page of data, 64 at most,
-/// whether it may be written.
+/// The pages of 4 KB that a board maps: so many of code and of the stack, 64 and 16 at most, and for each page of data,
+/// 64 at most, whether it may be written.
 #[derive(Clone, Copy)]
 pub struct Pages<'a> {
     pub code: u32,
@@ -101,7 +104,13 @@ fn system_region_entry(i: u32) -> u32
 
 fn code_entry(pages: &Pages, i: u32) -> u32
     requires { i < 64 }
-    ensures { result ≡ code_entry (record { code_count = pages.now.code; writable = pages.now.writable.now; stack_count = pages.now.stack }) i }
+    ensures { result ≡
+        code_entry (record {
+          code_count = pages.now.code;
+          writable = pages.now.writable.now;
+          stack_count =
+              pages.now.stack;
+        }) i }
 {
     if i < pages.code {
         maps(u64::from(CODE_PLACE), USER_RUNS) + 256 * i
@@ -112,7 +121,13 @@ fn code_entry(pages: &Pages, i: u32) -> u32
 
 fn data_entry(pages: &Pages, i: u32) -> u32
     requires { i < 64 }
-    ensures { result ≡ data_entry (record { code_count = pages.now.code; writable = pages.now.writable.now; stack_count = pages.now.stack }) i }
+    ensures { result ≡
+        data_entry (record {
+          code_count = pages.now.code;
+          writable = pages.now.writable.now;
+          stack_count =
+              pages.now.stack;
+        }) i }
 {
     match pages.writable.get(i as usize) {
         Some(true) => maps(u64::from(DATA_PLACE), USER_WRITES) + 256 * i,
@@ -123,7 +138,13 @@ fn data_entry(pages: &Pages, i: u32) -> u32
 
 fn stack_entry(pages: &Pages, i: u32) -> u32
     requires { i < 64 }
-    ensures { result ≡ stack_entry (record { code_count = pages.now.code; writable = pages.now.writable.now; stack_count = pages.now.stack }) i }
+    ensures { result ≡
+        stack_entry (record {
+          code_count = pages.now.code;
+          writable = pages.now.writable.now;
+          stack_count =
+              pages.now.stack;
+        }) i }
 {
     let first = 64 - pages.stack;
     if first <= i {
@@ -148,7 +169,13 @@ fn system_entry(i: u32) -> u32
 #[tactic(auto, unfolding(crate::specs::Tables::table_word))]
 fn table_word(pages: &Pages, k: u32) -> u32
     requires { k < 896 }
-    ensures { result ≡ table_word (record { code_count = pages.now.code; writable = pages.now.writable.now; stack_count = pages.now.stack }) k }
+    ensures { result ≡
+        table_word (record {
+          code_count = pages.now.code;
+          writable = pages.now.writable.now;
+          stack_count =
+              pages.now.stack;
+        }) k }
 {
     if k == 0 {
         leads_to(REGION_TABLE)
@@ -172,9 +199,17 @@ fn table_word(pages: &Pages, k: u32) -> u32
 }
 
 /// The words of the page tables of a board that maps these pages (appendix H). They lie from physical address 2000
-/// (hexadecimal) on: the context table with context 0, then the tables of levels 1 and 2, then those of code, data, stack and system.
+/// (hexadecimal) on: the context table with context 0, then the tables of levels 1 and 2, then those of code, data,
+/// stack and system.
 pub fn page_tables(pages: &Pages) -> [u32; 896]
-    ensures { (k : ℕ) → k < 896 → slice_index result k ≡ table_word (record { code_count = pages.now.code; writable = pages.now.writable.now; stack_count = pages.now.stack }) k }
+    ensures { (k : ℕ) → k < 896 →
+        slice_index result k ≡
+        table_word (record {
+          code_count = pages.now.code;
+          writable = pages.now.writable.now;
+          stack_count =
+              pages.now.stack;
+        }) k }
 {
     let mut tables = [0; 896];
     for k in 0..896 {

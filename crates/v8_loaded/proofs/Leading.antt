@@ -35,7 +35,9 @@ module _ {n : ℕ} {g : Pages} {mmu : MmuRegs} where
     where
       by_number : (k : ℕ) (e : Event) → slice_get (event ∷ events) k ≡ Some e →
           TurnsTo n g mmu (after board n mmu k old) e (after board n mmu (suc k) old)
-      by_number zero e there = subst (λ a. TurnsTo n g mmu old a (next board n mmu old).1) (same_Some event e there) (record { running = first.running; sane = first.sane; tells = first.tells; touches = first.touches; is = refl })
+      by_number zero e there =
+          subst (λ a. TurnsTo n g mmu old a (next board n mmu old).1) (same_Some event e there)
+          (record { running = first.running; sane = first.sane; tells = first.tells; touches = first.touches; is = refl })
       by_number (suc k) e there =
           let here = shifted board n mmu k old ∙ ap (after board n mmu k) first.is in
           subst (λ (x : World n Device). TurnsTo n g mmu x e (next board n mmu x).1) (sym here) (rest.turns k e there)

@@ -5,7 +5,8 @@
 --   stack_address               the address of a double word in the save area at %sp
 --   in_store      one turn more: a std of the next two words of the save area
 --   in_load       one turn more: an ldd of two words that lie in RAM
-use Rattle.std.proofs.Common.{◌≡◌, ◌≢◌, ℕ, suc, ◌+◌, ◌-◌, ◌*◌, ◌/◌, ◌%◌, ◌^◌, ◌<◌, ◌≤◌, inl, inr, Bool, true, false, List, [], length, get_or, take, drop, Some, None, Ok, refl, sym, ap, ◌∙◌, subst, arith}
+use Rattle.std.proofs.Common.{◌≡◌, ◌≢◌, ℕ, suc, ◌+◌, ◌-◌, ◌*◌, ◌/◌, ◌%◌, ◌^◌, ◌<◌, ◌≤◌, inl, inr, Bool, true, false, List, [], length, get_or, take, drop, Some}
+use Rattle.std.proofs.Common.{None, Ok, refl, sym, ap, ◌∙◌, subst, arith}
 use Rattle.std.specs.Int.{w32, from_be_bytes}
 use Rattle.std.specs.Prelude.{nat_lt, slice_index}
 use Rattle.std.proofs.lemmas.Bool.Decides.{nat_tests}
@@ -163,7 +164,9 @@ module _ (n : ℕ) (g : Pages) (words ram : List ℕ) (mmu : MmuRegs) (few : Are
       let aligned = on.aligned in
       let most = few.stack in
       let marks = marked_ram ram (stack_entry_place va) false in
-      let kept : (p : ℕ) → 0x2E00 ≤ p → entry_of marks p ≡ entry_of ram p = λ (p : ℕ) (above : 0x2E00 ≤ p). kept_elsewhere ram (stack_entry_place va) (stack_word va) false stack_spot p (inr (omega arith)) in
+      let kept : (p : ℕ) → 0x2E00 ≤ p →
+      entry_of marks p ≡ entry_of ram p =
+      λ (p : ℕ) (above : 0x2E00 ≤ p). kept_elsewhere ram (stack_entry_place va) (stack_word va) false stack_spot p (inr (omega arith)) in
       ap (λ o. move_through board load_access (Load loadings.Double) 0 (memory_of ram device) o) (stack_walk load_access refl)
       ∙ ap (λ o. move_answered (memory_of ram device) (page (area_of va) (stack_entry_place va)) load_access (loaded_from marks o))
       (double_loaded marks device (area_of va) x y (omega arith) (omega arith) (kept (area_of va) (omega arith) ∙ first) (kept (area_of va + 4) (omega arith) ∙ second))

@@ -117,7 +117,8 @@ pub write_own : (n : ℕ) (rows : List (List ℕ)) (w : ℕ) (globals row : List
     with_reg n (inside rows w globals row w mask) r x ≡ inside rows w globals (slice_set row (r - 8) x) w mask
 unfolding with_reg
 write_own n rows w globals row mask r x there low high =
-    let t : re_worded (inside rows w globals row w mask) (with_cell (slice_set rows w row) w (r - 8) x) ≡ inside rows w globals (slice_set row (r - 8) x) w mask = ap (re_worded (inside rows w globals row w mask)) (cell_in_it rows w row (r - 8) x there) in
+    let t : re_worded (inside rows w globals row w mask) (with_cell (slice_set rows w row) w (r - 8) x) ≡
+    inside rows w globals (slice_set row (r - 8) x) w mask = ap (re_worded (inside rows w globals row w mask)) (cell_in_it rows w row (r - 8) x there) in
     grind (arith, nat_tests, t)
 
 pub write_other : (n : ℕ) (rows : List (List ℕ)) (w : ℕ) (globals row : List ℕ) (u mask r x : ℕ) → u ≢ w → 8 ≤ r →
@@ -125,7 +126,9 @@ pub write_other : (n : ℕ) (rows : List (List ℕ)) (w : ℕ) (globals row : Li
     with_reg n (inside rows w globals row u mask) r x ≡ inside (with_cell rows u (r - 8) x) w globals row u mask
 unfolding with_reg
 write_other n rows w globals row u mask r x other low high =
-    let t : re_worded (inside rows w globals row u mask) (with_cell (slice_set rows w row) u (r - 8) x) ≡ inside (with_cell rows u (r - 8) x) w globals row u mask = ap (re_worded (inside rows w globals row u mask)) (cell_beside rows w row u (r - 8) x other) in
+    let t : re_worded (inside rows w globals row u mask) (with_cell (slice_set rows w row) u (r - 8) x) ≡
+    inside (with_cell rows u (r - 8) x) w globals row u mask =
+    ap (re_worded (inside rows w globals row u mask)) (cell_beside rows w row u (r - 8) x other) in
     grind (arith, nat_tests, t)
 
 pub write_other_ins : (n : ℕ) (rows : List (List ℕ)) (w : ℕ) (globals row : List ℕ) (u mask r x : ℕ) → above n u ≢ w →
@@ -133,7 +136,9 @@ pub write_other_ins : (n : ℕ) (rows : List (List ℕ)) (w : ℕ) (globals row 
     with_reg n (inside rows w globals row u mask) r x ≡ inside (with_cell rows (above n u) (r - 24) x) w globals row u mask
 unfolding with_reg
 write_other_ins n rows w globals row u mask r x other low high =
-    let t : re_worded (inside rows w globals row u mask) (with_cell (slice_set rows w row) (above n u) (r - 24) x) ≡ inside (with_cell rows (above n u) (r - 24) x) w globals row u mask = ap (re_worded (inside rows w globals row u mask)) (cell_beside rows w row (above n u) (r - 24) x other) in
+    let t : re_worded (inside rows w globals row u mask) (with_cell (slice_set rows w row) (above n u) (r - 24) x) ≡
+    inside (with_cell rows (above n u) (r - 24) x) w globals row u mask =
+    ap (re_worded (inside rows w globals row u mask)) (cell_beside rows w row (above n u) (r - 24) x other) in
     grind (arith, nat_tests, t)
 
 pub fit_written : (xs : List ℕ) (k x : ℕ) → ((j : ℕ) → slice_index xs j < 2 ^ 32) → k < length xs → x < 2 ^ 32 →

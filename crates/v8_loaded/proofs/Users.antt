@@ -91,7 +91,9 @@ module _ (n : ℕ) (g : Pages) (words : List ℕ) (mmu : MmuRegs) (x : World n D
   }
 
   pub trap_turn : (op : Operation) (t : ℕ) → AsksFor words i op → first_trap n x.cpu op ≡ Some t →
-      TurnsTo n g mmu x (Trapped t) (world n (in_vector n x.cpu t (trapped n x.cpu.regs x.cpu.control.pc x.cpu.control.npc) (vector_place 0xF0000000 t) (after_place 0xF0000000 t)) marks x.memory.device)
+      TurnsTo n g mmu x (Trapped t)
+      (world n (in_vector n x.cpu t (trapped n x.cpu.regs x.cpu.control.pc x.cpu.control.npc) (vector_place 0xF0000000 t)
+      (after_place 0xF0000000 t)) marks x.memory.device)
   trap_turn op t is meets =
       let to : Cpu n → World n Device = λ c. world n c marks x.memory.device in
       quiet_turn (Trapped t) _ (user_traps op t is meets ∙ ap (λ (c : Cpu n). (turn_of n x.cpu (Trapped t) (Some word) None, to c)) (vector_entered n x.cpu t u.traps u.table))

@@ -43,12 +43,16 @@ TrapTableIsFetched =
 abbrev pub forbidden_store : ℕ
 forbidden_store = status_of (record { ft = 2; level = 3; at = 4 })
 
--- A store, LDSTUB and SWAP too, that no trap stops before it reaches memory, to where what is there may be read and not written, takes
--- data_access_exception. Nothing is stored: but for the fetch's mark, memory is as before.
+-- A store, LDSTUB and SWAP too, that no trap stops before it reaches memory, to where what is there may be read and not
+-- written, takes data_access_exception. Nothing is stored: but for the fetch's mark, memory is as before.
 abbrev pub ForbiddenStoresTrap : Type 0
 ForbiddenStoresTrap =
     (n : ℕ) (g : Pages) (words : List ℕ) (mmu : MmuRegs) (x : World n Device) (i : ℕ) (t : Moving) (o : MemoryOperand) →
-    RunsUser n g words mmu x i → AsksFor words i (Transfer t o) → o.space ≡ Normal → writes_memory t ≡ true → first_trap n x.cpu (Transfer t o) ≡ None →
+    RunsUser n g words mmu x i → AsksFor words i (Transfer t o) → o.space ≡ Normal → writes_memory t ≡ true →
+    first_trap n x.cpu (Transfer t o) ≡ None →
     may_be_read g (place_of n x.cpu o) ≡ true → may_be_written g (place_of n x.cpu o) ≡ false →
-    next board n mmu x ≡
-    (turn_of n x.cpu (Trapped data_access_exception) (Some (slice_index words i)) None, world n (entered n (faulted n x.cpu forbidden_store) data_access_exception) (code_marked i x.memory.ram) x.memory.device)
+    next board n mmu x ≡ (
+      turn_of n x.cpu (Trapped data_access_exception) (Some (slice_index words i)) None,
+      world n (entered n (faulted n x.cpu forbidden_store) data_access_exception)
+          (code_marked i x.memory.ram) x.memory.device,
+    )

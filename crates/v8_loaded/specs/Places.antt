@@ -1,4 +1,5 @@
--- Places of a loaded board: the window that a trap enters (chapter 7), the entries of pages (appendix H), and what an access marks.
+-- Places of a loaded board: the window that a trap enters (chapter 7), the entries of pages (appendix H), and what an
+-- access marks.
 use Rattle.std.specs.Prelude.{ℕ, ◌+◌, ◌*◌, ◌/◌, Bool, false, List}
 use Rattle.v8_core.specs.Paths.{marked_ram}
 use Rattle.v8_core.specs.Windows.{below}

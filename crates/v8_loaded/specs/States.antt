@@ -9,7 +9,8 @@ use Rattle.v8_core.specs.Accesses.{World}
 use Rattle.v8_map.specs.declared.TheConstants.{RAM, CONTEXT_TABLE}
 use Rattle.v8_memory.specs.Board.{Device}
 
--- A register file and a word in Y, places that hold instructions, a processor interrupt level, and a trap table at a page's start.
+-- A register file and a word in Y, places that hold instructions, a processor interrupt level, and a trap table at a
+-- page's start.
 pub record IsSound (n : ℕ) (cpu : Cpu n) : Type 0 where
   pub file : IsFile n cpu.regs
   pub y_word : cpu.control.y < 2 ^ 32

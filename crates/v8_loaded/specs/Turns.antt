@@ -1,5 +1,6 @@
 -- Machine turns of a board in a row, and what each of them touches.
-use Rattle.std.specs.Prelude.{ℕ, zero, suc, ◌≡◌, ◌⊎◌, ◌+◌, ◌/◌, ◌%◌, ◌<◌, ◌≤◌, Bool, true, false, List, length, slice_get, Option, Some, None}
+use Rattle.std.specs.Prelude.{ℕ, zero, suc, ◌≡◌, ◌⊎◌, ◌+◌, ◌/◌, ◌%◌, ◌<◌, ◌≤◌, Bool, true, false, List, length}
+use Rattle.std.specs.Prelude.{slice_get, Option, Some, None}
 use Rattle.v8_core.specs.Size.TheVariants.{Double}
 use Rattle.v8_core.specs.Meaning.{Meaning}
 use Rattle.v8_core.specs.MmuRegs.{MmuRegs}
@@ -34,14 +35,15 @@ abbrev pub ReachesArea : ℕ → ℕ → Bool → Option DataAccess → Type 0
 ReachesArea from count store None = Unit
 ReachesArea from count store (Some access) = (from ≤ access.va) × (access.va < from + count) × (access.va % 8 ≡ 0) × (access.size ≡ Double) × (access.store ≡ store)
 
--- What a turn touches, by its mode, place and access: user code is fetched from the code's pages, and reaches no data; a vector is
--- fetched from the page of the trap table, and reaches the device alone.
+-- What a turn touches, by its mode, place and access: user code is fetched from the code's pages, and reaches no data;
+-- a vector is fetched from the page of the trap table, and reaches the device alone.
 abbrev pub Touches : Pages → Bool → ℕ → Option DataAccess → Type 0
 Touches g true pc access = (CODE_START / PAGE ≤ pc / PAGE) × (pc / PAGE < CODE_START / PAGE + g.code_count) × (access ≡ None)
 Touches g false pc access = (pc / PAGE ≡ TRAP_TABLE / PAGE) × ReachesDevice access
 
--- A turn of a window trap's vector or of its handler. It ran in supervisor mode, in the page of the trap table or of the handlers,
--- and it reaches the save area alone: so many bytes from an address on, which the handler either stores or loads.
+-- A turn of a window trap's vector or of its handler. It ran in supervisor mode, in the page of the trap table or of
+-- the handlers, and it reaches the save area alone: so many bytes from an address on, which the handler either stores
+-- or loads.
 pub record IsHandlers (from count : ℕ) (store : Bool) (turn : Turn) : Type 0 where
   pub event : turn.event ≡ Ran
   pub system : turn.user ≡ false
@@ -51,7 +53,8 @@ pub record IsHandlers (from count : ℕ) (store : Bool) (turn : Turn) : Type 0 w
 -- ---- turns of a board that had not ended
 
 -- one turn, with this event
-pub record TurnsTo (n : ℕ) (g : Pages) (mmu : MmuRegs) (old : World n Device) (event : Event) (new : World n Device) : Type 0 where
+pub record TurnsTo (n : ℕ) (g : Pages) (mmu : MmuRegs) (old : World n Device) (event : Event)
+    (new : World n Device) : Type 0 where
   pub running : old.memory.device.stopped ≡ None
   pub sane : old.cpu.control.error ≡ None
   pub tells : (next board n mmu old).0.event ≡ event
@@ -59,7 +62,8 @@ pub record TurnsTo (n : ℕ) (g : Pages) (mmu : MmuRegs) (old : World n Device) 
   pub is : (next board n mmu old).1 ≡ new
 
 -- turns with these events, one after the other
-pub record Leads (n : ℕ) (g : Pages) (mmu : MmuRegs) (old : World n Device) (events : List Event) (new : World n Device) : Type 0 where
+pub record Leads (n : ℕ) (g : Pages) (mmu : MmuRegs) (old : World n Device) (events : List Event)
+    (new : World n Device) : Type 0 where
   pub is : after board n mmu (length events) old ≡ new
   pub turns : (k : ℕ) (event : Event) → slice_get events k ≡ Some event →
       TurnsTo n g mmu (after board n mmu k old) event (after board n mmu (suc k) old)

@@ -15,8 +15,8 @@ use Rattle.v8_layout.specs.Layout.{Pages, AreFew, IsLoaded}
 use Rattle.v8_memory.specs.Board.{Device, board}
 use Rattle.v8_loaded.specs.Turns.{IsHandlers, turn_at}
 
--- User code on a loaded board, about to run the code word i. The next place may be any place of a word, so the word may stand in a
--- delay slot.
+-- User code on a loaded board, about to run the code word i. The next place may be any place of a word, so the word may
+-- stand in a delay slot.
 pub record RunsUser (n : ℕ) (g : Pages) (words : List ℕ) (mmu : MmuRegs) (x : World n Device) (i : ℕ) : Type 0 where
   pub file : IsFile n x.cpu.regs
   pub user : x.cpu.control.s ≡ false
@@ -40,10 +40,15 @@ AsksFor words i op = operation_of (meaning (slice_index words i)) ≡ op
 -- In the vector of a trap of type t: supervisor mode, traps disabled, with these registers, PC and nPC.
 abbrev pub in_vector : (n : ℕ) → Cpu n → ℕ → Windows → ℕ → ℕ → Cpu n
 in_vector n c t regs pc npc =
-    record { regs = regs; control = record c.control { et = false; ps = c.control.s; s = true; annul = false; tt = t; pc = pc; npc = npc } }
+    record {
+      regs = regs;
+      control =
+          record c.control { et = false; ps = c.control.s; s = true; annul = false; tt = t; pc = pc; npc = npc };
+    }
 
--- The code word i takes a window trap of type t, and 23 turns of its vector and handler follow, which store or load in the 64 bytes
--- from an address on and reach nothing else.
-pub record IsHandled (n : ℕ) (words : List ℕ) (mmu : MmuRegs) (old : World n Device) (i t sp : ℕ) (store : Bool) : Type 0 where
+-- The code word i takes a window trap of type t, and 23 turns of its vector and handler follow, which store or load in
+-- the 64 bytes from an address on and reach nothing else.
+pub record IsHandled (n : ℕ) (words : List ℕ) (mmu : MmuRegs) (old : World n Device) (i t sp : ℕ)
+    (store : Bool) : Type 0 where
   pub trap : (next board n mmu old).0 ≡ turn_of n old.cpu (Trapped t) (Some (slice_index words i)) None
   pub turns : (k : ℕ) → k < 23 → IsHandlers sp 64 store (turn_at board n mmu (suc k) old)

@@ -1,6 +1,9 @@
 -- The parts of memory that the address map has.
 use Rattle.std.specs.Prelude.{ℕ, ◌+◌, ◌-◌, Bool, true, IsTrue, ◌&&◌, ◌||◌, nat_le, List, [], ◌∷◌}
-use Rattle.v8_map.specs.declared.TheConstants.{PAGE, CODE_START, CODE_END, CODE_PLACE, DATA_START, DATA_END, DATA_PLACE, STACK_LOWEST, STACK_END, STACK_PLACE, TRAP_TABLE, TRAP_TABLE_PLACE, HANDLERS, HANDLERS_PLACE, DEVICE, DEVICE_PLACE, RAM, CONTEXT_TABLE, TABLES_END}
+use Rattle.v8_map.specs.declared.TheConstants.{PAGE, CODE_START, CODE_END, CODE_PLACE, DATA_START, DATA_END, DATA_PLACE}
+use Rattle.v8_map.specs.declared.TheConstants.{STACK_LOWEST, STACK_END, STACK_PLACE, TRAP_TABLE, TRAP_TABLE_PLACE}
+use Rattle.v8_map.specs.declared.TheConstants.{HANDLERS, HANDLERS_PLACE, DEVICE, DEVICE_PLACE, RAM, CONTEXT_TABLE}
+use Rattle.v8_map.specs.declared.TheConstants.{TABLES_END}
 
 -- addresses from a first one up to a last one, which is left out
 pub record Addresses : Type 0 where
@@ -39,11 +42,14 @@ all test (x ∷ xs) = test x && all test xs
 
 abbrev pub each_apart : List Part → Bool
 each_apart [] = true
-each_apart (p ∷ ps) = all (λ q. ends_before p.virtual q.virtual && ends_before p.physical q.physical) ps && each_apart ps
+each_apart (p ∷ ps) =
+    all (λ q. ends_before p.virtual q.virtual && ends_before p.physical q.physical) ps && each_apart ps
 
 -- no address is of two parts, and none of the page tables'
 abbrev pub AreApart : Type 0
-AreApart = IsTrue (each_apart (device ∷ parts_in_ram) && all (λ p. ends_before p.physical (addresses CONTEXT_TABLE TABLES_END)) (device ∷ parts_in_ram))
+AreApart = IsTrue
+    (each_apart (device ∷ parts_in_ram)
+    && all (λ p. ends_before p.physical (addresses CONTEXT_TABLE TABLES_END)) (device ∷ parts_in_ram))
 
 abbrev pub HasRoom : Type 0
 HasRoom = IsTrue (all (λ p. nat_le p.physical.end RAM) parts_in_ram)

@@ -1,4 +1,5 @@
-//! The address map: what lies where, in virtual and in physical memory. Every other crate takes its addresses from here.
+//! The address map: what lies where, in virtual and in physical memory. Every other crate takes its addresses from
+//! here.
 #![tactic(auto)]
 
 ghost use Rattle.v8_map.specs.Parts.{AreApart, HasRoom};
@@ -20,7 +21,8 @@ pub const DATA_END: u32 = 0x000C_0000;
 
 pub const DATA_PLACE: u32 = 0x0005_0000;
 
-/// The stack's pages end at `STACK_END`, and the lowest that it can have is that of `STACK_LOWEST`, which lies in RAM at `STACK_PLACE`.
+/// The stack's pages end at `STACK_END`, and the lowest that it can have is that of `STACK_LOWEST`, which lies in RAM
+/// at `STACK_PLACE`.
 pub const STACK_LOWEST: u32 = 0x000F_0000;
 
 pub const STACK_END: u32 = 0x0010_0000;
@@ -48,8 +50,8 @@ pub const DEVICE_PLACE: u64 = 0x1_0000_0000;
 /// Bytes of RAM, which begins at physical address 0.
 pub const RAM: u32 = 0x0010_0000;
 
-/// The page tables' places in RAM: the context table, the one of regions of 16 MB, those of regions of 256 KB for programs and for the
-/// system, those of pages, and where they end.
+/// The page tables' places in RAM: the context table, the one of regions of 16 MB, those of regions of 256 KB for
+/// programs and for the system, those of pages, and where they end.
 pub const CONTEXT_TABLE: u32 = 0x2000;
 
 pub const REGION_TABLE: u32 = 0x2400;

@@ -136,7 +136,8 @@ marks_or_not i va store entry = by_page (is_in i va) refl
     by_page true e = inr (in_it i va store entry e)
     by_page false e = inl (beside_it i va store entry e)
 
-area_marks : (i sp : ℕ) (store : Bool) (access : Option DataAccess) (entry : Option ℕ) → ReachesArea sp 64 store access → (after_access i access entry ≡ entry) ⊎ (after_access i access entry ≡ with_mark store entry)
+area_marks : (i sp : ℕ) (store : Bool) (access : Option DataAccess) (entry : Option ℕ) → ReachesArea sp 64 store access →
+    (after_access i access entry ≡ entry) ⊎ (after_access i access entry ≡ with_mark store entry)
 area_marks i sp store None entry area = inl refl
 area_marks i sp store (Some a) entry (low, high, eight, double, kind) =
     subst (λ s. (reached i a.va s entry ≡ entry) ⊎ (reached i a.va s entry ≡ with_mark store entry)) (sym kind) (marks_or_not i a.va store entry)
@@ -148,7 +149,8 @@ apart i sp va less aligned low high eight first last =
     let c : va / 4096 ≢ 0x40 + i = omega arith in
     grind (arith, nat_tests)
 
-area_beside : (i sp : ℕ) (store : Bool) (access : Option DataAccess) (entry : Option ℕ) → i < 192 → sp % 8 ≡ 0 → is_in i sp ≡ false → is_in i (sp + 63) ≡ false → ReachesArea sp 64 store access → after_access i access entry ≡ entry
+area_beside : (i sp : ℕ) (store : Bool) (access : Option DataAccess) (entry : Option ℕ) → i < 192 → sp % 8 ≡ 0 → is_in i sp ≡ false →
+    is_in i (sp + 63) ≡ false → ReachesArea sp 64 store access → after_access i access entry ≡ entry
 area_beside i sp store None entry less aligned first last area = refl
 area_beside i sp store (Some a) entry less aligned first last (low, high, eight, double, kind) = beside_it i a.va a.store entry (apart i sp a.va less aligned low high eight first last)
 
@@ -185,20 +187,27 @@ module _ (n : ℕ) (g : Pages) (words : List ℕ) (mmu : MmuRegs) (x : World n D
   turn_marks : (j : ℕ) → j < 23 → entry (suc j) ≡ after_access i (turn_at board n mmu j start).access (entry j)
   turn_marks j small =
       let turn = turn_at board n mmu j start in
-      turns_mark n g (held_of words x.memory.ram) mmu (after board n mmu j start) i (after_contained n g (held_of words x.memory.ram) mmu start j (turns_contained n g (held_of words x.memory.ram) mmu x contained).keeps) less
+      turns_mark n g (held_of words x.memory.ram) mmu (after board n mmu j start) i
+      (after_contained n g (held_of words x.memory.ram) mmu start j (turns_contained n g (held_of words x.memory.ram) mmu x contained).keeps) less
       ∙ ap (after_access i turn.access) (system_fetch i turn.pc turn.word (entry j) less (turns j small).page)
 
   each : AreMarked store 23 entry
   each j small = marked_by (area_marks i sp store (turn_at board n mmu j start).access (entry j) (turns j small).access)
     where
-      marked_by : (after_access i (turn_at board n mmu j start).access (entry j) ≡ entry j) ⊎ (after_access i (turn_at board n mmu j start).access (entry j) ≡ with_mark store (entry j)) → (entry (suc j) ≡ entry j) ⊎ (entry (suc j) ≡ with_mark store (entry j))
+      marked_by : (after_access i (turn_at board n mmu j start).access (entry j) ≡ entry j)
+          ⊎ (after_access i (turn_at board n mmu j start).access (entry j) ≡ with_mark store (entry j)) →
+          (entry (suc j) ≡ entry j) ⊎ (entry (suc j) ≡ with_mark store (entry j))
       marked_by (inl same) = inl (turn_marks j small ∙ same)
       marked_by (inr more) = inr (turn_marks j small ∙ more)
 
   all_marks : (a b : Bool) → is_in i sp ≡ a → is_in i (sp + 63) ≡ b → entry 23 ≡ (if a || b then with_mark store (entry 0) else entry 0)
-  all_marks true b here there = stays_hit store 23 entry each 11 11 (omega arith) (turn_marks 11 (omega arith) ∙ reach_marks i sp store (turn_at board n mmu 11 start).access (entry 11) here first) (omega arith)
+  all_marks true b here there =
+      stays_hit store 23 entry each 11 11 (omega arith)
+      (turn_marks 11 (omega arith) ∙ reach_marks i sp store (turn_at board n mmu 11 start).access (entry 11) here first) (omega arith)
   all_marks false true here there =
-      stays_hit store 23 entry each 18 4 (omega arith) (turn_marks 18 (omega arith) ∙ reach_marks i (sp + 56) store (turn_at board n mmu 18 start).access (entry 18) (last_page i sp aligned there) last) (omega arith)
+      stays_hit store 23 entry each 18 4 (omega arith)
+      (turn_marks 18 (omega arith) ∙ reach_marks i (sp + 56) store (turn_at board n mmu 18 start).access (entry 18) (last_page i sp aligned there) last)
+      (omega arith)
   all_marks false false here there =
       never_marked 23 entry (λ j small. turn_marks j small ∙ area_beside i sp store (turn_at board n mmu j start).access (entry j) less aligned here there (turns j small).access) 23 (omega arith)
 
@@ -211,7 +220,8 @@ module _ (n : ℕ) (g : Pages) (words : List ℕ) (mmu : MmuRegs) (x : World n D
 
 -- A handler's word that moves a double word at %sp, from a processor in the handlers.
 module _ (n : ℕ) (g : Pages) (words : List ℕ) (mmu : MmuRegs) (x : World n Device) (k : ℕ) (u : RunsUser n g words mmu x k) (j w : ℕ) (a : Area) (old : World n Device) (cpu : Cpu n) (op : Operation)
-    (before : Comes n g words mmu x.memory.device a j old cpu) (small : w < 1024) (at : cpu.control.pc ≡ 0xF0001000 + 4 * w) (system : cpu.control.s ≡ true) (sane : cpu.control.error ≡ None) (straight : cpu.control.annul ≡ false)
+    (before : Comes n g words mmu x.memory.device a j old cpu) (small : w < 1024) (at : cpu.control.pc ≡ 0xF0001000 + 4 * w) (system : cpu.control.s ≡ true)
+    (sane : cpu.control.error ≡ None) (straight : cpu.control.annul ≡ false)
     (asks : Asks (handler_word n w) op) (ran : (turn_at board n mmu j old).event ≡ Ran) where
   pub moves_there : Reaches (reach_of n cpu op) (turn_at board n mmu j old).access
   moves_there =
@@ -221,12 +231,16 @@ module _ (n : ℕ) (g : Pages) (words : List ℕ) (mmu : MmuRegs) (x : World n D
       ∙ fetches_handlers n g words before.ram mmu u.few before.loaded u.root w small in
       let here : turn_at board n mmu j old ≡ (next board n mmu y).0 = ap (λ (z : World n Device). (next board n mmu z).0) before.is in
       subst (λ (q : Turn). Reaches (reach_of n cpu op) q.access) (sym here)
-      (ran_reaches n mmu y (handler_word n w) (handlers_marked before.ram) op (record { running = u.running; sane = sane; straight = straight }) fetch asks (sym (ap (λ (q : Turn). q.event) here) ∙ ran))
+      (ran_reaches n mmu y (handler_word n w) (handlers_marked before.ram) op (record { running = u.running; sane = sane; straight = straight }) fetch asks
+      (sym (ap (λ (q : Turn). q.event) here) ∙ ran))
 
-module _ (n : ℕ) (g : Pages) (words : List ℕ) (mmu : MmuRegs) (x : World n Device) (k : ℕ) (u : RunsUser n g words mmu x k) (t sp : ℕ) (store : Bool) (handled : IsHandled n words mmu x k t sp store) (old : World n Device) (begun_so : (next board n mmu x).1 ≡ old) where
+module _ (n : ℕ) (g : Pages) (words : List ℕ) (mmu : MmuRegs) (x : World n Device) (k : ℕ) (u : RunsUser n g words mmu x k) (t sp : ℕ) (store : Bool)
+    (handled : IsHandled n words mmu x k t sp store) (old : World n Device) (begun_so : (next board n mmu x).1 ≡ old) where
   pub ran_at : (j : ℕ) → j < 23 → (turn_at board n mmu j old).event ≡ Ran
   ran_at j small =
       sym (ap (λ (q : World n Device). (turn_at board n mmu j q).event) begun_so) ∙ sym (ap (λ (q : Turn). q.event) (turn_later board n mmu j x)) ∙ (handled.turns j small).event
 
   pub from_old : (j va to : ℕ) → va ≡ to → Reaches (Some (va, store)) (turn_at board n mmu j old).access → Reaches (Some (to, store)) (turn_at board n mmu j (next board n mmu x).1).access
-  from_old j va to same r = subst (λ (q : World n Device). Reaches (Some (to, store)) (turn_at board n mmu j q).access) (sym begun_so) (subst (λ p. Reaches (Some (p, store)) (turn_at board n mmu j old).access) same r)
+  from_old j va to same r =
+      subst (λ (q : World n Device). Reaches (Some (to, store)) (turn_at board n mmu j q).access) (sym begun_so)
+      (subst (λ p. Reaches (Some (p, store)) (turn_at board n mmu j old).access) same r)

@@ -125,7 +125,8 @@ move_answer : (ram : List ℕ) (d : Device) (a : Access) (store : Bool) (va i : 
 move_answer ram d a store va i page marks None marked same = refl
 move_answer ram d a store va i page marks (Some made) marked same = same ∙ marked
 
-move_to : (ram : List ℕ) (d : Device) (a : Access) (va i : ℕ) (t : Transfer) (v : ℕ) (r : Result Page MmuFault) → i < 192 → ((acc : ℕ) → writes_memory t ≡ true → permits (rights_of acc a.user) a.kind ≡ true → (rights_of acc a.user).write ≡ true) →
+move_to : (ram : List ℕ) (d : Device) (a : Access) (va i : ℕ) (t : Transfer) (v : ℕ) (r : Result Page MmuFault) → i < 192 →
+    ((acc : ℕ) → writes_memory t ≡ true → permits (rights_of acc a.user) a.kind ≡ true → (rights_of acc a.user).write ≡ true) →
     IsEnd ram va a r → Moves i va (writes_memory t) ram (move_through board a t v (mem_of ram d) r)
 move_to ram d a va i t v (Err e) less writes end = refl
 move_to ram d a va i t v (Ok page) less writes end =
@@ -143,13 +144,16 @@ code_writes true acc user e = store_right (rights_of acc user).write (rights_of 
 code_writes false acc user e = e
 
 -- a store asks for the right to write
-access_writes : (n : ℕ) (cpu : Cpu n) (store : Bool) (space : Space) (acc : ℕ) → store ≡ true → permits (rights_of acc (access_of n cpu store space).user) (access_of n cpu store space).kind ≡ true → (rights_of acc (access_of n cpu store space).user).write ≡ true
+access_writes : (n : ℕ) (cpu : Cpu n) (store : Bool) (space : Space) (acc : ℕ) → store ≡ true →
+    permits (rights_of acc (access_of n cpu store space).user) (access_of n cpu store space).kind ≡ true →
+    (rights_of acc (access_of n cpu store space).user).write ≡ true
 access_writes n cpu true Normal acc e may = may
 access_writes n cpu true Missing acc e may = may
 access_writes n cpu true (Alternate asi) acc e may = code_writes (is_code_space asi) acc (access_of n cpu true (Alternate asi)).user may
 access_writes n cpu false space acc e may = absurd (cc)
 
-pub move_marks : (n : ℕ) (g : Pages) (ram : List ℕ) (d : Device) (mmu : MmuRegs) (cpu : Cpu n) (space : Space) (va i : ℕ) (t : Transfer) (v : ℕ) → AreFew g → root_of mmu ≡ 0x2000 → HasTables g ram → va < 2 ^ 32 → i < 192 →
+pub move_marks : (n : ℕ) (g : Pages) (ram : List ℕ) (d : Device) (mmu : MmuRegs) (cpu : Cpu n) (space : Space) (va i : ℕ) (t : Transfer) (v : ℕ) → AreFew g →
+    root_of mmu ≡ 0x2000 → HasTables g ram → va < 2 ^ 32 → i < 192 →
     Moves i va (writes_memory t) ram (moves board mmu va (access_of n cpu (writes_memory t) space) t v (mem_of ram d))
 unfolding moves
 move_marks n g ram d mmu cpu space va i t v few root tables small less =

@@ -43,16 +43,21 @@ module _ (n : ℕ) (g : Pages) (words : List ℕ) (mmu : MmuRegs) (x : World n D
   unfolding page_word
   first_stored =
       let cpu = spilling.storing n g words mmu x k o room 0xF0001020 0xF0001024 in
-      from_old n g words mmu x k o.user 5 sp true handled old begun_so 11 (address_of n cpu 14 (Immediate 0)) sp (spilling.stores_at n g words mmu x k o room 0 0xF0001020 0xF0001024 (omega arith) ∙ omega arith)
-      (moves_there n g words mmu x k o.user 11 8 _ old cpu (store Double (at_stack 16 0)) (spilling.before_first n g words mmu x k o room) (omega arith) refl refl refl refl stores_0 (ran 11 (omega arith)))
+      from_old n g words mmu x k o.user 5 sp true handled old begun_so 11 (address_of n cpu 14 (Immediate 0)) sp
+      (spilling.stores_at n g words mmu x k o room 0 0xF0001020 0xF0001024 (omega arith) ∙ omega arith)
+      (moves_there n g words mmu x k o.user 11 8 _ old cpu (store Double (at_stack 16 0)) (spilling.before_first n g words mmu x k o room)
+      (omega arith) refl refl refl refl stores_0 (ran 11 (omega arith)))
 
   last_stored : Reaches (Some (sp + 56, true)) (turn_at board n mmu 18 (next board n mmu x).1).access
   unfolding page_word
   last_stored =
       let cpu = spilling.storing n g words mmu x k o room 0xF000103C 0xF0001040 in
-      from_old n g words mmu x k o.user 5 sp true handled old begun_so 18 (address_of n cpu 14 (Immediate 56)) (sp + 56) (spilling.stores_at n g words mmu x k o room 56 0xF000103C 0xF0001040 (omega arith))
-      (moves_there n g words mmu x k o.user 18 15 _ old cpu (store Double (at_stack 30 56)) (spilling.before_last n g words mmu x k o room) (omega arith) refl refl refl refl stores_7 (ran 18 (omega arith)))
+      from_old n g words mmu x k o.user 5 sp true handled old begun_so 18 (address_of n cpu 14 (Immediate 56)) (sp + 56)
+      (spilling.stores_at n g words mmu x k o room 56 0xF000103C 0xF0001040 (omega arith))
+      (moves_there n g words mmu x k o.user 18 15 _ old cpu (store Double (at_stack 30 56)) (spilling.before_last n g words mmu x k o room)
+      (omega arith) refl refl refl refl stores_7 (ran 18 (omega arith)))
 
 pub overflow_marks : OverflowMarks
 overflow_marks n g words mmu x k i o room less =
-    handler_marks n g words mmu x k o.user i less 5 (spilled_pointer n x.cpu) true room.aligned (handled n g words mmu x k o room) (first_stored n g words mmu x k o room) (last_stored n g words mmu x k o room)
+    handler_marks n g words mmu x k o.user i less 5 (spilled_pointer n x.cpu) true room.aligned (handled n g words mmu x k o room)
+    (first_stored n g words mmu x k o room) (last_stored n g words mmu x k o room)

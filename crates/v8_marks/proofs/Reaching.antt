@@ -76,7 +76,8 @@ not_ran : (traps : Bool) (t : ℕ) → (if traps then Trapped t else ErrorMode t
 not_ran true t e = cc
 not_ran false t e = cc
 
-end_fine : (n : ℕ) (x : World n Device) (r : Option (ℕ × Bool)) (w : ℕ) (access : Option DataAccess) (t : Option ℕ) (mid : World n Device) → Fine r (record { access = access; trap = t }) → (ends board n x (Some w) access t mid).0.event ≡ Ran →
+end_fine : (n : ℕ) (x : World n Device) (r : Option (ℕ × Bool)) (w : ℕ) (access : Option DataAccess) (t : Option ℕ) (mid : World n Device) →
+    Fine r (record { access = access; trap = t }) → (ends board n x (Some w) access t mid).0.event ≡ Ran →
     Reaches r (ends board n x (Some w) access t mid).0.access
 end_fine n x r w access None mid fine ran = fine refl
 end_fine n x r w access (Some t) mid fine ran = absurd (not_ran mid.cpu.control.et t ran)

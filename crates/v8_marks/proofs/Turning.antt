@@ -43,13 +43,15 @@ abbrev Fetches : ℕ → Pages → List ℕ → ℕ → ℕ → List ℕ → Res
 Fetches n g words i pc ram (Ok w, new) = (entry_at new i ≡ reached i pc false (entry_at ram i)) × IsLoaded n g words new
 Fetches n g words i pc ram (Err st, new) = new ≡ ram
 
-fetch_word : (n : ℕ) (g : Pages) (words : List ℕ) (i pc : ℕ) (ram marks : List ℕ) (page : Page) (a : Access) (o p : Option ℕ) → entry_at marks i ≡ reached i pc false (entry_at ram i) → IsLoaded n g words marks →
+fetch_word : (n : ℕ) (g : Pages) (words : List ℕ) (i pc : ℕ) (ram marks : List ℕ) (page : Page) (a : Access) (o p : Option ℕ) →
+    entry_at marks i ≡ reached i pc false (entry_at ram i) → IsLoaded n g words marks →
     Fetches n g words i pc ram (fetch_answered ram page a marks o p)
 fetch_word n g words i pc ram marks page a None p marked loaded = refl
 fetch_word n g words i pc ram marks page a (Some u) None marked loaded = refl
 fetch_word n g words i pc ram marks page a (Some u) (Some w) marked loaded = (marked, loaded)
 
-fetch_page : (n : ℕ) (g : Pages) (words : List ℕ) (i pc : ℕ) (ram : List ℕ) (a : Access) (r : Result Page MmuFault) → i < 192 → IsLoaded n g words ram → IsEnd ram pc a r → Fetches n g words i pc ram (fetch_through a ram r)
+fetch_page : (n : ℕ) (g : Pages) (words : List ℕ) (i pc : ℕ) (ram : List ℕ) (a : Access) (r : Result Page MmuFault) → i < 192 → IsLoaded n g words ram →
+    IsEnd ram pc a r → Fetches n g words i pc ram (fetch_through a ram r)
 fetch_page n g words i pc ram a (Err e) less loaded end = refl
 fetch_page n g words i pc ram a (Ok page) less loaded end =
     fetch_word n g words i pc ram (marked_ram ram page.place false) page a (entry_of ram page.pa) (entry_of (marked_ram ram page.place false) page.pa)
@@ -112,7 +114,8 @@ module _ (n : ℕ) (g : Pages) (words : List ℕ) (mmu : MmuRegs) (few : AreFew 
   abbrev Turned : World n Device → Turn × World n Device → Type 0
   Turned x r = entry_at r.1.memory.ram i ≡ after_turn i r.0 (entry_at x.memory.ram i)
 
-  end_marks : (x : World n Device) (word : Option ℕ) (access : Option DataAccess) (t : Option ℕ) (mid : World n Device) → Attempted x (word, (record { access = access; trap = t }, mid)) → Turned x (ends board n x word access t mid)
+  end_marks : (x : World n Device) (word : Option ℕ) (access : Option DataAccess) (t : Option ℕ) (mid : World n Device) →
+      Attempted x (word, (record { access = access; trap = t }, mid)) → Turned x (ends board n x word access t mid)
   end_marks x word access None mid marked = marked
   end_marks x word access (Some t) mid marked = marked
 
@@ -120,7 +123,8 @@ module _ (n : ℕ) (g : Pages) (words : List ℕ) (mmu : MmuRegs) (few : AreFew 
   unfolding tries
   try_marks x loaded small = let a = attempts board n mmu x in end_marks x a.0 a.1.0.access a.1.0.trap a.1.1 (attempt_marks x loaded small)
 
-  go_marks : (x : World n Device) (s : Option Stop) (e : Option ℕ) (annul : Bool) → IsLoaded n g words x.memory.ram → (s ≡ None → e ≡ None → x.cpu.control.pc < 2 ^ 32) → Turned x (goes_on board n mmu x s e annul)
+  go_marks : (x : World n Device) (s : Option Stop) (e : Option ℕ) (annul : Bool) → IsLoaded n g words x.memory.ram →
+      (s ≡ None → e ≡ None → x.cpu.control.pc < 2 ^ 32) → Turned x (goes_on board n mmu x s e annul)
   go_marks x (Some s) e annul loaded small = refl
   go_marks x None (Some t) annul loaded small = refl
   go_marks x None None true loaded small = refl
@@ -152,7 +156,8 @@ not_ended : {A : Type 0} (o : Option A) → o ≡ None → IsSome o → ⊥
 not_ended None e h = let no : false ≡ true = h in cc
 not_ended (Some a) e h = cc
 
-pub pc_small : (n : ℕ) (g : Pages) (held : Contents) (mmu : MmuRegs) (x : World n Device) → IsContained n g held mmu x → x.memory.device.stopped ≡ None → x.cpu.control.error ≡ None → x.cpu.control.pc < 2 ^ 32
+pub pc_small : (n : ℕ) (g : Pages) (held : Contents) (mmu : MmuRegs) (x : World n Device) → IsContained n g held mmu x → x.memory.device.stopped ≡ None →
+    x.cpu.control.error ≡ None → x.cpu.control.pc < 2 ^ 32
 pc_small n g held mmu x c running sane = by_mode c.mode
   where
     by_mode : (IsSome x.memory.device.stopped ⊎ IsSome x.cpu.control.error) ⊎ IsRunning n x → x.cpu.control.pc < 2 ^ 32

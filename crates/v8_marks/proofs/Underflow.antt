@@ -42,16 +42,21 @@ module _ (n : ℕ) (g : Pages) (words : List ℕ) (mmu : MmuRegs) (x : World n D
   unfolding page_word
   first_loaded =
       let cpu = filling.loading n g words mmu x k o area 0 0xF00010A0 0xF00010A4 in
-      from_old n g words mmu x k o.user 6 sp false handled old begun_so 11 (address_of n cpu 14 (Immediate 0)) sp (filling.loads_at n g words mmu x k o area 0 0 0xF00010A0 0xF00010A4 (omega arith) (omega arith) ∙ omega arith)
-      (moves_there n g words mmu x k o.user 11 40 _ old cpu (load loadings.Double (at_stack 16 0)) (filling.before_first n g words mmu x k o area) (omega arith) refl refl refl refl loads_0 (ran 11 (omega arith)))
+      from_old n g words mmu x k o.user 6 sp false handled old begun_so 11 (address_of n cpu 14 (Immediate 0)) sp
+      (filling.loads_at n g words mmu x k o area 0 0 0xF00010A0 0xF00010A4 (omega arith) (omega arith) ∙ omega arith)
+      (moves_there n g words mmu x k o.user 11 40 _ old cpu (load loadings.Double (at_stack 16 0)) (filling.before_first n g words mmu x k o area)
+      (omega arith) refl refl refl refl loads_0 (ran 11 (omega arith)))
 
   last_loaded : Reaches (Some (sp + 56, false)) (turn_at board n mmu 18 (next board n mmu x).1).access
   unfolding page_word
   last_loaded =
       let cpu = filling.loading n g words mmu x k o area 14 0xF00010BC 0xF00010C0 in
-      from_old n g words mmu x k o.user 6 sp false handled old begun_so 18 (address_of n cpu 14 (Immediate 56)) (sp + 56) (filling.loads_at n g words mmu x k o area 14 56 0xF00010BC 0xF00010C0 (omega arith) (omega arith))
-      (moves_there n g words mmu x k o.user 18 47 _ old cpu (load loadings.Double (at_stack 30 56)) (filling.before_last n g words mmu x k o area) (omega arith) refl refl refl refl loads_7 (ran 18 (omega arith)))
+      from_old n g words mmu x k o.user 6 sp false handled old begun_so 18 (address_of n cpu 14 (Immediate 56)) (sp + 56)
+      (filling.loads_at n g words mmu x k o area 14 56 0xF00010BC 0xF00010C0 (omega arith) (omega arith))
+      (moves_there n g words mmu x k o.user 18 47 _ old cpu (load loadings.Double (at_stack 30 56)) (filling.before_last n g words mmu x k o area)
+      (omega arith) refl refl refl refl loads_7 (ran 18 (omega arith)))
 
 pub underflow_marks : UnderflowMarks
 underflow_marks n g words mmu x k i o area less =
-    handler_marks n g words mmu x k o.user i less 6 (refilled_pointer n x.cpu) false area.room.aligned (handled n g words mmu x k o area) (first_loaded n g words mmu x k o area) (last_loaded n g words mmu x k o area)
+    handler_marks n g words mmu x k o.user i less 6 (refilled_pointer n x.cpu) false area.room.aligned (handled n g words mmu x k o area)
+    (first_loaded n g words mmu x k o area) (last_loaded n g words mmu x k o area)

@@ -16,16 +16,20 @@ holds_some i sp = is_in i sp || is_in i (sp + 63)
 
 -- the entry of page i after a fetch, and after the 64 bytes were stored or loaded
 abbrev pub after_handler : ℕ → ℕ → ℕ → Bool → Option ℕ → Option ℕ
-after_handler i pc sp store entry = if holds_some i sp then with_mark store (reached i pc false entry) else reached i pc false entry
+after_handler i pc sp store entry =
+    if holds_some i sp then with_mark store (reached i pc false entry) else reached i pc false entry
 
 -- a SAVE that traps, and the 23 turns of its handler
 abbrev pub OverflowMarks : Type 0
 OverflowMarks =
-    (n : ℕ) (g : Pages) (words : List ℕ) (mmu : MmuRegs) (x : World n Device) (k i : ℕ) → Overflows n g words mmu x k → HasRoom g (spilled_pointer n x.cpu) → i < 192 →
-    entry_at (after board n mmu 24 x).memory.ram i ≡ after_handler i x.cpu.control.pc (spilled_pointer n x.cpu) true (entry_at x.memory.ram i)
+    (n : ℕ) (g : Pages) (words : List ℕ) (mmu : MmuRegs) (x : World n Device) (k i : ℕ) → Overflows n g words mmu x k →
+    HasRoom g (spilled_pointer n x.cpu) → i < 192 →
+    entry_at (after board n mmu 24 x).memory.ram i ≡
+    after_handler i x.cpu.control.pc (spilled_pointer n x.cpu) true (entry_at x.memory.ram i)
 
 -- a RESTORE that traps, and its handler's
 abbrev pub UnderflowMarks : Type 0
 UnderflowMarks =
-    (n : ℕ) (g : Pages) (words : List ℕ) (mmu : MmuRegs) (x : World n Device) (k i : ℕ) → Underflows n g words mmu x k → HasFrame g x.memory.ram (refilled_pointer n x.cpu) → i < 192 →
+    (n : ℕ) (g : Pages) (words : List ℕ) (mmu : MmuRegs) (x : World n Device) (k i : ℕ) → Underflows n g words mmu x k →
+    HasFrame g x.memory.ram (refilled_pointer n x.cpu) → i < 192 →
     entry_at (after board n mmu 24 x).memory.ram i ≡ after_handler i x.cpu.control.pc (refilled_pointer n x.cpu) false (entry_at x.memory.ram i)

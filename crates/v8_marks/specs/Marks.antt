@@ -44,5 +44,6 @@ after_turn i turn entry = after_access i turn.access (after_fetch i turn.pc turn
 
 abbrev pub TurnsMark : Type 0
 TurnsMark =
-    (n : ℕ) (g : Pages) (held : Contents) (mmu : MmuRegs) (x : World n Device) (i : ℕ) → IsContained n g held mmu x → i < 192 →
+    (n : ℕ) (g : Pages) (held : Contents) (mmu : MmuRegs) (x : World n Device) (i : ℕ) → IsContained n g held mmu x →
+    i < 192 →
     entry_at (next board n mmu x).1.memory.ram i ≡ after_turn i (next board n mmu x).0 (entry_at x.memory.ram i)

@@ -28,8 +28,10 @@ after_reach i (Some r) entry = reached i r.0 r.1 entry
 -- user code at the code word k that runs, and asks for this operation
 abbrev pub UsersMark : Type 0
 UsersMark =
-    (n : ℕ) (g : Pages) (words : List ℕ) (mmu : MmuRegs) (x : World n Device) (k : ℕ) → RunsUser n g words mmu x k → (i : ℕ) → i < 192 → (op : Operation) → AsksFor words k op → (next board n mmu x).0.event ≡ Ran →
-    entry_at (next board n mmu x).1.memory.ram i ≡ after_reach i (reach_of n x.cpu op) (reached i x.cpu.control.pc false (entry_at x.memory.ram i))
+    (n : ℕ) (g : Pages) (words : List ℕ) (mmu : MmuRegs) (x : World n Device) (k : ℕ) → RunsUser n g words mmu x k →
+    (i : ℕ) → i < 192 → (op : Operation) → AsksFor words k op → (next board n mmu x).0.event ≡ Ran →
+    entry_at (next board n mmu x).1.memory.ram i ≡
+    after_reach i (reach_of n x.cpu op) (reached i x.cpu.control.pc false (entry_at x.memory.ram i))
 
 -- so many turns after it was called, the entries are those after the fetch of the call
 abbrev pub MarksTheCall : (n : ℕ) → MmuRegs → World n Device → ℕ → Type 0
@@ -39,4 +41,5 @@ MarksTheCall n mmu x turns = (i : ℕ) → i < 192 → entry_at (after board n m
 abbrev pub ServicesMark : Type 0
 ServicesMark =
     (n : ℕ) (g : Pages) (words : List ℕ) (mmu : MmuRegs) (x : World n Device) (k : ℕ) → RunsUser n g words mmu x k →
-    (Calls words k 0 → MarksTheCall n mmu x 3) × (MayReturn n x → Calls words k 1 → MarksTheCall n mmu x 5) × (MayReturn n x → Calls words k 2 → MarksTheCall n mmu x 5)
+    (Calls words k 0 → MarksTheCall n mmu x 3) × (MayReturn n x → Calls words k 1 → MarksTheCall n mmu x 5)
+    × (MayReturn n x → Calls words k 2 → MarksTheCall n mmu x 5)

@@ -1,6 +1,7 @@
 // The operations that sandboxed code may ask for.
 ghost use Rattle.std.specs.Prelude.{◌≡◌};
-ghost use Rattle.v8_meaning.specs.Admitted.{is_admitted, is_immediate, is_immediate_of, is_ret, is_retl, is_service_call};
+ghost use Rattle.v8_meaning.specs.Admitted.{is_admitted, is_immediate, is_immediate_of, is_ret, is_retl};
+ghost use Rattle.v8_meaning.specs.Admitted.{is_service_call};
 
 use crate::moved::splits_pair;
 use crate::operation::Operation;
@@ -23,14 +24,16 @@ fn is_immediate(operand: &Operand) -> bool
     matches!(operand, Operand::Immediate(_))
 }
 
-/// Whether a JMPL is `ret`, the return of a function with a window: `jmpl %i7+8,%g0` (appendix A, "Synthetic Instructions").
+/// Whether a JMPL is `ret`, the return of a function with a window: `jmpl %i7+8,%g0` (appendix A, "Synthetic
+/// Instructions").
 pub fn is_ret(fields: &Three) -> bool
     ensures { result ≡ is_ret fields.now }
 {
     fields.rd == Reg::G0 && fields.rs1 == Reg::I7 && is_immediate_of(8, &fields.operand2)
 }
 
-/// Whether a JMPL is `retl`, the return of a function without a window: `jmpl %o7+8,%g0` (appendix A, "Synthetic Instructions").
+/// Whether a JMPL is `retl`, the return of a function without a window: `jmpl %o7+8,%g0` (appendix A, "Synthetic
+/// Instructions").
 pub fn is_retl(fields: &Three) -> bool
     ensures { result ≡ is_retl fields.now }
 {
@@ -44,8 +47,9 @@ pub fn is_service_call(trap: &Trap) -> bool
     is_always(trap.cond) && trap.rs1 == Reg::G0 && is_immediate(&trap.operand2)
 }
 
-/// Whether sandboxed code may ask for the operation. Not admitted: privileged and alternate-space forms, FLUSH, STBAR, BN,
-/// conditional or computed traps, jumps other than `ret` and `retl`, double words of an odd register, and what only traps.
+/// Whether sandboxed code may ask for the operation. Not admitted: privileged and alternate-space forms, FLUSH, STBAR,
+/// BN, conditional or computed traps, jumps other than `ret` and `retl`, double words of an odd register, and what only
+/// traps.
 #[tactic(auto, unfolding(crate::specs::Admitted::is_admitted))]
 pub fn is_admitted(operation: &Operation) -> bool
     ensures { result ≡ is_admitted operation.now }

@@ -11,7 +11,8 @@ pub fn odd_of(rd: Reg) -> Reg
     Reg::new(rd.number() / 2 * 2 + 1).unwrap()
 }
 
-/// Whether eight bytes move and the register's number is odd, as it may not be (appendix B, "Load Integer Instructions").
+/// Whether eight bytes move and the register's number is odd, as it may not be (appendix B, "Load Integer
+/// Instructions").
 pub fn splits_pair(size: Size, rd: Reg) -> bool
     ensures { result ≡ splits_pair size rd }
 {

@@ -28,8 +28,8 @@ pub fn is_unknown(space: Space) -> bool
     }
 }
 
-/// Whether an identifier is that of a user's space: 8 and 9 are user and supervisor instruction, 10 and 11 user and supervisor
-/// data.
+/// Whether an identifier is that of a user's space: 8 and 9 are user and supervisor instruction, 10 and 11 user and
+/// supervisor data.
 pub fn is_user_space(asi: u8) -> bool
     ensures { result ≡ is_user_space asi }
 {

@@ -1,18 +1,21 @@
 // Addresses, targets and the decisions of control transfer, over the words that registers hold.
 ghost use Rattle.std.specs.Prelude.{◌≡◌, ℕ, ◌+◌, ◌*◌, ◌%◌, ◌^◌};
 ghost use Rattle.v8_formats.specs.Conditions.{holds};
-ghost use Rattle.v8_meaning.specs.Operands.{annuls, following, is_always, is_never, sum_address, software_trap_of, target};
+ghost use Rattle.v8_meaning.specs.Operands.{annuls, following, is_always, is_never, sum_address, software_trap_of};
+ghost use Rattle.v8_meaning.specs.Operands.{target};
 
 use v8_formats::{Branch, Cond, Icc, TrapType};
 
-/// The address of a load, a store or a jump: the sum of its two operands' words, modulo 2^32 (appendix B, "Load Integer Instructions").
+/// The address of a load, a store or a jump: the sum of its two operands' words, modulo 2^32 (appendix B, "Load Integer
+/// Instructions").
 pub fn address(first: u32, second: u32) -> u32
     ensures { result ≡ sum_address first second }
 {
     first.wrapping_add(second)
 }
 
-/// Where a CALL or a branch at `pc` goes. The displacement counts words and is signed, written as a word (appendix B, "Call and Link Instruction").
+/// Where a CALL or a branch at `pc` goes. The displacement counts words and is signed, written as a word (appendix B,
+/// "Call and Link Instruction").
 pub fn target(pc: u32, displacement: u32) -> u32
     ensures { result ≡ target pc displacement }
 {
@@ -54,7 +57,8 @@ pub fn annuls(branch: &Branch, icc: Icc) -> bool
     branch.annul && (is_always(branch.cond) || !is_taken(branch, icc))
 }
 
-/// The trap type of a taken Ticc, 128 to 255: the low seven bits of its operands' sum (appendix B, "Trap on Integer Condition Codes").
+/// The trap type of a taken Ticc, 128 to 255: the low seven bits of its operands' sum (appendix B, "Trap on Integer
+/// Condition Codes").
 pub fn software_trap(first: u32, second: u32) -> TrapType
     ensures { result ≡ software_trap_of first second }
 {

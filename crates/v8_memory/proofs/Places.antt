@@ -1,5 +1,6 @@
 -- RAM with words and bytes placed in it, one more at a time.
-use Rattle.std.proofs.Common.{◌≡◌, ℕ, zero, suc, ◌+◌, ◌-◌, ◌*◌, ◌%◌, ◌<◌, ◌≤◌, ◌^◌, ◌⊎◌, inl, inr, List, ◌++◌, take, drop, length, slice_index, slice_set, Some, IsSome, refl, sym, ap, ◌∙◌, subst, arith}
+use Rattle.std.proofs.Common.{◌≡◌, ℕ, zero, suc, ◌+◌, ◌-◌, ◌*◌, ◌%◌, ◌<◌, ◌≤◌, ◌^◌, ◌⊎◌, inl, inr, List, ◌++◌, take, drop, length, slice_index, slice_set, Some}
+use Rattle.std.proofs.Common.{IsSome, refl, sym, ap, ◌∙◌, subst, arith}
 use Rattle.std.specs.Int.{w32, to_be_bytes}
 use Rattle.std.proofs.lemmas.List.{get_or_append_left, get_or-append_right, get_or-take, get_or-drop, length-take-le, length-append, get_or-set_same, get_or-set_other, length-set}
 use Rattle.v8_mmu.specs.Ram.{entry_of, with_entry}
@@ -50,7 +51,8 @@ pub no_words : (at : ℕ) (words ram : List ℕ) → HasWords at words 0 ram ram
 no_words at words ram = record { size = refl; words_are = λ k none. absurd (omega arith); fit = λ p low high. absurd (omega arith); others = λ p apart. refl }
 
 -- one word more
-pub word_more : (at : ℕ) (words : List ℕ) (k w : ℕ) (old ram new : List ℕ) → HasWords at words k old ram → at % 4 ≡ 0 → at + 4 * (k + 1) ≤ length ram → w < 2 ^ 32 → w ≡ slice_index words k → new ≡ with_entry ram (at + 4 * k) w → HasWords at words (k + 1) old new
+pub word_more : (at : ℕ) (words : List ℕ) (k w : ℕ) (old ram new : List ℕ) → HasWords at words k old ram → at % 4 ≡ 0 → at + 4 * (k + 1) ≤ length ram →
+    w < 2 ^ 32 → w ≡ slice_index words k → new ≡ with_entry ram (at + 4 * k) w → HasWords at words (k + 1) old new
 word_more at words k w old ram new h whole fits small is made =
     let there : Within ram (at + 4 * k) = record { aligned = omega arith; fits = omega arith } in
     record {
@@ -79,7 +81,8 @@ pub no_bytes : (at : ℕ) (bytes ram : List ℕ) → HasBytesOf at bytes 0 ram r
 no_bytes at bytes ram = record { size = refl; bytes_are = λ k none. absurd (omega arith); fit = λ p low high. absurd (omega arith); others = λ p apart. refl }
 
 -- one byte more
-pub byte_more : (at : ℕ) (bytes : List ℕ) (k b : ℕ) (old ram new : List ℕ) → HasBytesOf at bytes k old ram → at + k < length ram → b < 256 → b ≡ slice_index bytes k → new ≡ slice_set ram (at + k) b → HasBytesOf at bytes (k + 1) old new
+pub byte_more : (at : ℕ) (bytes : List ℕ) (k b : ℕ) (old ram new : List ℕ) → HasBytesOf at bytes k old ram → at + k < length ram → b < 256 →
+    b ≡ slice_index bytes k → new ≡ slice_set ram (at + k) b → HasBytesOf at bytes (k + 1) old new
 byte_more at bytes k b old ram new h fits small is made =
     record {
       size = ap length made ∙ length-set ram (at + k) b ∙ h.size;

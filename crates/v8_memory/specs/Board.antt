@@ -1,5 +1,6 @@
 -- What the board's bus does: 1 MiB of RAM from physical address 0, and a device of four word registers at 100000000.
-use Rattle.std.specs.Prelude.{ℕ, ◌≡◌, ◌+◌, ◌-◌, ◌%◌, ◌^◌, ◌==◌, ◌&&◌, not, Bool, true, false, List, [], ◌∷◌, ◌++◌, length, slice_index, nat_lt, Option, Some, None, if◌then◌else◌}
+use Rattle.std.specs.Prelude.{ℕ, ◌≡◌, ◌+◌, ◌-◌, ◌%◌, ◌^◌, ◌==◌, ◌&&◌, not, Bool, true, false, List, [], ◌∷◌, ◌++◌}
+use Rattle.std.specs.Prelude.{length, slice_index, nat_lt, Option, Some, None, if◌then◌else◌}
 use Rattle.v8_mmu.specs.Size.{Size}
 use Rattle.v8_mmu.specs.Size.TheVariants as sizes
 use Rattle.v8_mmu.specs.declared.bus.Stop.{Stop}
@@ -80,11 +81,13 @@ with_ram ram (Some d) = Some (ram, d)
 with_ram ram None = None
 
 unfoldable pub board_load : List ℕ → Device → ℕ → Size → Option (ℕ × Device)
-board_load ram d pa size = if nat_lt pa device_base then beside d (number_at ram pa size) else device_load d (pa - device_base) size
+board_load ram d pa size =
+    if nat_lt pa device_base then beside d (number_at ram pa size) else device_load d (pa - device_base) size
 
 unfoldable pub board_store : List ℕ → Device → ℕ → Size → ℕ → Option (List ℕ × Device)
 board_store ram d pa size v =
-    if nat_lt pa device_base then overwritten ram d pa size v (number_at ram pa size) else with_ram ram (device_store d (pa - device_base) size v)
+    if nat_lt pa device_base then overwritten ram d pa size v (number_at ram pa size)
+    else with_ram ram (device_store d (pa - device_base) size v)
 
 -- an exchange is a load and then a store: the device has no register that answers both
 abbrev pub board_swap : List ℕ → Device → ℕ → Size → ℕ → Option (ℕ × List ℕ × Device)
@@ -96,4 +99,11 @@ board_asks d pa size false = is_word size && pa == device_base && not d.ended
 board_asks d pa size true = is_word size && pa == device_base + 4
 
 abbrev pub board : Meaning Device
-board = record { stopped = λ d. d.stopped; load = board_load; store = board_store; swap = board_swap; asks = board_asks }
+board = record {
+  stopped = λ d. d.stopped;
+  load = board_load;
+  store = board_store;
+  swap = board_swap;
+  asks =
+      board_asks;
+}

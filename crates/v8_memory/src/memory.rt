@@ -1,5 +1,6 @@
 //! RAM and the device, as a bus.
-ghost use Rattle.std.specs.Prelude.{◌≡◌, ℕ, ◌+◌, ◌*◌, ◌%◌, ◌-◌, ◌^◌, ◌<◌, ◌≤◌, ◌==◌, not, [], length, IfErr, IfOk, OnOk, OnErr, None, false, Option};
+ghost use Rattle.std.specs.Prelude.{◌≡◌, ℕ, ◌+◌, ◌*◌, ◌%◌, ◌-◌, ◌^◌, ◌<◌, ◌≤◌, ◌==◌, not, [], length, IfErr, IfOk};
+ghost use Rattle.std.specs.Prelude.{OnOk, OnErr, None, false, Option};
 ghost use Rattle.v8_mmu.specs.Answers.{Grows, IfPort, OnUnanswered, bus_failed_after, call_if, calls_of, failed_after};
 ghost use Rattle.v8_map.specs.declared.TheConstants.{RAM};
 ghost use Rattle.v8_memory.specs.Placing.{HasWords, HasBytesOf};
@@ -15,9 +16,10 @@ use v8_mmu::{Bus, BusFault, PortBus, PortFault, Size, Stop};
 /// What a load of the input register gives at the end of the input.
 const NO_BYTE: u64 = 0xFFFF_FFFF;
 
-/// RAM of 1 MiB from physical address 0, and from 100000000 (hexadecimal) on a device of four registers of a word: a load of the
-/// first gives the next byte of input, or FFFFFFFF at its end; a store to the second puts the word's low byte out, one to the third
-/// stops the machine with the word as its exit status, and one to the fourth stops it as trapped. Nothing else answers there.
+/// RAM of 1 MiB from physical address 0, and from 100000000 (hexadecimal) on a device of four registers of a word: a
+/// load of the first gives the next byte of input, or FFFFFFFF at its end; a store to the second puts the word's low
+/// byte out, one to the third stops the machine with the word as its exit status, and one to the fourth stops it as
+/// trapped. Nothing else answers there.
 #[derive(Drop)]
 pub struct Memory<P: Port> {
     ram: Ram,
@@ -27,7 +29,8 @@ pub struct Memory<P: Port> {
 }
 
 impl<P: Port> Memory<P> {
-    /// RAM of zeros and a device that has neither stopped nor met the end of its input. A refusal of memory drops the port.
+    /// RAM of zeros and a device that has neither stopped nor met the end of its input. A refusal of memory drops the
+    /// port.
     pub fn new(alloc: Global, port: P) -> Result<Self, AllocError>
         ensures ram { IfOk result (λ m. IsBlank m.ram) }
         ensures port { IfOk result (λ m. m.port ≡ port) }
@@ -98,7 +101,9 @@ impl<P: Port> Memory<P> {
     #[tactic(auto, unfolding(crate::specs::Board::gets))]
     fn get_word(&mut self) -> Result<u64, PortFault>
         ensures small { IfOk result (λ v. v < 2 ^ 32) }
-        ensures ok { IfOk result (λ v. gets (seen (P.input self.old.port) self.old.ended (P.output self.old.port) self.old.stopped) ≡ (v, seen (P.input self.new.port) self.new.ended (P.output self.new.port) self.new.stopped)) }
+        ensures ok { IfOk result
+            (λ v. gets (seen (P.input self.old.port) self.old.ended (P.output self.old.port) self.old.stopped) ≡
+            (v, seen (P.input self.new.port) self.new.ended (P.output self.new.port) self.new.stopped)) }
         ensures ram { self.new.ram ≡ self.old.ram }
         ensures ended { OnErr result (self.new.ended ≡ self.old.ended) }
         ensures stopped { self.new.stopped ≡ self.old.stopped }
@@ -125,8 +130,15 @@ impl<P: Port> Memory<P> {
     #[tactic(auto, unfolding(crate::specs::Board::device_store))]
     fn put_word(&mut self, place: u64, value: u64) -> Result<(), BusFault>
         requires { value < 2 ^ 32 }
-        ensures ok { OnOk result (device_store (seen (P.input self.old.port) self.old.ended (P.output self.old.port) self.old.stopped) place Size.Word value ≡ Some (seen (P.input self.new.port) self.new.ended (P.output self.new.port) self.new.stopped)) }
-        ensures refused { OnUnanswered result (device_store (seen (P.input self.old.port) self.old.ended (P.output self.old.port) self.old.stopped) place Size.Word value ≡ None) }
+        ensures ok { OnOk result
+            (device_store
+            (seen (P.input self.old.port) self.old.ended
+            (P.output self.old.port) self.old.stopped) place Size.Word value ≡
+            Some (seen (P.input self.new.port) self.new.ended (P.output self.new.port) self.new.stopped)) }
+        ensures refused { OnUnanswered result
+            (device_store
+            (seen (P.input self.old.port) self.old.ended
+            (P.output self.old.port) self.old.stopped) place Size.Word value ≡ None) }
         ensures ram { self.new.ram ≡ self.old.ram }
         ensures ended { self.new.ended ≡ self.old.ended }
         ensures stopped { OnErr result (self.new.stopped ≡ self.old.stopped) }

@@ -3,8 +3,8 @@ use v8_mmu::PortFault;
 
 /// A source of input bytes and a sink of output bytes.
 ///
-/// An implementor says which bytes it has yet to give, which it was given, how often it was called and has failed, and which
-/// fault it answered last.
+/// An implementor says which bytes it has yet to give, which it was given, how often it was called and has failed, and
+/// which fault it answered last.
 pub trait Port: Drop {
     ghost use Rattle.std.specs.Prelude.{◌≡◌, ℕ, List, [], ◌∷◌, ◌++◌, IfErr, IfOk, OnOk, OnErr};
     ghost use Rattle.v8_mmu.specs.Answers.{failed_after, one_more};
@@ -27,7 +27,8 @@ pub trait Port: Drop {
     /// The fault that it answered last, once it has failed.
     ghost fault: { Self → PortFault };
 
-    /// The next byte, or None at the end of the input. A fault leaves input and output as they were, and is counted; nothing else is.
+    /// The next byte, or None at the end of the input. A fault leaves input and output as they were, and is counted;
+    /// nothing else is.
     fn get(&mut self) -> Result<Option<u8>, PortFault>
         ensures byte { IfOk result (λ byte. next_byte (input self.old) ≡ (byte, input self.new)) }
         ensures input { OnErr result (input self.new ≡ input self.old) }

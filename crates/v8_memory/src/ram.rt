@@ -1,8 +1,11 @@
 //! RAM as a list of bytes.
-ghost use Rattle.std.specs.Prelude.{◌≡◌, ℕ, ◌+◌, ◌*◌, ◌%◌, ◌/◌, ◌^◌, ◌<◌, ◌≤◌, ◌==◌, ◌&&◌, ◌++◌, IfOk, IfSome, IsSome, IsTrue, ◌↔◌, List, None, true, false, length, nat_le, slice_index, slice_set, take, drop, vec_len, if◌then◌else◌};
+ghost use Rattle.std.specs.Prelude.{◌≡◌, ℕ, ◌+◌, ◌*◌, ◌%◌, ◌/◌, ◌^◌, ◌<◌, ◌≤◌, ◌==◌, ◌&&◌, ◌++◌, IfOk, IfSome, IsSome};
+ghost use Rattle.std.specs.Prelude.{IsTrue, ◌↔◌, List, None, true, false, length, nat_le, slice_index, slice_set, take};
+ghost use Rattle.std.specs.Prelude.{drop, vec_len, if◌then◌else◌};
 ghost use Rattle.std.specs.Int.{w16, w32, from_be_bytes, to_be_bytes};
 ghost use Rattle.v8_mmu.specs.Meaning.{limit_of};
-ghost use Rattle.v8_mmu.specs.Ram.{AreBytes, HasBytes, byte_of, double_of, entry_of, half_of, number_at, with_byte, with_double, with_entry, with_half, with_number};
+ghost use Rattle.v8_mmu.specs.Ram.{AreBytes, HasBytes, byte_of, double_of, entry_of, half_of, number_at, with_byte};
+ghost use Rattle.v8_mmu.specs.Ram.{with_double, with_entry, with_half, with_number};
 ghost use Rattle.v8_map.specs.declared.TheConstants.{RAM};
 ghost use Rattle.v8_memory.specs.Board.{IsBlank};
 ghost use Rattle.v8_memory.specs.Placing.{HasBytesOf, HasWords};

@@ -2,7 +2,8 @@
 use Rattle.std.proofs.Common.{◌≡◌, ℕ, ◌+◌, ◌-◌, ◌/◌, ◌%◌, ◌^◌, ◌<◌, ◌≤◌, ◌⊎◌, inl, inr, Bool, true, false, List, ◌++◌, length, take, drop, Option, Some, None, refl, sym, ap, ◌∙◌, arith}
 use Rattle.std.specs.Int.{w32, from_be_bytes, to_be_bytes}
 use Rattle.std.specs.Prelude.{◌==◌, ◌&&◌, nat_le, bit_or, slice_index, if◌then◌else◌}
-use Rattle.std.proofs.lemmas.List.{take-take, drop-take, take-append-le, drop-append-le, length-take-le, length-append, append_assoc, length-take, length-drop, get_or_append_left, get_or-append_right, get_or-take, get_or-drop}
+use Rattle.std.proofs.lemmas.List.{take-take, drop-take, take-append-le, drop-append-le, length-take-le, length-append, append_assoc, length-take, length-drop}
+use Rattle.std.proofs.lemmas.List.{get_or_append_left, get_or-append_right, get_or-take, get_or-drop}
 use Rattle.std.proofs.lemmas.Grind.{same_number_lists}
 use Rattle.std.proofs.lemmas.Slice.{drop-append-drop}
 use Rattle.std.proofs.lemmas.Nat.{or_shr, or_mod, or_comm}
@@ -68,7 +69,8 @@ pub entry_elsewhere : (ram : List ℕ) (at p w : ℕ) → Within ram at → (p +
 entry_elsewhere ram at p w there apart = word_stays ram (with_entry ram at w) p (length-with_entry ram at w there.fits) (four_of at p w ram there.fits apart)
 
 -- a word beside n bytes that were written
-pub entry_beside : (ram bs : List ℕ) (at n p : ℕ) → length bs ≡ n → at + n ≤ length ram → (p + 4 ≤ at) ⊎ (at + n ≤ p) → length (take at ram ++ bs ++ drop (at + n) ram) ≡ length ram → entry_of (take at ram ++ bs ++ drop (at + n) ram) p ≡ entry_of ram p
+pub entry_beside : (ram bs : List ℕ) (at n p : ℕ) → length bs ≡ n → at + n ≤ length ram → (p + 4 ≤ at) ⊎ (at + n ≤ p) →
+    length (take at ram ++ bs ++ drop (at + n) ram) ≡ length ram → entry_of (take at ram ++ bs ++ drop (at + n) ram) p ≡ entry_of ram p
 entry_beside ram bs at n p count there apart size = word_stays ram (take at ram ++ bs ++ drop (at + n) ram) p size (four_beside ram bs at n p count there apart)
 
 -- ---- bytes

@@ -151,15 +151,39 @@ entry_beside_double ram at v p there apart =
 pub stores : (ram : List ℕ) (at old v : ℕ) (width : Size) → number_at ram at width ≡ Some old → v < limit_of width → Stores ram at v width
 stores ram at old v Byte there small =
     let less = byte_is ram at old there in
-    record { read = byte_of-with_byte ram at v less; size = length-with_byte ram at v less; others = λ j apart. byte_beside_byte ram at v j less apart; words = λ p apart. entry_beside_byte ram at v p less apart }
+    record {
+      read = byte_of-with_byte ram at v less;
+      size = length-with_byte ram at v less;
+      others = λ j apart. byte_beside_byte ram at v j less apart;
+      words =
+          λ p apart. entry_beside_byte ram at v p less apart;
+    }
 stores ram at old v Half there small =
     let h = half_is ram at old there in
-    record { read = half_of-with_half ram at v h small; size = length-with_half ram at v h.fits; others = λ j apart. byte_beside_half ram at v j h.fits apart; words = λ p apart. entry_beside_half ram at v p h.fits apart }
+    record {
+      read = half_of-with_half ram at v h small;
+      size = length-with_half ram at v h.fits;
+      others =
+          λ j apart. byte_beside_half ram at v j h.fits apart;
+      words = λ p apart. entry_beside_half ram at v p h.fits apart;
+    }
 stores ram at old v Word there small =
     let h = (entry_is ram at old there).0 in
-    record { read = entry_of-with_entry ram at v h small; size = length-with_entry ram at v h.fits; others = λ j apart. byte_beside_entry ram at v j h.fits apart; words = λ p apart. entry_elsewhere ram at p v h apart }
+    record {
+      read = entry_of-with_entry ram at v h small;
+      size = length-with_entry ram at v h.fits;
+      others =
+          λ j apart. byte_beside_entry ram at v j h.fits apart;
+      words = λ p apart. entry_elsewhere ram at p v h apart;
+    }
 stores ram at old v Double there small =
     let h = double_is ram at old there in
     let low = h.low in
     let fits : at + 8 ≤ length ram = omega (arith, low.fits) in
-    record { read = double_of-with_double ram at v h small; size = length-with_double ram at v fits; others = λ j apart. byte_beside_double ram at v j fits apart; words = λ p apart. entry_beside_double ram at v p h apart }
+    record {
+      read = double_of-with_double ram at v h small;
+      size = length-with_double ram at v fits;
+      others =
+          λ j apart. byte_beside_double ram at v j fits apart;
+      words = λ p apart. entry_beside_double ram at v p h apart;
+    }

@@ -1,5 +1,6 @@
 -- Laws of paths, marks and RAM.
-use Rattle.std.specs.Prelude.{ℕ, ◌≡◌, ◌⊎◌, ◌<◌, ◌≤◌, ◌+◌, ◌/◌, ◌%◌, ◌^◌, Bool, List, length, slice_index, Some, if◌then◌else◌}
+use Rattle.std.specs.Prelude.{ℕ, ◌≡◌, ◌⊎◌, ◌<◌, ◌≤◌, ◌+◌, ◌/◌, ◌%◌, ◌^◌, Bool, List, length, slice_index, Some}
+use Rattle.std.specs.Prelude.{if◌then◌else◌}
 use Rattle.v8_word.specs.declared.Size.{Size}
 use Rattle.v8_mmu.specs.Meaning.{bytes_in, limit_of}
 use Rattle.v8_mmu.specs.Ram.{KeepsWords, entry_of, number_at, with_number}
@@ -24,7 +25,8 @@ NoEndOnPath = (ram : List ℕ) (root va ft level : ℕ) (f : Found) → LeadsTo 
 
 -- there is at most one path
 abbrev pub OnePath : Type 0
-OnePath = (ram : List ℕ) (root va : ℕ) (a : Access) (f g : Found) → Translates ram root va a f → Translates ram root va a g → SamePath f g
+OnePath = (ram : List ℕ) (root va : ℕ) (a : Access) (f g : Found) → Translates ram root va a f →
+    Translates ram root va a g → SamePath f g
 
 -- there is at most one fault
 abbrev pub OneFault : Type 0
@@ -56,4 +58,5 @@ pub record Stores (ram : List ℕ) (at v : ℕ) (width : Size) : Type 0 where
   pub words : KeepsWords ram (with_number ram at width v) at (bytes_in width)
 
 abbrev pub StoresOneNumber : Type 0
-StoresOneNumber = (ram : List ℕ) (at old v : ℕ) (width : Size) → number_at ram at width ≡ Some old → v < limit_of width → Stores ram at v width
+StoresOneNumber = (ram : List ℕ) (at old v : ℕ) (width : Size) → number_at ram at width ≡ Some old →
+    v < limit_of width → Stores ram at v width

@@ -13,8 +13,8 @@ pub record Meaning (D : Type 0) : Type 0 where
   pub load : List ℕ → D → ℕ → Size → Option (ℕ × D)
   -- RAM, device, place, size, value: the RAM and the device afterwards; None where nothing answers
   pub store : List ℕ → D → ℕ → Size → ℕ → Option (List ℕ × D)
-  -- RAM, device, place, size, value, of an exchange, which is one access: the value that was there, and the RAM and the device
-  -- afterwards; None where nothing answers
+  -- RAM, device, place, size, value, of an exchange, which is one access: the value that was there, and the RAM and the
+  -- device afterwards; None where nothing answers
   pub swap : List ℕ → D → ℕ → Size → ℕ → Option (ℕ × List ℕ × D)
   -- device, place, size, whether it is a store or an exchange: whether an access there may call the port
   pub asks : D → ℕ → Size → Bool → Bool
@@ -30,8 +30,9 @@ abbrev pub stored_after : {D : Type 0} → ℕ → Option (List ℕ × D) → Op
 stored_after old (Some new) = Some (old, new.0, new.1)
 stored_after old None = None
 
--- After a load at a place, a store there: the old value, and the RAM and the device afterwards. Nothing answers where either has no
--- answer. The exchange of a bus that takes it for a load and a store.
-abbrev pub exchanged_after : {D : Type 0} → (List ℕ → D → ℕ → Size → ℕ → Option (List ℕ × D)) → List ℕ → ℕ → Size → ℕ → Option (ℕ × D) → Option (ℕ × List ℕ × D)
+-- After a load at a place, a store there: the old value, and the RAM and the device afterwards. Nothing answers where
+-- either has no answer. The exchange of a bus that takes it for a load and a store.
+abbrev pub exchanged_after : {D : Type 0} → (List ℕ → D → ℕ → Size → ℕ → Option (List ℕ × D)) → List ℕ → ℕ → Size → ℕ →
+    Option (ℕ × D) → Option (ℕ × List ℕ × D)
 exchanged_after store ram at size value (Some loaded) = stored_after loaded.0 (store ram loaded.1 at size value)
 exchanged_after store ram at size value None = None

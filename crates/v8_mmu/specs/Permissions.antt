@@ -1,6 +1,7 @@
--- What the ACC field of a page's entry allows (appendix H, "access permissions"), and which fault it is where it doesn't: what an access may do at a page,
--- wherever that lies.
-use Rattle.std.specs.Prelude.{ℕ, ◌+◌, ◌/◌, ◌%◌, ◌==◌, ◌&&◌, Bool, true, false, nat_le, Option, Some, None, if◌then◌else◌}
+-- What the ACC field of a page's entry allows (appendix H, "access permissions"), and which fault it is where it
+-- doesn't: what an access may do at a page, wherever that lies.
+use Rattle.std.specs.Prelude.{ℕ, ◌+◌, ◌/◌, ◌%◌, ◌==◌, ◌&&◌, Bool, true, false, nat_le, Option, Some, None}
+use Rattle.std.specs.Prelude.{if◌then◌else◌}
 use Rattle.v8_mmu.specs.declared.access.AccessKind.{AccessKind}
 use Rattle.v8_mmu.specs.declared.access.AccessKind.TheVariants.{Load, Fetch, Store, StoreCode}
 use Rattle.v8_mmu.specs.declared.access.Access.{Access}
@@ -35,8 +36,8 @@ acc_of w = w / 4 % 8
 unfoldable pub allows : ℕ → Access → Bool
 allows w a = permits (rights_of (acc_of w) a.user) a.kind
 
--- The fault type of an access that a page's entry refuses, None where it allows it. 2: forbidden. 3: forbidden to users whatever
--- the access.
+-- The fault type of an access that a page's entry refuses, None where it allows it. 2: forbidden. 3: forbidden to users
+-- whatever the access.
 abbrev pub refusal_of : ℕ → Access → Option ℕ
 refusal_of w a = if allows w a then None else (if a.user && nat_le 6 (acc_of w) then Some 3 else Some 2)
 

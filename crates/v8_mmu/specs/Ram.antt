@@ -1,5 +1,6 @@
 -- RAM as a list of bytes, and the big-endian numbers in it.
-use Rattle.std.specs.Prelude.{ℕ, ◌≡◌, ◌⊎◌, ◌<◌, ◌≤◌, ◌+◌, ◌*◌, ◌/◌, ◌%◌, ◌^◌, ◌==◌, ◌&&◌, List, [], ◌∷◌, ◌++◌, length, slice_index, take, drop, nat_le, nat_lt, Option, Some, None, if◌then◌else◌}
+use Rattle.std.specs.Prelude.{ℕ, ◌≡◌, ◌⊎◌, ◌<◌, ◌≤◌, ◌+◌, ◌*◌, ◌/◌, ◌%◌, ◌^◌, ◌==◌, ◌&&◌, List, [], ◌∷◌, ◌++◌, length}
+use Rattle.std.specs.Prelude.{slice_index, take, drop, nat_le, nat_lt, Option, Some, None, if◌then◌else◌}
 use Rattle.std.specs.Int.{w16, w32, from_be_bytes, to_be_bytes}
 use Rattle.v8_word.specs.declared.Size.{Size}
 use Rattle.v8_word.specs.declared.Size.TheVariants.{Byte, Half, Word, Double}
@@ -65,4 +66,5 @@ AreBytes bs = (i : ℕ) → slice_index bs i < 256
 
 -- the four numbers from this place on are bytes
 abbrev pub HasBytes : List ℕ → ℕ → Type 0
-HasBytes ram at = (slice_index ram at < 256) × (slice_index ram (at + 1) < 256) × (slice_index ram (at + 2) < 256) × (slice_index ram (at + 3) < 256)
+HasBytes ram at = (slice_index ram at < 256) × (slice_index ram (at + 1) < 256) × (slice_index ram (at + 2) < 256)
+    × (slice_index ram (at + 3) < 256)

@@ -26,10 +26,10 @@ pub enum Stop {
 
 /// RAM and a device at physical addresses of 36 bits. Memory is big-endian.
 ///
-/// An implementor says what its RAM holds, what state its device is in, how often its port was called and has failed, which
-/// fault the port answered last, and, as its `meaning`, what loads, stores and exchanges do with RAM and device, and which of
-/// them may call the port. An access calls the port at most once, counts one failure where it answers the port's fault and none
-/// elsewhere, and writes no byte of RAM but those that it stores.
+/// An implementor says what its RAM holds, what state its device is in, how often its port was called and has failed,
+/// which fault the port answered last, and, as its `meaning`, what loads, stores and exchanges do with RAM and device,
+/// and which of them may call the port. An access calls the port at most once, counts one failure where it answers the
+/// port's fault and none elsewhere, and writes no byte of RAM but those that it stores.
 pub trait Bus {
     ghost use Rattle.v8_mmu.specs.Meaning.{Meaning, bytes_in, limit_of};
     ghost use Rattle.v8_mmu.specs.Ram.{entry_of, with_entry, HasBytes, KeepsWords};
@@ -75,37 +75,43 @@ pub trait Bus {
     /// The number in the bytes of this size at `pa`, most significant byte first.
     fn read(&mut self, pa: u64, size: Size) -> Result<u64, BusFault>
         ensures small { IfOk result (λ v. v < limit_of size) }
-        ensures ok { IfOk result (λ v. meaning.load (ram self.old) (device self.old) pa size ≡ Some (v, device self.new)) }
+        ensures ok { IfOk result
+            (λ v. meaning.load (ram self.old) (device self.old) pa size ≡ Some (v, device self.new)) }
         ensures refused { OnUnanswered result (meaning.load (ram self.old) (device self.old) pa size ≡ None) }
         ensures ram { ram self.new ≡ ram self.old }
         ensures device { OnErr result (device self.new ≡ device self.old) }
         ensures count { failed self.new ≡ bus_failed_after result (failed self.old) }
-        ensures calls { Grows (calls_of (meaning.asks (device self.old) pa size false) result) (calls self.old) (calls self.new) }
+        ensures calls { Grows (calls_of (meaning.asks (device self.old) pa size false) result) (calls self.old)
+            (calls self.new) }
         ensures own { IfPort result (λ f. fault self.new ≡ f) };
 
     /// Writes a number to the bytes of this size at `pa`.
     fn write(&mut self, pa: u64, size: Size, value: u64) -> Result<(), BusFault>
         requires { value < limit_of size }
-        ensures ok { OnOk result (meaning.store (ram self.old) (device self.old) pa size value ≡ Some (ram self.new, device self.new)) }
+        ensures ok { OnOk result
+            (meaning.store (ram self.old) (device self.old) pa size value ≡ Some (ram self.new, device self.new)) }
         ensures refused { OnUnanswered result (meaning.store (ram self.old) (device self.old) pa size value ≡ None) }
         ensures elsewhere { KeepsWords (ram self.old) (ram self.new) pa (bytes_in size) }
         ensures ram { OnErr result (ram self.new ≡ ram self.old) }
         ensures device { OnErr result (device self.new ≡ device self.old) }
         ensures count { failed self.new ≡ bus_failed_after result (failed self.old) }
-        ensures calls { Grows (calls_of (meaning.asks (device self.old) pa size true) result) (calls self.old) (calls self.new) }
+        ensures calls { Grows (calls_of (meaning.asks (device self.old) pa size true) result) (calls self.old)
+            (calls self.new) }
         ensures own { IfPort result (λ f. fault self.new ≡ f) };
 
     /// Writes a number to the bytes of this size at `pa` and gives the number that was there, as one access.
     fn swap(&mut self, pa: u64, size: Size, value: u64) -> Result<u64, BusFault>
         requires { value < limit_of size }
         ensures small { IfOk result (λ v. v < limit_of size) }
-        ensures ok { IfOk result (λ v. meaning.swap (ram self.old) (device self.old) pa size value ≡ Some (v, ram self.new, device self.new)) }
+        ensures ok { IfOk result (λ v. meaning.swap (ram self.old) (device self.old) pa size value ≡
+            Some (v, ram self.new, device self.new)) }
         ensures refused { OnUnanswered result (meaning.swap (ram self.old) (device self.old) pa size value ≡ None) }
         ensures elsewhere { KeepsWords (ram self.old) (ram self.new) pa (bytes_in size) }
         ensures ram { OnErr result (ram self.new ≡ ram self.old) }
         ensures device { OnErr result (device self.new ≡ device self.old) }
         ensures count { failed self.new ≡ bus_failed_after result (failed self.old) }
-        ensures calls { Grows (calls_of (meaning.asks (device self.old) pa size true) result) (calls self.old) (calls self.new) }
+        ensures calls { Grows (calls_of (meaning.asks (device self.old) pa size true) result) (calls self.old)
+            (calls self.new) }
         ensures own { IfPort result (λ f. fault self.new ≡ f) };
 
     /// What stopped the machine, once something has.

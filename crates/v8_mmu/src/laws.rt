@@ -1,5 +1,6 @@
 // What holds of every walk, every mark and every store, whatever RAM holds.
-ghost use Rattle.v8_mmu.specs.Laws.{OnePage, NoEndOnPath, OnePath, OneFault, NoFaultOnPath, MarksTwoBits, StoresOneNumber};
+ghost use Rattle.v8_mmu.specs.Laws.{OnePage, NoEndOnPath, OnePath, OneFault, NoFaultOnPath, MarksTwoBits};
+ghost use Rattle.v8_mmu.specs.Laws.{StoresOneNumber};
 
 /// What an address leads to is one page by one path, or the end of a path, and not both, whatever the access.
 pub fn addresses_lead_one_way()

@@ -20,10 +20,12 @@ use Rattle.v8_loaded.specs.Handlers.{trap_word, handler_word, page_word}
 use Rattle.v8_loaded.specs.Layout.{Pages, IsLoaded}
 use Rattle.v8_loaded.specs.Board.{Device}
 use Rattle.v8_loaded.specs.Areas.{HasRoom, area_of}
-use Rattle.v8_loaded.proofs.Words.{Asks, at_stack, reads_mask, goes_underflow, shifts_mask_left, shifts_right, joins_local, writes_mask_local, nothing, restores, loads_0, loads_1, loads_2, loads_3, loads_4, loads_5, loads_6, loads_7, saves, jumps, returns}
+use Rattle.v8_loaded.proofs.Words.{Asks, at_stack, reads_mask, goes_underflow, shifts_mask_left, shifts_right, joins_local, writes_mask_local, nothing}
+use Rattle.v8_loaded.proofs.Words.{restores, loads_0, loads_1, loads_2, loads_3, loads_4, loads_5, loads_6, loads_7, saves, jumps, returns}
 use Rattle.v8_loaded.proofs.Windows.{above_below, below_above, below_within, above_within, above_differs, two_above_differs, three_above_differs, not_masked}
 use Rattle.v8_loaded.proofs.Stages.{Inside, stage, finished, pair_written, pair_written_ins, written_pair}
-use Rattle.v8_loaded.proofs.Effects.{Does, reads_mask_does, goes_does, shifts_mask_left_does, shifts_right_does, joins_local_does, writes_mask_local_does, nothing_does, restores_does, saves_does, jumps_does, returns_does, address_of_local}
+use Rattle.v8_loaded.proofs.Effects.{Does, reads_mask_does, goes_does, shifts_mask_left_does, shifts_right_does, joins_local_does, writes_mask_local_does}
+use Rattle.v8_loaded.proofs.Effects.{nothing_does, restores_does, saves_does, jumps_does, returns_does, address_of_local}
 use Rattle.v8_loaded.proofs.Turns.{Setting, Comes, filling, starts, table, handler}
 use Rattle.v8_loaded.proofs.Stack.{in_load, on_stack, stack_address}
 use Rattle.v8_refill.proofs.Cells.{Loading, refilled, home, spot, home_high, spot_low, kept_word, are_rows}

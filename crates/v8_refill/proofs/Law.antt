@@ -201,7 +201,8 @@ module _ (n : ℕ) (g : Pages) (words : List ℕ) (mmu : MmuRegs) (x : World n D
           mask = mask_within n b file.few file.many (above_within n u file.few file.many u_within);
           globals = file.globals;
           rows = with_row n last_rows w last_row (are_rows n rows u b saved 16 loads (omega arith)) w_within (long n row (2 ^ u) sixteen)
-              (λ j. let many = file.many in let less = u_within in fit n row (2 ^ u) j sixteen (mask_word u (omega arith)) (first_row_fits n x.cpu old_sixteen pc_fits o.user.npc_word (file.rows.fit w)));
+              (λ j. let many = file.many in let less = u_within in
+              fit n row (2 ^ u) j sixteen (mask_word u (omega arith)) (first_row_fits n x.cpu old_sixteen pc_fits o.user.npc_word (file.rows.fit w)));
         };
         control = finished_control x.cpu.control 6 x.cpu.control.pc x.cpu.control.npc refl refl o.user.straight o.user.sane o.user.traps;
       }

@@ -92,6 +92,8 @@ fit n row mask j sixteen small each =
     let size_4 = long_4 n row mask sixteen in
     let fit_1 : (i : ℕ) → slice_index (row_1 row mask) i < 2 ^ 32 = fit_written row 11 mask each (omega arith) small in
     let fit_3 : (i : ℕ) → slice_index (row_3 row mask) i < 2 ^ 32 = fit_written (row_1 row mask) 12 (shifted_left (slice_index (row_1 row mask) 11) 1) fit_1 (omega (arith, size)) (omega arith) in
-    let fit_4 : (i : ℕ) → slice_index (row_4 n row mask) i < 2 ^ 32 = fit_written (row_3 row mask) 13 (shifted_right (slice_index (row_3 row mask) 11) (n - 1)) fit_3 (omega (arith, size_3)) (shifted_fits (slice_index (row_3 row mask) 11) (n - 1) (fit_3 11)) in
+    let fit_4 : (i : ℕ) → slice_index (row_4 n row mask) i < 2 ^ 32 =
+    fit_written (row_3 row mask) 13 (shifted_right (slice_index (row_3 row mask) 11) (n - 1)) fit_3 (omega (arith, size_3))
+    (shifted_fits (slice_index (row_3 row mask) 11) (n - 1) (fit_3 11)) in
     fit_written (row_4 n row mask) 12 (bit_or (slice_index (row_4 n row mask) 13) (slice_index (row_4 n row mask) 12)) fit_4 (omega (arith, size_4))
     (or_lt 32 (slice_index (row_4 n row mask) 13) (slice_index (row_4 n row mask) 12) (fit_4 13) (fit_4 12)) j

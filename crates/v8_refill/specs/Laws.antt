@@ -35,8 +35,8 @@ pub record Underflows (n : ℕ) (g : Pages) (words : List ℕ) (mmu : MmuRegs) (
 
 -- ---- afterwards
 
--- WIM's bit is that of the window above the loaded one. Of the registers only the loaded ones and the locals of the entered window
--- differ, of the state registers only PS and tt.
+-- WIM's bit is that of the window above the loaded one. Of the registers only the loaded ones and the locals of the
+-- entered window differ, of the state registers only PS and tt.
 pub record Refills (n : ℕ) (old new : Cpu n) : Type 0 where
   pub mask : new.regs.mask ≡ 2 ^ next_window n old
   pub current : new.regs.current ≡ old.regs.current
@@ -47,8 +47,8 @@ pub record Refills (n : ℕ) (old new : Cpu n) : Type 0 where
   pub file : IsFile n new.regs
   pub control : new.control ≡ record old.control { ps = old.control.s; tt = 6 }
 
--- The window has the words of the 64 bytes at its %sp, and no byte above the tables differs. The tables, R and M aside, the trap table,
--- the handlers and the code are as loaded; the device is as it was.
+-- The window has the words of the 64 bytes at its %sp, and no byte above the tables differs. The tables, R and M aside,
+-- the trap table, the handlers and the code are as loaded; the device is as it was.
 pub record Refilled (n : ℕ) (g : Pages) (words : List ℕ) (old new : World n Device) (i : ℕ) : Type 0 where
   pub cpu : Refills n old.cpu new.cpu
   pub window : IsFrame new.cpu.regs (refilled_window n old.cpu) (next_window n old.cpu) (area_of (stack_pointer n old.cpu)) old.memory.ram

@@ -37,8 +37,13 @@ glyph_in : (n : ℕ) → digit_value (digit_glyph true (n % 16)) < 16
 glyph_in n = ltb-true (digit_value (digit_glyph true (n % 16))) 16 (at_below (λ d. is_hexadecimal (digit_glyph true d) ≡ true) 16 (n % 16) glyphs (omega arith))
 
 all_digits : (w : ℕ) → AllDigits 16 (hexadecimal w)
-all_digits w =
-    (glyph_in (w / 0x10000000), (glyph_in (w / 0x1000000), (glyph_in (w / 0x100000), (glyph_in (w / 0x10000), (glyph_in (w / 0x1000), (glyph_in (w / 0x100), (glyph_in (w / 0x10), (glyph_in w, tt))))))))
+all_digits w = (
+  glyph_in (w / 0x10000000),
+  (
+    glyph_in (w / 0x1000000),
+    (glyph_in (w / 0x100000), (glyph_in (w / 0x10000), (glyph_in (w / 0x1000), (glyph_in (w / 0x100), (glyph_in (w / 0x10), (glyph_in w, tt)))))),
+  ),
+)
 
 all_hexadecimal : (ds : List ℕ) → AllDigits 16 ds → all is_hexadecimal ds ≡ true
 all_hexadecimal [] h = refl
@@ -70,7 +75,8 @@ number_heard w =
     let lt : digits_value 16 (hexadecimal w) < 16 ^ 8 = digits_value-lt 16 (hexadecimal w) (all_digits w) in
     let small : digits_value 16 (hexadecimal w) < 2 ^ 40 = omega arith in
     closed (48 ∷ 120 ∷ hexadecimal w)
-    (tokened (kinds.Number (digits_value 16 (hexadecimal w))) (48 ∷ 120 ∷ hexadecimal w) (λ _. words.Number (digits_value 16 (hexadecimal w))) (hexadecimal_front (hexadecimal w) (omega arith) (all_digits w) small) (omega arith) (omega arith) (λ _. refl) ended)
+    (tokened (kinds.Number (digits_value 16 (hexadecimal w))) (48 ∷ 120 ∷ hexadecimal w) (λ _. words.Number (digits_value 16 (hexadecimal w)))
+    (hexadecimal_front (hexadecimal w) (omega arith) (all_digits w) small) (omega arith) (omega arith) (λ _. refl) ended)
 
 unknown : (values : List ℕ → Option ℕ) (here : ℕ) (line : List ℕ) (ws : List Word) → named_meaning values here line (codes ".word") ws ≡ Err UnknownMnemonic
 unfolding named_meaning natives synthetics
@@ -80,7 +86,9 @@ bare_word : (w : ℕ) → IsNotRead (codes ".word" ++ behind w)
 unfolding word_of
 bare_word w =
     let h = spaced (number_heard w) in
-    let scanned = token_scanned kinds.Name (codes ".word") (behind w) h.marks (name_front (codes ".word") (behind w) refl (refl, refl)) (omega arith) h.scanned (length (codes ".word" ++ behind w)) 0 (omega arith) in (
+    let scanned =
+    token_scanned kinds.Name (codes ".word") (behind w) h.marks (name_front (codes ".word") (behind w) refl (refl, refl)) (omega arith) h.scanned
+    (length (codes ".word" ++ behind w)) 0 (omega arith) in (
       record { kind = kinds.Name; start = 0; stop = 0 + 5 } ∷ h.marks (0 + 5),
       scanned,
       λ values here.

@@ -107,7 +107,28 @@ abbrev IsFigure : ℕ → Type 0
 IsFigure b = (eqb b 33 ≡ false) × (is_blank b ≡ false) × (starts_name b ≡ false) × (eqb b 37 ≡ false) × (is_digit b 10 ≡ true) × (eqb b 120 ≡ false)
 
 figures : Below (λ d. IsFigure (48 + d)) 10
-figures = (((((((((((tt, (refl, refl, refl, refl, refl, refl)), (refl, refl, refl, refl, refl, refl)), (refl, refl, refl, refl, refl, refl)), (refl, refl, refl, refl, refl, refl)), (refl, refl, refl, refl, refl, refl)), (refl, refl, refl, refl, refl, refl)), (refl, refl, refl, refl, refl, refl)), (refl, refl, refl, refl, refl, refl)), (refl, refl, refl, refl, refl, refl)), (refl, refl, refl, refl, refl, refl)))
+figures = ((
+  (
+    (
+      (
+        (
+          (
+            (
+              (((tt, (refl, refl, refl, refl, refl, refl)), (refl, refl, refl, refl, refl, refl)), (refl, refl, refl, refl, refl, refl)),
+              (refl, refl, refl, refl, refl, refl),
+            ),
+            (refl, refl, refl, refl, refl, refl),
+          ),
+          (refl, refl, refl, refl, refl, refl),
+        ),
+        (refl, refl, refl, refl, refl, refl),
+      ),
+      (refl, refl, refl, refl, refl, refl),
+    ),
+    (refl, refl, refl, refl, refl, refl),
+  ),
+  (refl, refl, refl, refl, refl, refl),
+))
 
 figure : (b : ℕ) → digit_value b < 10 → IsFigure b
 figure b h =

@@ -138,14 +138,16 @@ load_elsewhere_has : {name : List ℕ} (C : Alternate → Instr) (n b : ℕ) →
     → ((f : Alternate) → spelling (C f) ≡ spell_alternate b f) → ((f : Alternate) → HasSyntax (C f) → IsPair f.place) → Has (λ w. C (alternate w))
 load_elsewhere_has {name} C n b at s pair u small e h =
     elsewhere_by _ name n b u (rd u) (rs1 u) (eqb (bits_of u 13 1) 1) at (sym (s (alternate u)) ∙ e) (pair (alternate u) h)
-    (λ sum. let x : ℕ = bits_of u 5 8 in let y : ℕ = bits_of u 0 5 in let d : ℕ = rd u in let r : ℕ = rs1 u in let same : 3 * 2 ^ 30 + d * 2 ^ 25 + b * 2 ^ 19 + r * 2 ^ 14 + (x * 2 ^ 5 + y) ≡ u = sum in
+    (λ sum. let x : ℕ = bits_of u 5 8 in let y : ℕ = bits_of u 0 5 in let d : ℕ = rd u in let r : ℕ = rs1 u in
+    let same : 3 * 2 ^ 30 + d * 2 ^ 25 + b * 2 ^ 19 + r * 2 ^ 14 + (x * 2 ^ 5 + y) ≡ u = sum in
     let is : plus (r * 2 ^ 14 + x * 2 ^ 5 + y) (plus (d * 2 ^ 25) 0) ≡ d * 2 ^ 25 + r * 2 ^ 14 + x * 2 ^ 5 + y = omega arith in is) small
 
 store_elsewhere_has : {name : List ℕ} (C : Alternate → Instr) (n b : ℕ) → nth natives n ≡ Some (plain_form name (parts.Register fields.Rd ∷ parts.Elsewhere ∷ []) (3 * 2 ^ 30 + b * 2 ^ 19))
     → ((f : Alternate) → spelling (C f) ≡ spell_alternate b f) → ((f : Alternate) → HasSyntax (C f) → IsPair f.place) → Has (λ w. C (alternate w))
 store_elsewhere_has {name} C n b at s pair u small e h =
     elsewhere_by _ name n b u (rd u) (rs1 u) (eqb (bits_of u 13 1) 1) at (sym (s (alternate u)) ∙ e) (pair (alternate u) h)
-    (λ sum. let x : ℕ = bits_of u 5 8 in let y : ℕ = bits_of u 0 5 in let d : ℕ = rd u in let r : ℕ = rs1 u in let same : 3 * 2 ^ 30 + d * 2 ^ 25 + b * 2 ^ 19 + r * 2 ^ 14 + (x * 2 ^ 5 + y) ≡ u = sum in
+    (λ sum. let x : ℕ = bits_of u 5 8 in let y : ℕ = bits_of u 0 5 in let d : ℕ = rd u in let r : ℕ = rs1 u in
+    let same : 3 * 2 ^ 30 + d * 2 ^ 25 + b * 2 ^ 19 + r * 2 ^ 14 + (x * 2 ^ 5 + y) ≡ u = sum in
     let is : plus (d * 2 ^ 25) (plus (r * 2 ^ 14 + x * 2 ^ 5 + y) 0) ≡ d * 2 ^ 25 + r * 2 ^ 14 + x * 2 ^ 5 + y = omega arith in is) small
 
 -- ---- state registers

@@ -99,7 +99,8 @@ token_said kind text bytes word marks words is h line pre at e p =
     = like_word line at (at + length text) kind ∙ ap (λ t. word_like t at (at + length text) kind) (between line pre text bytes at e p) ∙ is at in
     ap₂ (λ w ws. w ∷ ws) here (h line (pre ++ text) (at + length text) (e ∙ sym (append_assoc pre text bytes)) place)
 
-pub tokened : {count : ℕ} {bytes : List ℕ} {words : ℕ → List Word} (kind : Kind) (text : List ℕ) (word : ℕ → Word) → front (text ++ bytes) ≡ Emit kind (length text) → 0 < length text → length text ≤ 16
+pub tokened : {count : ℕ} {bytes : List ℕ} {words : ℕ → List Word} (kind : Kind) (text : List ℕ) (word : ℕ → Word) →
+    front (text ++ bytes) ≡ Emit kind (length text) → 0 < length text → length text ≤ 16
     → ((at : ℕ) → word_like text at (at + length text) kind ≡ word at) → Heard count bytes words → Heard (suc count) (text ++ bytes) (λ at. word at ∷ words (at + length text))
 tokened {count} {bytes} {words} kind text word f some small is h = record {
   marks = λ at. record { kind = kind; start = at; stop = at + length text } ∷ h.marks (at + length text);

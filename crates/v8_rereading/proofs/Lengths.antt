@@ -17,7 +17,9 @@ use Rattle.v8_syntax.specs.declared.expression.Base.{Base}
 use Rattle.v8_syntax.specs.declared.expression.Base.TheVariants as bases
 use Rattle.v8_syntax.specs.declared.expression.Expression.{Expression}
 use Rattle.v8_forms.specs.Forms.{forms, least, greatest}
-use Rattle.v8_syntax.specs.Statements.{bytes_between, words_of, ◌>>=◌, end, after, plain, less, moved, number_first, register_first, named_expression, expression, word_in, in_range, of_bits, offset_of, set, set_operands, set_instructions, is_symbolic, first_of, named_meaning, count_of, name_first}
+use Rattle.v8_syntax.specs.Statements.{bytes_between, words_of, ◌>>=◌, end, after, plain, less, moved, number_first, register_first, named_expression}
+use Rattle.v8_syntax.specs.Statements.{expression, word_in, in_range, of_bits, offset_of, set, set_operands, set_instructions, is_symbolic, first_of}
+use Rattle.v8_syntax.specs.Statements.{named_meaning, count_of, name_first}
 use Rattle.v8_rereading.specs.Laws.{CountsInstructions, IsNoStatement}
 
 -- ---- the operands of `set`, without what their names are worth
@@ -148,7 +150,9 @@ module _ (values : List ℕ → Option ℕ) (here : ℕ) (line : List ℕ) where
       subst (λ o. Counts (set values line ws) (count_of (set_of o))) (sym (set_bare values line ws)) (set_counts (set_operands values line ws))
   name_counts false name ws = one_counts (first_of values here line UnknownMnemonic forms name ws)
 
-  words_count : (ws : List Word) → Counts (option_map_or (λ x. named_meaning values here line x.0 x.1) (name_first line ws) (Err UnknownMnemonic)) (option_map_or (λ x. cond (bytes_eq x.0 (codes "set")) (count_of (set (λ _. None) line x.1)) 1) (name_first line ws) 1)
+  words_count : (ws : List Word) →
+      Counts (option_map_or (λ x. named_meaning values here line x.0 x.1) (name_first line ws) (Err UnknownMnemonic))
+      (option_map_or (λ x. cond (bytes_eq x.0 (codes "set")) (count_of (set (λ _. None) line x.1)) 1) (name_first line ws) 1)
   unfolding named_meaning
   words_count (words.Name kind i j ∷ ws) = name_counts (bytes_eq (bytes_between line i j) (codes "set")) (bytes_between line i j) ws
   words_count _ = λ _. refl

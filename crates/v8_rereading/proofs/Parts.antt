@@ -1,5 +1,6 @@
 -- The text of each operand is read as what the operand fills in the word.
-use Rattle.std.proofs.Common.{◌≡◌, ℕ, ◌+◌, ◌*◌, ◌/◌, ◌%◌, ◌^◌, ◌<◌, ◌≤◌, Bool, true, false, cond, List, [], ◌∷◌, ◌++◌, length, refl, sym, ap, subst, ◌∙◌, arith, ltb, leb, Some, Option, None, Ok, Result}
+use Rattle.std.proofs.Common.{◌≡◌, ℕ, ◌+◌, ◌*◌, ◌/◌, ◌%◌, ◌^◌, ◌<◌, ◌≤◌, Bool, true, false, cond, List, [], ◌∷◌, ◌++◌, length, refl, sym, ap, subst, ◌∙◌, arith}
+use Rattle.std.proofs.Common.{ltb, leb, Some, Option, None, Ok, Result}
 use Rattle.std.specs.Prelude.{codes}
 use Rattle.std.specs.Fmt.{decimal}
 use Rattle.std.specs.Option.{option_map, option_and_then}
@@ -19,12 +20,14 @@ use Rattle.v8_syntax.specs.declared.word.Word.{Word}
 use Rattle.v8_syntax.specs.declared.word.Word.TheVariants as words
 use Rattle.v8_syntax.specs.declared.word.NameKind.TheVariants as names
 use Rattle.v8_forms.specs.Forms.{plus, width}
-use Rattle.v8_forms.specs.Text.{annul_bit, annuls, behind_text, elsewhere_bits, far, lead_text, near, number_in, operand_in, operands_text, part_text, register_in, special_in, target_text, memory_text, value, values}
+use Rattle.v8_forms.specs.Text.{annul_bit, annuls, behind_text, elsewhere_bits, far, lead_text, near, number_in, operand_in, operands_text, part_text}
+use Rattle.v8_forms.specs.Text.{register_in, special_in, target_text, memory_text, value, values}
 use Rattle.v8_syntax.specs.Statements.{bytes_between, ◌>>=◌, added, after, behind, distance, expression, gives, operands_of, offset_of, reached, read, target}
 use Rattle.v8_rereading.proofs.Bytes.{Stops}
 use Rattle.v8_rereading.proofs.Hearing.{Heard, ended, spaced, regrouped3}
 use Rattle.v8_rereading.proofs.Pieces.{operand_words, added_words, offset_words, comma, annulling, numbered, registered, state_register, operand_heard, address_heard, memory_heard, target_heard}
-use Rattle.v8_rereading.proofs.Reading.{In, IsSigned, address_read, bytes_away, far_in, in_word, is_part, is_unsigned, near_in, number_inside, operand_inside, second_read, target_read, target_value, unsigned_worth}
+use Rattle.v8_rereading.proofs.Reading.{In, IsSigned, address_read, bytes_away, far_in, in_word, is_part, is_unsigned, near_in, number_inside, operand_inside}
+use Rattle.v8_rereading.proofs.Reading.{second_read, target_read, target_value, unsigned_worth}
 
 -- ---- operands whose words are the same at each place
 
@@ -221,7 +224,8 @@ module _ (values_of : List ℕ → Option ℕ) (here : ℕ) (line : List ℕ) wh
       → target values_of here line (4 * reach) annul (target_words d i j) ≡ Some (Ok (annul_bit annul + d % (4 * reach / 2)), [])
   unfolding target
   target_filled reach d i j annul small h same =
-      ap (option_map (λ e. (distance here e.0.base (offset_of e.0) >>= reached (4 * reach) >>= λ n. Ok (annul_bit annul + n % (4 * reach / 2)), e.1))) (target_read values_of line i j (ltb (bytes_away d) (2 ^ 31)) (bytes_away d))
+      ap (option_map (λ e. (distance here e.0.base (offset_of e.0) >>= reached (4 * reach) >>= λ n. Ok (annul_bit annul + n % (4 * reach / 2)), e.1)))
+      (target_read values_of line i j (ltb (bytes_away d) (2 ^ 31)) (bytes_away d))
       ∙ ap (λ r. Some (r >>= λ n. Ok (annul_bit annul + n % (4 * reach / 2)), [])) (target_value reach here d (values_of (bytes_between line i j)) small h)
       ∙ ap (λ n. Some (Ok (annul_bit annul + n), [])) same
 

@@ -58,7 +58,91 @@ IsNamed r =
     × (percent_word (drop 1 (register_text r)) ≡ words.Register r) × (leb (length (register_text r)) 16 ≡ true)
 
 thirty_two : Below IsNamed 32
-thirty_two = ((((((((((((((((((((((((((((((((tt, (refl, refl, refl, refl)), (refl, refl, refl, refl)), (refl, refl, refl, refl)), (refl, refl, refl, refl)), (refl, refl, refl, refl)), (refl, refl, refl, refl)), (refl, refl, refl, refl)), (refl, refl, refl, refl)), (refl, refl, refl, refl)), (refl, refl, refl, refl)), (refl, refl, refl, refl)), (refl, refl, refl, refl)), (refl, refl, refl, refl)), (refl, refl, refl, refl)), (refl, refl, refl, refl)), (refl, refl, refl, refl)), (refl, refl, refl, refl)), (refl, refl, refl, refl)), (refl, refl, refl, refl)), (refl, refl, refl, refl)), (refl, refl, refl, refl)), (refl, refl, refl, refl)), (refl, refl, refl, refl)), (refl, refl, refl, refl)), (refl, refl, refl, refl)), (refl, refl, refl, refl)), (refl, refl, refl, refl)), (refl, refl, refl, refl)), (refl, refl, refl, refl)), (refl, refl, refl, refl)), (refl, refl, refl, refl)), (refl, refl, refl, refl))
+thirty_two = (
+  (
+    (
+      (
+        (
+          (
+            (
+              (
+                (
+                  (
+                    (
+                      (
+                        (
+                          (
+                            (
+                              (
+                                (
+                                  (
+                                    (
+                                      (
+                                        (
+                                          (
+                                            (
+                                              (
+                                                (
+                                                  (
+                                                    (
+                                                      (
+                                                        ((((tt, (refl, refl, refl, refl)), (refl, refl, refl, refl)), (refl, refl, refl, refl)), (refl, refl, refl, refl)),
+                                                        (refl, refl, refl, refl),
+                                                      ),
+                                                      (refl, refl, refl, refl),
+                                                    ),
+                                                    (refl, refl, refl, refl),
+                                                  ),
+                                                  (refl, refl, refl, refl),
+                                                ),
+                                                (refl, refl, refl, refl),
+                                              ),
+                                              (refl, refl, refl, refl),
+                                            ),
+                                            (refl, refl, refl, refl),
+                                          ),
+                                          (refl, refl, refl, refl),
+                                        ),
+                                        (refl, refl, refl, refl),
+                                      ),
+                                      (refl, refl, refl, refl),
+                                    ),
+                                    (refl, refl, refl, refl),
+                                  ),
+                                  (refl, refl, refl, refl),
+                                ),
+                                (refl, refl, refl, refl),
+                              ),
+                              (refl, refl, refl, refl),
+                            ),
+                            (refl, refl, refl, refl),
+                          ),
+                          (refl, refl, refl, refl),
+                        ),
+                        (refl, refl, refl, refl),
+                      ),
+                      (refl, refl, refl, refl),
+                    ),
+                    (refl, refl, refl, refl),
+                  ),
+                  (refl, refl, refl, refl),
+                ),
+                (refl, refl, refl, refl),
+              ),
+              (refl, refl, refl, refl),
+            ),
+            (refl, refl, refl, refl),
+          ),
+          (refl, refl, refl, refl),
+        ),
+        (refl, refl, refl, refl),
+      ),
+      (refl, refl, refl, refl),
+    ),
+    (refl, refl, refl, refl),
+  ),
+  (refl, refl, refl, refl),
+)
 
 pub registered : {count : ℕ} {bytes : List ℕ} {said : ℕ → List Word} (r : ℕ) → r < 32 → Stops bytes → Heard count bytes said
     → Heard (suc count) (register_text r ++ bytes) (λ at. words.Register r ∷ said (at + length (register_text r)))
@@ -72,9 +156,12 @@ registered {count} {bytes} {said} r small s h =
 pub state_register : {count : ℕ} {bytes : List ℕ} {said : ℕ → List Word} (s : Special) → Stops bytes → Heard count bytes said
     → Heard (suc count) (special_text s ++ bytes) (λ at. words.Special s ∷ said (at + length (special_text s)))
 state_register {bytes = bytes} specials.Y k h = tokened kinds.Percent (codes "%y") (λ _. words.Special specials.Y) (percent_front (codes "y") bytes refl k) (omega arith) (omega arith) (λ _. refl) h
-state_register {bytes = bytes} specials.Psr k h = tokened kinds.Percent (codes "%psr") (λ _. words.Special specials.Psr) (percent_front (codes "psr") bytes refl k) (omega arith) (omega arith) (λ _. refl) h
-state_register {bytes = bytes} specials.Wim k h = tokened kinds.Percent (codes "%wim") (λ _. words.Special specials.Wim) (percent_front (codes "wim") bytes refl k) (omega arith) (omega arith) (λ _. refl) h
-state_register {bytes = bytes} specials.Tbr k h = tokened kinds.Percent (codes "%tbr") (λ _. words.Special specials.Tbr) (percent_front (codes "tbr") bytes refl k) (omega arith) (omega arith) (λ _. refl) h
+state_register {bytes = bytes} specials.Psr k h =
+    tokened kinds.Percent (codes "%psr") (λ _. words.Special specials.Psr) (percent_front (codes "psr") bytes refl k) (omega arith) (omega arith) (λ _. refl) h
+state_register {bytes = bytes} specials.Wim k h =
+    tokened kinds.Percent (codes "%wim") (λ _. words.Special specials.Wim) (percent_front (codes "wim") bytes refl k) (omega arith) (omega arith) (λ _. refl) h
+state_register {bytes = bytes} specials.Tbr k h =
+    tokened kinds.Percent (codes "%tbr") (λ _. words.Special specials.Tbr) (percent_front (codes "tbr") bytes refl k) (omega arith) (omega arith) (λ _. refl) h
 
 -- ---- operands and addresses
 
@@ -117,7 +204,8 @@ offset_heard : {count : ℕ} {bytes : List ℕ} {ws : List Word} (rs1 : ℕ) (t 
 offset_heard rs1 true n base small some s h = registered rs1 base (refl, refl) (plus (numbered h n small s))
 offset_heard rs1 false n base small some s h = let k = some refl in registered rs1 base (refl, refl) (minus (numbered h (2 ^ 32 - n) (omega arith) s))
 
-pub address_heard : {count : ℕ} {bytes : List ℕ} {ws : List Word} (P : ℕ → Type 0) (rs1 : ℕ) (o : Operand) → ((n : ℕ) → P n → n < 2 ^ 32) → rs1 < 32 → OperandIn P o → Stops bytes → Heard count bytes (λ _. ws)
+pub address_heard : {count : ℕ} {bytes : List ℕ} {ws : List Word} (P : ℕ → Type 0) (rs1 : ℕ) (o : Operand) → ((n : ℕ) → P n → n < 2 ^ 32) → rs1 < 32 →
+    OperandIn P o → Stops bytes → Heard count bytes (λ _. ws)
     → Heard (suc (suc (suc count))) (address_text rs1 o ++ bytes) (λ _. words.Register rs1 ∷ (added_words o ++ ws))
 address_heard {bytes = bytes} P rs1 (operands.Register r) small base inside s h =
     regrouped3 (register_text rs1) (codes "+") (register_text r) bytes (registered rs1 base (refl, refl) (plus (registered r inside s h)))

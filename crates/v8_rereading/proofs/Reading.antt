@@ -1,5 +1,6 @@
 -- What the words of an operand's text are worth.
-use Rattle.std.proofs.Common.{◌≡◌, ℕ, suc, ◌+◌, ◌-◌, ◌*◌, ◌/◌, ◌%◌, ◌^◌, ◌<◌, ◌≤◌, Bool, true, false, cond, List, [], ◌∷◌, ◌++◌, refl, ap, ◌∙◌, arith, eqb, ltb, leb, Some, Option, Ok, Err, ◌⊎◌, inl, inr, pos, negsuc, neg_ℤ}
+use Rattle.std.proofs.Common.{◌≡◌, ℕ, suc, ◌+◌, ◌-◌, ◌*◌, ◌/◌, ◌%◌, ◌^◌, ◌<◌, ◌≤◌, Bool, true, false, cond, List, [], ◌∷◌, ◌++◌, refl, ap, ◌∙◌, arith, eqb, ltb}
+use Rattle.std.proofs.Common.{leb, Some, Option, Ok, Err, ◌⊎◌, inl, inr, pos, negsuc, neg_ℤ}
 use Rattle.std.specs.Prelude.{◌&&◌, ◌||◌}
 use Rattle.std.proofs.lemmas.Bool.{cond_both, le-leb, lt-ltb, ltb-true, ltb-false, eq-eqb}
 use Rattle.v8_word.specs.Word.{bits_of, sign_extend}
@@ -200,6 +201,8 @@ pub target_value : (reach here d : ℕ) (v : Option ℕ) → reach ≤ 2 ^ 29 �
     ≡ Ok (bytes_away d / 4)
 target_value reach here d v small h =
     let whole : bytes_away d % 4 ≡ 0 = omega arith in
-    ap (λ r. r >>= reached (4 * reach)) (distance_by v here (ltb (bytes_away d) (2 ^ 31)) (bytes_away d) (λ e. ltb-true (bytes_away d) (2 ^ 31) e) (λ e. (ltb-false (bytes_away d) (2 ^ 31) e, omega arith)))
+    ap (λ r. r >>= reached (4 * reach))
+    (distance_by v here (ltb (bytes_away d) (2 ^ 31)) (bytes_away d) (λ e. ltb-true (bytes_away d) (2 ^ 31) e)
+    (λ e. (ltb-false (bytes_away d) (2 ^ 31) e, omega arith)))
     ∙ reached_by (eqb (bytes_away d % 4) 0) (ltb (bytes_away d) (4 * reach)) (leb (2 ^ 32 - 4 * reach) (bytes_away d)) (bytes_away d / 4)
     (eq-eqb (bytes_away d % 4) 0 whole) (near reach d small h)

@@ -56,7 +56,8 @@ module _ (f : Form) (w : ℕ) (found : native_of w ≡ Some f) (known : Found f 
       let scanned = token_scanned kinds.Name name (operands_text f.parts w) told.heard.marks (name_front name (operands_text f.parts w) known.is_named told.stops)
       (name_not_empty name known.is_named) told.heard.scanned (length (name ++ operands_text f.parts w)) 0 (omega arith) in (
         record { kind = kinds.Name; start = 0; stop = 0 + length name } ∷ told.heard.marks (0 + length name),
-        ap (λ t. cond t (Err LineTooLong) (tokens_at (length (name ++ operands_text f.parts w)) 0 (name ++ operands_text f.parts w))) (le-ltb 1024 (length (name ++ operands_text f.parts w)) fits) ∙ scanned,
+        ap (λ t. cond t (Err LineTooLong) (tokens_at (length (name ++ operands_text f.parts w)) 0 (name ++ operands_text f.parts w)))
+            (le-ltb 1024 (length (name ++ operands_text f.parts w)) fits) ∙ scanned,
         λ values_of here. spoken_at (told.heard.marks (0 + length name)) values_of here (0 + length name)
             (told.heard.said (name ++ operands_text f.parts w) name (0 + length name) refl (omega arith)),
       )

@@ -5,10 +5,17 @@ use Rattle.sbx_text.specs.Tokens.{tokens_of}
 use Rattle.v8_formats.specs.declared.instr.Place.{Place}
 use Rattle.v8_formats.specs.declared.instr.Place.TheVariants as places
 use Rattle.v8_formats.specs.declared.instr.Instr.{Instr}
-use Rattle.v8_formats.specs.declared.instr.Instr.TheVariants.{LoadAlternate, LoadUnsignedByteAlternate, LoadUnsignedHalfAlternate, LoadDoubleAlternate, LoadSignedByteAlternate, LoadSignedHalfAlternate, LoadStoreUnsignedByteAlternate, SwapAlternate, StoreAlternate, StoreByteAlternate, StoreHalfAlternate, StoreDoubleAlternate, FpOperate, CpOperate, FpMemory, CpMemory, FpBranch, CpBranch, Undefined}
+use Rattle.v8_formats.specs.declared.instr.Instr.TheVariants.{LoadAlternate, LoadUnsignedByteAlternate}
+use Rattle.v8_formats.specs.declared.instr.Instr.TheVariants.{LoadUnsignedHalfAlternate, LoadDoubleAlternate}
+use Rattle.v8_formats.specs.declared.instr.Instr.TheVariants.{LoadSignedByteAlternate, LoadSignedHalfAlternate}
+use Rattle.v8_formats.specs.declared.instr.Instr.TheVariants.{LoadStoreUnsignedByteAlternate, SwapAlternate}
+use Rattle.v8_formats.specs.declared.instr.Instr.TheVariants.{StoreAlternate, StoreByteAlternate, StoreHalfAlternate}
+use Rattle.v8_formats.specs.declared.instr.Instr.TheVariants.{StoreDoubleAlternate, FpOperate, CpOperate, FpMemory}
+use Rattle.v8_formats.specs.declared.instr.Instr.TheVariants.{CpMemory, FpBranch, CpBranch, Undefined}
 use Rattle.v8_formats.specs.Table.{meaning}
 use Rattle.v8_syntax.specs.declared.fault.SyntaxFault.{SyntaxFault}
-use Rattle.v8_syntax.specs.declared.fault.SyntaxFault.TheVariants.{UnknownMnemonic, Shape, Immediate, UnknownSymbol, Target}
+use Rattle.v8_syntax.specs.declared.fault.SyntaxFault.TheVariants.{UnknownMnemonic, Shape, Immediate, UnknownSymbol}
+use Rattle.v8_syntax.specs.declared.fault.SyntaxFault.TheVariants.{Target}
 use Rattle.v8_formats.specs.Spelling.{spelling}
 use Rattle.v8_forms.specs.Text.{native_of, text_of}
 use Rattle.v8_syntax.specs.Statements.{source_meaning, statement_length}
@@ -65,8 +72,10 @@ IsNoStatement Immediate = ⊥
 IsNoStatement UnknownSymbol = ⊥
 IsNoStatement Target = ⊥
 
--- what has instructions has as many as are counted before any of its names is worth anything; what is no statement counts as one
+-- what has instructions has as many as are counted before any of its names is worth anything; what is no statement
+-- counts as one
 abbrev pub CountsInstructions : Type 0
 CountsInstructions =
     (values : List ℕ → Option ℕ) (here : ℕ) (line : List ℕ) (tokens : List Token)
-    → MatchResult (source_meaning values here line tokens) (λ is. length is ≡ statement_length line tokens) (λ f. IsNoStatement f → statement_length line tokens ≡ 1)
+    → MatchResult (source_meaning values here line tokens) (λ is. length is ≡ statement_length line tokens)
+    (λ f. IsNoStatement f → statement_length line tokens ≡ 1)

@@ -31,7 +31,9 @@ use Rattle.v8_loaded.proofs.Users.{pc_word as pc_fits, trap_turn, user_kept}
 use Rattle.v8_loaded.proofs.Vectors.{vector_turn}
 use Rattle.v8_services.specs.Services.{Calls, ExitLaw, GetLaw, MayReturn, PutLaw, calls, exit_events, exited, got, put, returned_from, scratched, served_events, vector_marked, vector_registers}
 use Rattle.v8_services.proofs.Frames.{answered, answered_is, back, back_with, may_return, may_return_with, reads_address, reads_npc, reads_npc_after, reads_word}
-use Rattle.v8_services.proofs.Vector.{address_is, calm_jump, calm_load, calm_return, calm_store, input_loaded, jump_back, jumps_back, load_input, loads_input, register_address_is, resumed, return_back, returns_back, set_device, sets_device, store_word, stores_word, word_put, word_stopped}
+use Rattle.v8_services.proofs.Vector.{address_is, calm_jump, calm_load, calm_return, calm_store, input_loaded, jump_back, jumps_back, load_input, loads_input}
+use Rattle.v8_services.proofs.Vector.{register_address_is, resumed, return_back, returns_back, set_device, sets_device, store_word, stores_word, word_put}
+use Rattle.v8_services.proofs.Vector.{word_stopped}
 
 -- ---- the words
 
@@ -172,7 +174,8 @@ module _ (n : ℕ) (g : Pages) (words : List ℕ) (mmu : MmuRegs) (x : World n D
   set_turn : (t k a : ℕ) → k < 1024 → a ≡ 0xF0000000 + 4 * k → operation_of (meaning (trap_word k)) ≡ set_device →
       TurnsTo n g mmu (world n (in_vector n c t (trapped n v pc npc) a (following a)) ram1 d) Ran (world n (in_vector n c t vector (following a) (following (following a))) ram2 d)
   set_turn t k a small at is =
-      vector_turn n g words mmu x i u t (trapped n v pc npc) a (following a) k ram1 d set_device None (world n (in_vector n c t vector (following a) (following (following a))) ram2 d) Ran loaded1 u.running small at is
+      vector_turn n g words mmu x i u t (trapped n v pc npc) a (following a) k ram1 d set_device None
+      (world n (in_vector n c t vector (following a) (following (following a))) ram2 d) Ran loaded1 u.running small at is
       (calm_set n (in_vector n c t (trapped n v pc npc) a (following a))) (sets_device n mmu c t v pc npc a (following a) ram2 d) (ap ran_event u.running) tt
 
   device_at : (t a b offset va : ℕ) → (0xF0010000 + offset) % 2 ^ 32 ≡ va →
@@ -187,7 +190,8 @@ module _ (n : ℕ) (g : Pages) (words : List ℕ) (mmu : MmuRegs) (x : World n D
   jump_turn t k a regs ram e loaded running reads small at is =
       let to = register_address_is n c t regs a (following a) 18 npc reads u.npc_word in
       vector_turn n g words mmu x i u t regs a (following a) k ram e jump_back None (world n (in_vector n c t regs (following a) npc) (table_marked ram) e) Ran loaded running small at is
-      (calm_jump n (in_vector n c t regs a (following a)) (record { rd = 0; rs1 = 18; operand2 = Register 0 }) npc to (whole_test npc u.npc_whole)) (jumps_back n mmu c t regs a (following a) npc (table_marked ram) e to) (ap ran_event running) tt
+      (calm_jump n (in_vector n c t regs a (following a)) (record { rd = 0; rs1 = 18; operand2 = Register 0 }) npc to (whole_test npc u.npc_whole))
+      (jumps_back n mmu c t regs a (following a) npc (table_marked ram) e to) (ap ran_event running) tt
 
   return_turn : (t k a : ℕ) (regs : Windows) (ram : List ℕ) (e : Device) → IsLoaded n g words ram → e.stopped ≡ None →
       reg_of n regs 18 ≡ npc → can_enter regs (above n regs.current) ≡ true → k < 1024 → a ≡ 0xF0000000 + 4 * k →
@@ -195,8 +199,10 @@ module _ (n : ℕ) (g : Pages) (words : List ℕ) (mmu : MmuRegs) (x : World n D
       TurnsTo n g mmu (world n (in_vector n c t regs a npc) ram e) Ran (world n (resumed n c t (moved regs (above n regs.current)) npc (following npc)) (table_marked ram) e)
   return_turn t k a regs ram e loaded running reads free small at is =
       let to = address_is n c t regs a npc 18 npc 4 reads in
-      vector_turn n g words mmu x i u t regs a npc k ram e return_back None (world n (resumed n c t (moved regs (above n regs.current)) npc (following npc)) (table_marked ram) e) Ran loaded running small at is
-      (calm_return n c t regs a npc (record { rs1 = 18; operand2 = Immediate 4 }) (following npc) free to (next_whole npc u.npc_whole)) (returns_back n mmu c t regs a npc (following npc) (table_marked ram) e to) (ap ran_event running) tt
+      vector_turn n g words mmu x i u t regs a npc k ram e return_back None
+      (world n (resumed n c t (moved regs (above n regs.current)) npc (following npc)) (table_marked ram) e) Ran loaded running small at is
+      (calm_return n c t regs a npc (record { rs1 = 18; operand2 = Immediate 4 }) (following npc) free to (next_whole npc u.npc_whole))
+      (returns_back n mmu c t regs a npc (following npc) (table_marked ram) e to) (ap ran_event running) tt
 
   -- the end, with these registers
   ends_with : (t : ℕ) (regs windows : Windows) (ram : List ℕ) (e : Device) → windows ≡ regs →
@@ -216,10 +222,12 @@ module _ (n : ℕ) (g : Pages) (words : List ℕ) (mmu : MmuRegs) (x : World n D
   stop_turn =
       let e : Device = record d { stopped = Some (Exit word) } in
       let at = device_at 0x80 0xF0000804 0xF0000808 8 0xF0010008 refl in
-      vector_turn n g words mmu x i u 0x80 vector 0xF0000804 0xF0000808 513 ram2 d (store_word 8) (Some (record { va = 0xF0010008; pa = 0x100000008; size = Word; store = true })) (exited n x i) (Stopped (Exit word))
+      vector_turn n g words mmu x i u 0x80 vector 0xF0000804 0xF0000808 513 ram2 d (store_word 8)
+      (Some (record { va = 0xF0010008; pa = 0x100000008; size = Word; store = true })) (exited n x i) (Stopped (Exit word))
       loaded2 u.running (omega arith) refl exit_1
       (calm_store n (in_vector n c 0x80 vector 0xF0000804 0xF0000808) 8 0xF0010008 at refl)
-      (stores_word n mmu c 0x80 vector 0xF0000804 0xF0000808 8 (table_marked ram2) (ram3 true) d e 0xF0010008 0x100000008 word at reads (word_stopped n g words (table_marked ram2) mmu d word u.few loaded_before u.root))
+      (stores_word n mmu c 0x80 vector 0xF0000804 0xF0000808 8 (table_marked ram2) (ram3 true) d e 0xF0010008 0x100000008 word at reads
+      (word_stopped n g words (table_marked ram2) mmu d word u.few loaded_before u.root))
       refl refl
 
   pub exits_so : Calls words i 0 → Leads n g mmu x (exit_events word) (exited n x i)
@@ -237,10 +245,13 @@ module _ (n : ℕ) (g : Pages) (words : List ℕ) (mmu : MmuRegs) (x : World n D
   get_turn : TurnsTo n g mmu (world n (in_vector n c 0x81 vector 0xF0000814 0xF0000818) ram2 d) Ran (world n (in_vector n c 0x81 given 0xF0000818 0xF000081C) (ram3 false) after_get)
   get_turn =
       let at = device_at 0x81 0xF0000814 0xF0000818 0 0xF0010000 refl in
-      vector_turn n g words mmu x i u 0x81 vector 0xF0000814 0xF0000818 517 ram2 d load_input (Some (record { va = 0xF0010000; pa = 0x100000000; size = Word; store = false })) (world n (in_vector n c 0x81 given 0xF0000818 0xF000081C) (ram3 false) after_get) Ran
+      vector_turn n g words mmu x i u 0x81 vector 0xF0000814 0xF0000818 517 ram2 d load_input
+      (Some (record { va = 0xF0010000; pa = 0x100000000; size = Word; store = false }))
+      (world n (in_vector n c 0x81 given 0xF0000818 0xF000081C) (ram3 false) after_get) Ran
       loaded2 u.running (omega arith) refl get_1
       (calm_load n (in_vector n c 0x81 vector 0xF0000814 0xF0000818) 0xF0010000 at refl)
-      (loads_input n mmu c 0x81 vector 0xF0000814 0xF0000818 (table_marked ram2) (ram3 false) d after_get 0xF0010000 0x100000000 (gets d).0 at (input_loaded n g words (table_marked ram2) mmu d u.few loaded_before u.root)
+      (loads_input n mmu c 0x81 vector 0xF0000814 0xF0000818 (table_marked ram2) (ram3 false) d after_get 0xF0010000 0x100000000 (gets d).0 at
+      (input_loaded n g words (table_marked ram2) mmu d u.few loaded_before u.root)
       ∙ ap (λ (r : Windows). (moving 0xF0010000 0x100000000 Word false, world n (in_vector n c 0x81 r 0xF0000818 0xF000081C) (ram3 false) after_get)) (answered_is n v pc npc (gets d).0))
       (ap ran_event (gets_running d u.running)) refl
 
@@ -249,7 +260,8 @@ module _ (n : ℕ) (g : Pages) (words : List ℕ) (mmu : MmuRegs) (x : World n D
       let running = gets_running d u.running in
       let here = reads_npc_after n v pc npc u.file pc_word u.npc_word (gets d).0 in
       let free = may_return_with n v pc npc u.file pc_word u.npc_word (gets d).0 may in
-      let same = ends_with 0x81 (with_reg n (scratched n v pc npc) 8 (gets d).0) (moved given (above n given.current)) (table_marked (ram4 false)) after_get (back_with n v pc npc u.file pc_word u.npc_word (gets d).0) in
+      let same = ends_with 0x81 (with_reg n (scratched n v pc npc) 8 (gets d).0) (moved given (above n given.current)) (table_marked (ram4 false)) after_get
+      (back_with n v pc npc u.file pc_word u.npc_word (gets d).0) in
       let last = return_turn 0x81 519 0xF000081C given (ram4 false) after_get (loaded4 false) running here free (omega arith) refl get_3 in
       leads_more (trap_turn n g words mmu x i u (calls 1) 0x81 asks (get_traps n c))
       (leads_more (set_turn 0x81 516 0xF0000810 (omega arith) refl get_0)
@@ -264,10 +276,13 @@ module _ (n : ℕ) (g : Pages) (words : List ℕ) (mmu : MmuRegs) (x : World n D
   put_turn : TurnsTo n g mmu (world n (in_vector n c 0x82 vector 0xF0000824 0xF0000828) ram2 d) Ran (world n (in_vector n c 0x82 vector 0xF0000828 0xF000082C) (ram3 true) after_put)
   put_turn =
       let at = device_at 0x82 0xF0000824 0xF0000828 4 0xF0010004 refl in
-      vector_turn n g words mmu x i u 0x82 vector 0xF0000824 0xF0000828 521 ram2 d (store_word 4) (Some (record { va = 0xF0010004; pa = 0x100000004; size = Word; store = true })) (world n (in_vector n c 0x82 vector 0xF0000828 0xF000082C) (ram3 true) after_put) Ran
+      vector_turn n g words mmu x i u 0x82 vector 0xF0000824 0xF0000828 521 ram2 d (store_word 4)
+      (Some (record { va = 0xF0010004; pa = 0x100000004; size = Word; store = true }))
+      (world n (in_vector n c 0x82 vector 0xF0000828 0xF000082C) (ram3 true) after_put) Ran
       loaded2 u.running (omega arith) refl put_1
       (calm_store n (in_vector n c 0x82 vector 0xF0000824 0xF0000828) 4 0xF0010004 at refl)
-      (stores_word n mmu c 0x82 vector 0xF0000824 0xF0000828 4 (table_marked ram2) (ram3 true) d after_put 0xF0010004 0x100000004 word at reads (word_put n g words (table_marked ram2) mmu d word u.few loaded_before u.root))
+      (stores_word n mmu c 0x82 vector 0xF0000824 0xF0000828 4 (table_marked ram2) (ram3 true) d after_put 0xF0010004 0x100000004 word at reads
+      (word_put n g words (table_marked ram2) mmu d word u.few loaded_before u.root))
       (ap ran_event u.running) refl
 
   pub puts_so : MayReturn n x → Calls words i 2 → Leads n g mmu x (served_events 0x82) (put n x i)
@@ -330,7 +345,8 @@ module _ (n : ℕ) (g : Pages) (words : List ℕ) (mmu : MmuRegs) (x : World n D
 
       fourth : after board n mmu 4 x ≡ fourth_world
       fourth = then_to 3 third_world fourth_world Ran third
-          (jump_turn 0x81 518 0xF0000818 given (ram3 false) after_get (loaded3 false) (gets_running d u.running) (reads_npc_after n v pc npc u.file pc_word u.npc_word (gets d).0) (omega arith) refl get_2)
+          (jump_turn 0x81 518 0xF0000818 given (ram3 false) after_get (loaded3 false) (gets_running d u.running)
+          (reads_npc_after n v pc npc u.file pc_word u.npc_word (gets d).0) (omega arith) refl get_2)
 
       by_turn : (k : ℕ) → k < 4 → in_system (suc k)
       by_turn zero less = ap (λ (w : World n Device). w.cpu.control.s) first

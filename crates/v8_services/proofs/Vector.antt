@@ -81,24 +81,29 @@ calm_return n c t regs pc npc f place free at whole = rw free (rw at (rw whole r
 -- what the device gives, and takes
 pub input_loaded : (n : ℕ) (g : Pages) (words ram : List ℕ) (mmu : MmuRegs) (d : Device) → AreFew g →
     IsLoaded n g words ram → root_of mmu ≡ 0x2000 →
-    moves board mmu 0xF0010000 (by_supervisor kinds.Load) (transfer.Load loadings.Word) 0 (record { ram = ram; device = d }) ≡ (Done (gets d).0 0x100000000, record { ram = device_marked false ram; device = (gets d).1 })
+    moves board mmu 0xF0010000 (by_supervisor kinds.Load) (transfer.Load loadings.Word) 0 (record { ram = ram; device = d }) ≡
+    (Done (gets d).0 0x100000000, record { ram = device_marked false ram; device = (gets d).1 })
 unfolding moves board_load device_load
 input_loaded n g words ram mmu d few loaded root =
     ap (λ r. move_through board (by_supervisor kinds.Load) (transfer.Load loadings.Word) 0 (record { ram = ram; device = d }) r) (reaches_input n g words ram mmu few loaded root)
 
 pub word_put : (n : ℕ) (g : Pages) (words ram : List ℕ) (mmu : MmuRegs) (d : Device) (v : ℕ) → AreFew g →
     IsLoaded n g words ram → root_of mmu ≡ 0x2000 →
-    moves board mmu 0xF0010004 (by_supervisor kinds.Store) (transfer.Store Word) v (record { ram = ram; device = d }) ≡ (Done 0 0x100000004, record { ram = device_marked true ram; device = record d { output = d.output ++ (v % 2 ^ 8) ∷ [] } })
+    moves board mmu 0xF0010004 (by_supervisor kinds.Store) (transfer.Store Word) v (record { ram = ram; device = d }) ≡
+    (Done 0 0x100000004, record { ram = device_marked true ram; device = record d { output = d.output ++ (v % 2 ^ 8) ∷ [] } })
 unfolding moves board_store device_store
 word_put n g words ram mmu d v few loaded root =
-    ap (λ r. move_through board (by_supervisor kinds.Store) (transfer.Store Word) v (record { ram = ram; device = d }) r) (reaches_device n g words ram mmu few loaded root 0xF0010004 (omega arith) (omega arith))
+    ap (λ r. move_through board (by_supervisor kinds.Store) (transfer.Store Word) v (record { ram = ram; device = d }) r)
+    (reaches_device n g words ram mmu few loaded root 0xF0010004 (omega arith) (omega arith))
 
 pub word_stopped : (n : ℕ) (g : Pages) (words ram : List ℕ) (mmu : MmuRegs) (d : Device) (v : ℕ) → AreFew g →
     IsLoaded n g words ram → root_of mmu ≡ 0x2000 →
-    moves board mmu 0xF0010008 (by_supervisor kinds.Store) (transfer.Store Word) v (record { ram = ram; device = d }) ≡ (Done 0 0x100000008, record { ram = device_marked true ram; device = record d { stopped = Some (Exit v) } })
+    moves board mmu 0xF0010008 (by_supervisor kinds.Store) (transfer.Store Word) v (record { ram = ram; device = d }) ≡
+    (Done 0 0x100000008, record { ram = device_marked true ram; device = record d { stopped = Some (Exit v) } })
 unfolding moves board_store device_store
 word_stopped n g words ram mmu d v few loaded root =
-    ap (λ r. move_through board (by_supervisor kinds.Store) (transfer.Store Word) v (record { ram = ram; device = d }) r) (reaches_device n g words ram mmu few loaded root 0xF0010008 (omega arith) (omega arith))
+    ap (λ r. move_through board (by_supervisor kinds.Store) (transfer.Store Word) v (record { ram = ram; device = d }) r)
+    (reaches_device n g words ram mmu few loaded root 0xF0010008 (omega arith) (omega arith))
 
 pub address_is : (n : ℕ) (c : Cpu n) (t : ℕ) (regs : Windows) (pc npc rs1 v offset : ℕ) → reg_of n regs rs1 ≡ v →
     address_of n (in_vector n c t regs pc npc) rs1 (Immediate offset) ≡ (v + offset) % 2 ^ 32
@@ -119,7 +124,9 @@ register_address_is n c t regs pc npc rs1 v reads small =
 -- ---- what the words of a vector do
 
 pub loads_input : (n : ℕ) (mmu : MmuRegs) (c : Cpu n) (t : ℕ) (regs : Windows) (a b : ℕ) (ram after : List ℕ) (d e : Device) (va pa v : ℕ) →
-    address_of n (in_vector n c t regs a b) 19 (Immediate 0) ≡ va → moves board mmu va (by_supervisor kinds.Load) (transfer.Load loadings.Word) 0 (record { ram = ram; device = d }) ≡ (Done v pa, record { ram = after; device = e }) →
+    address_of n (in_vector n c t regs a b) 19 (Immediate 0) ≡ va →
+    moves board mmu va (by_supervisor kinds.Load) (transfer.Load loadings.Word) 0 (record { ram = ram; device = d }) ≡
+    (Done v pa, record { ram = after; device = e }) →
     acts board n mmu load_input (world n (in_vector n c t regs a b) ram d) ≡ (moving va pa Word false, world n (in_vector n c t (with_reg n regs 24 v) b (following b)) after e)
 unfolding transfers taken advanced
 loads_input n mmu c t regs a b ram after d e va pa v at done =
@@ -129,7 +136,9 @@ loads_input n mmu c t regs a b ram after d e va pa v at done =
     ∙ ap (F va) done
 
 pub stores_word : (n : ℕ) (mmu : MmuRegs) (c : Cpu n) (t : ℕ) (regs : Windows) (a b offset : ℕ) (ram after : List ℕ) (d e : Device) (va pa v : ℕ) →
-    address_of n (in_vector n c t regs a b) 19 (Immediate offset) ≡ va → reg_of n regs 24 ≡ v → moves board mmu va (by_supervisor kinds.Store) (transfer.Store Word) v (record { ram = ram; device = d }) ≡ (Done 0 pa, record { ram = after; device = e }) →
+    address_of n (in_vector n c t regs a b) 19 (Immediate offset) ≡ va → reg_of n regs 24 ≡ v →
+    moves board mmu va (by_supervisor kinds.Store) (transfer.Store Word) v (record { ram = ram; device = d }) ≡
+    (Done 0 pa, record { ram = after; device = e }) →
     acts board n mmu (store_word offset) (world n (in_vector n c t regs a b) ram d) ≡ (moving va pa Word true, world n (in_vector n c t regs b (following b)) after e)
 unfolding transfers taken advanced
 stores_word n mmu c t regs a b offset ram after d e va pa v at reads done =

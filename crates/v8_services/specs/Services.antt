@@ -1,4 +1,5 @@
--- What a call of a service does: the turn of the trap, and those of the words of its vector (chapter 7 and the trap table).
+-- What a call of a service does: the turn of the trap, and those of the words of its vector (chapter 7 and the trap
+-- table).
 use Rattle.std.specs.Prelude.{ℕ, ◌≡◌, ◌+◌, ◌%◌, ◌^◌, Bool, true, false, List, [], ◌∷◌, ◌++◌, Some}
 use Rattle.v8_core.specs.Cond.TheVariants.{Always}
 use Rattle.v8_core.specs.Operand.TheVariants.{Immediate}
@@ -39,7 +40,9 @@ device_address = DEVICE
 
 -- %l1, %l2 and %l3 of the window below: PC, nPC and the device's address
 abbrev pub scratched : ℕ → Windows → ℕ → ℕ → Windows
-scratched n v pc npc = with_word (with_word (with_word v (below n v.current) 9 pc) (below n v.current) 10 npc) (below n v.current) 11 device_address
+scratched n v pc npc =
+    with_word (with_word (with_word v (below n v.current) 9 pc) (below n v.current) 10 npc)
+    (below n v.current) 11 device_address
 
 -- the RAM after two words of a vector, the second of which reaches the device
 abbrev pub vector_marked : ℕ → Bool → List ℕ → List ℕ
@@ -58,7 +61,8 @@ vector_registers n v pc npc = with_word (trapped n v pc npc) (below n v.current)
 -- the machine has stopped with %o0 as its exit status
 abbrev pub exited : (n : ℕ) → World n Device → ℕ → World n Device
 exited n x i =
-    world n (in_vector n x.cpu 0x80 (vector_registers n x.cpu.regs x.cpu.control.pc x.cpu.control.npc) (TRAP_TABLE + 0x808) (TRAP_TABLE + 0x80C))
+    world n (in_vector n x.cpu 0x80 (vector_registers n x.cpu.regs x.cpu.control.pc x.cpu.control.npc)
+    (TRAP_TABLE + 0x808) (TRAP_TABLE + 0x80C))
     (vector_marked i true x.memory.ram) (record x.memory.device { stopped = Some (Exit (reg_of n x.cpu.regs service_register)) })
 
 -- %o0 has the next byte of input, or all ones at its end
@@ -88,7 +92,8 @@ abbrev pub exit_events : ℕ → List Event
 exit_events status = Trapped 0x80 ∷ Ran ∷ Stopped (Exit status) ∷ []
 
 abbrev pub ExitLaw : Type 0
-ExitLaw = (n : ℕ) (g : Pages) (words : List ℕ) (mmu : MmuRegs) (x : World n Device) (i : ℕ) → RunsUser n g words mmu x i → Calls words i 0 →
+ExitLaw = (n : ℕ) (g : Pages) (words : List ℕ) (mmu : MmuRegs) (x : World n Device) (i : ℕ) →
+    RunsUser n g words mmu x i → Calls words i 0 →
     Leads n g mmu x (exit_events (reg_of n x.cpu.regs service_register)) (exited n x i)
 
 -- the trap t, and four words
@@ -96,9 +101,11 @@ abbrev pub served_events : ℕ → List Event
 served_events t = Trapped t ∷ Ran ∷ Ran ∷ Ran ∷ Ran ∷ []
 
 abbrev pub GetLaw : Type 0
-GetLaw = (n : ℕ) (g : Pages) (words : List ℕ) (mmu : MmuRegs) (x : World n Device) (i : ℕ) → RunsUser n g words mmu x i → MayReturn n x → Calls words i 1 →
+GetLaw = (n : ℕ) (g : Pages) (words : List ℕ) (mmu : MmuRegs) (x : World n Device) (i : ℕ) →
+    RunsUser n g words mmu x i → MayReturn n x → Calls words i 1 →
     Leads n g mmu x (served_events 0x81) (got n x i)
 
 abbrev pub PutLaw : Type 0
-PutLaw = (n : ℕ) (g : Pages) (words : List ℕ) (mmu : MmuRegs) (x : World n Device) (i : ℕ) → RunsUser n g words mmu x i → MayReturn n x → Calls words i 2 →
+PutLaw = (n : ℕ) (g : Pages) (words : List ℕ) (mmu : MmuRegs) (x : World n Device) (i : ℕ) →
+    RunsUser n g words mmu x i → MayReturn n x → Calls words i 2 →
     Leads n g mmu x (served_events 0x82) (put n x i)

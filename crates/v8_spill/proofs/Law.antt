@@ -118,7 +118,9 @@ module _ (n : ℕ) (g : Pages) (words : List ℕ) (mmu : MmuRegs) (x : World n D
 
   -- the processor while it stores, before the first double word and before the last, and where it stores
   abbrev pub storing : ℕ → ℕ → Cpu n
-  storing pc npc = stage n (caught x.cpu.control 5) w (below n w) (record { rows = rows; globals = globals_6 n x.cpu.regs.globals (first_row n x.cpu) (2 ^ w); row = last; mask = 2 ^ below n w; pc = pc; npc = npc })
+  storing pc npc =
+      stage n (caught x.cpu.control 5) w (below n w)
+      (record { rows = rows; globals = globals_6 n x.cpu.regs.globals (first_row n x.cpu) (2 ^ w); row = last; mask = 2 ^ below n w; pc = pc; npc = npc })
 
   pub begins_so : (next board n mmu x).1 ≡ begun n x i 5 (2 ^ w)
   begins_so = begins n g words mmu x i o.user op 5 (2 ^ w) o.saves.1 meets o.mask

@@ -25,9 +25,11 @@ use Rattle.v8_loaded.specs.Layout.{Pages, IsLoaded}
 use Rattle.v8_loaded.specs.Board.{Device}
 use Rattle.v8_loaded.specs.Areas.{HasRoom, area_of}
 use Rattle.v8_loaded.proofs.Windows.{below_within, above_within, below_is_not_above, not_masked}
-use Rattle.v8_loaded.proofs.Words.{Asks, at_stack, reads_mask, goes_overflow, saves_global, shifts_mask_right, shifts_left, joins, saves, writes_mask, nothing, stores_0, stores_1, stores_2, stores_3, stores_4, stores_5, stores_6, stores_7, restores, gives_global, jumps, returns}
+use Rattle.v8_loaded.proofs.Words.{Asks, at_stack, reads_mask, goes_overflow, saves_global, shifts_mask_right, shifts_left, joins, saves, writes_mask, nothing}
+use Rattle.v8_loaded.proofs.Words.{stores_0, stores_1, stores_2, stores_3, stores_4, stores_5, stores_6, stores_7, restores, gives_global, jumps, returns}
 use Rattle.v8_loaded.proofs.Stages.{Inside, registers, stage, finished, read_other, read_trap_ins}
-use Rattle.v8_loaded.proofs.Effects.{Does, reads_mask_does, goes_does, saves_global_does, shifts_mask_right_does, shifts_left_does, joins_does, saves_does, writes_mask_does, nothing_does, restores_does, gives_global_does, jumps_does, returns_does, address_of_local}
+use Rattle.v8_loaded.proofs.Effects.{Does, reads_mask_does, goes_does, saves_global_does, shifts_mask_right_does, shifts_left_does, joins_does, saves_does}
+use Rattle.v8_loaded.proofs.Effects.{writes_mask_does, nothing_does, restores_does, gives_global_does, jumps_does, returns_does, address_of_local}
 use Rattle.v8_loaded.proofs.Turns.{Setting, Comes, saving, starts, table, handler}
 use Rattle.v8_loaded.proofs.Stack.{in_store, on_stack, stack_address}
 use Rattle.v8_spill.proofs.Rows.{row_3, globals_4, row_5, globals_6, globals_7, new_mask}

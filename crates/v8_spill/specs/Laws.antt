@@ -31,7 +31,8 @@ pub record Overflows (n : ℕ) (g : Pages) (words : List ℕ) (mmu : MmuRegs) (o
 
 -- ---- afterwards
 
--- WIM's bit is that of the stored window. Of the registers only the locals of the entered window differ, of the state registers only PS and tt.
+-- WIM's bit is that of the stored window. Of the registers only the locals of the entered window differ, of the state
+-- registers only PS and tt.
 pub record Spills (n : ℕ) (old new : Cpu n) : Type 0 where
   pub mask : new.regs.mask ≡ 2 ^ spilled_window n old
   pub current : new.regs.current ≡ old.regs.current
@@ -40,8 +41,9 @@ pub record Spills (n : ℕ) (old new : Cpu n) : Type 0 where
   pub file : IsFile n new.regs
   pub control : new.control ≡ record old.control { ps = old.control.s; tt = 5 }
 
--- The 64 bytes at the stored window's %sp hold its locals and ins, as the handler of underflow asks for them, and no other byte above
--- the tables differs. The tables, R and M aside, the trap table, the handlers and the code are as loaded; the device is as it was.
+-- The 64 bytes at the stored window's %sp hold its locals and ins, as the handler of underflow asks for them, and no
+-- other byte above the tables differs. The tables, R and M aside, the trap table, the handlers and the code are as
+-- loaded; the device is as it was.
 pub record Spilled (n : ℕ) (g : Pages) (words : List ℕ) (old new : World n Device) (i : ℕ) : Type 0 where
   pub cpu : Spills n old.cpu new.cpu
   pub stored : IsFrame old.cpu.regs (spilled_window n old.cpu) (entered_window n old.cpu) (area_of (stack_pointer n old.cpu)) new.memory.ram

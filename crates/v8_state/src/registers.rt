@@ -1,6 +1,7 @@
 //! The state registers as words, and booting (chapter 4).
 ghost use Rattle.std.specs.Prelude.{◌≡◌, ℕ, ◌+◌, ◌*◌, ◌/◌, ◌%◌, ◌^◌, ◌<◌, ◌≤◌, ◌↔◌, IsTrue, if◌then◌else◌, None, false};
-ghost use Rattle.v8_state.specs.Registers.{booted, cleared, psr_codes, psr_modes, psr_of, psr_window, started_with, tbr_of, trap_base, with_psr, with_wim};
+ghost use Rattle.v8_state.specs.Registers.{booted, cleared, psr_codes, psr_modes, psr_of, psr_window, started_with};
+ghost use Rattle.v8_state.specs.Registers.{tbr_of, trap_base, with_psr, with_wim};
 ghost use Rattle.v8_windows.specs.Windows.{IsFile};
 
 use crate::state::{Control, Cpu};

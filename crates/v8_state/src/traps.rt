@@ -1,5 +1,6 @@
 //! Which traps apply, and the entry into one (chapter 7).
-ghost use Rattle.std.specs.Prelude.{◌≡◌, ℕ, ◌+◌, ◌*◌, ◌/◌, ◌%◌, ◌^◌, ◌<◌, ◌≤◌, IfOk, OnErr, OnOk, IsTrue, Some, None, false};
+ghost use Rattle.std.specs.Prelude.{◌≡◌, ℕ, ◌+◌, ◌*◌, ◌/◌, ◌%◌, ◌^◌, ◌<◌, ◌≤◌, IfOk, OnErr, OnOk, IsTrue, Some, None};
+ghost use Rattle.std.specs.Prelude.{false};
 ghost use Rattle.v8_state.specs.Effects.{address_of};
 ghost use Rattle.v8_state.specs.Traps.{entered, first_memory_trap, memory_applies, trap_of};
 

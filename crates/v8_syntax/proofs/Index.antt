@@ -1,5 +1,6 @@
 -- A name is only that of forms whose names begin with the same letter, and the index has these.
-use Rattle.std.proofs.Common.{◌≡◌, ℕ, zero, suc, ◌+◌, ◌-◌, ◌<◌, ◌≤◌, Bool, true, false, cond, List, [], ◌∷◌, length, map, drop, get_or, Option, Some, None, Result, Ok, refl, sym, ap, subst, ◌∙◌, arith, eqb, ltb, leb}
+use Rattle.std.proofs.Common.{◌≡◌, ℕ, zero, suc, ◌+◌, ◌-◌, ◌<◌, ◌≤◌, Bool, true, false, cond, List, [], ◌∷◌, length, map, drop, get_or, Option, Some, None}
+use Rattle.std.proofs.Common.{Result, Ok, refl, sym, ap, subst, ◌∙◌, arith, eqb, ltb, leb}
 use Rattle.std.specs.Prelude.{All, ◌&&◌}
 use Rattle.std.specs.List.{filter, list_all, position_from}
 use Rattle.std.specs.Option.{option_map_or}
@@ -145,7 +146,8 @@ whole letter numbers h = record { within = numbers_within numbers h.0; kept = h.
 pub empty : (letter : ℕ) → (97 ≤ letter → 122 < letter) → IndexOf letter []
 empty letter h = whole letter [] (refl, λ d. sym (nothing_begins letter forms forms_small (not_small letter h)))
 
-pub from_table : (letter place : ℕ) (numbers : List ℕ) (table : List (List ℕ)) → numbers ≡ get_or table place [] → place ≡ letter - 97 → 97 ≤ letter → IsIndex 97 table → length table ≡ 26 → IndexOf letter numbers
+pub from_table : (letter place : ℕ) (numbers : List ℕ) (table : List (List ℕ)) → numbers ≡ get_or table place [] → place ≡ letter - 97 → 97 ≤ letter →
+    IsIndex 97 table → length table ≡ 26 → IndexOf letter numbers
 from_table letter place numbers table found at low h len = by (ltb (letter - 97) 26) refl
   where
     is : numbers ≡ get_or table (letter - 97) []
@@ -166,7 +168,83 @@ from_table letter place numbers table found at low h len = by (ltb (letter - 97)
 -- the code's table
 pub table_indexes : IsIndex 97 (map (λ s. s.now) BY_LETTER)
 unfolding natives synthetics
-table_indexes = (refl, λ d. refl, (refl, λ d. refl, (refl, λ d. refl, (refl, λ d. refl, (refl, λ d. refl, (refl, λ d. refl, (refl, λ d. refl, (refl, λ d. refl, (refl, λ d. refl, (refl, λ d. refl, (refl, λ d. refl, (refl, λ d. refl, (refl, λ d. refl, (refl, λ d. refl, (refl, λ d. refl, (refl, λ d. refl, (refl, λ d. refl, (refl, λ d. refl, (refl, λ d. refl, (refl, λ d. refl, (refl, λ d. refl, (refl, λ d. refl, (refl, λ d. refl, (refl, λ d. refl, (refl, λ d. refl, (refl, λ d. refl, tt))))))))))))))))))))))))))
+table_indexes = (
+  refl,
+  λ d. refl,
+  (
+    refl,
+    λ d. refl,
+    (
+      refl,
+      λ d. refl,
+      (
+        refl,
+        λ d. refl,
+        (
+          refl,
+          λ d. refl,
+          (
+            refl,
+            λ d. refl,
+            (
+              refl,
+              λ d. refl,
+              (
+                refl,
+                λ d. refl,
+                (
+                  refl,
+                  λ d. refl,
+                  (
+                    refl,
+                    λ d. refl,
+                    (
+                      refl,
+                      λ d. refl,
+                      (
+                        refl,
+                        λ d. refl,
+                        (
+                          refl,
+                          λ d. refl,
+                          (
+                            refl,
+                            λ d. refl,
+                            (
+                              refl,
+                              λ d. refl,
+                              (
+                                refl,
+                                λ d. refl,
+                                (
+                                  refl,
+                                  λ d. refl,
+                                  (
+                                    refl,
+                                    λ d. refl,
+                                    (
+                                      refl,
+                                      λ d. refl,
+                                      (refl, λ d. refl, (refl, λ d. refl, (refl, λ d. refl, (refl, λ d. refl, (refl, λ d. refl, (refl, λ d. refl, (refl, λ d. refl, tt))))))),
+                                    ),
+                                  ),
+                                ),
+                              ),
+                            ),
+                          ),
+                        ),
+                      ),
+                    ),
+                  ),
+                ),
+              ),
+            ),
+          ),
+        ),
+      ),
+    ),
+  ),
+)
 
 -- ---- rows
 

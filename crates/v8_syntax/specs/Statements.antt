@@ -1,5 +1,8 @@
--- What a statement means: its tokens as words, the words behind its name as its operands, and all as one or two instructions, or the fault (appendices A and B).
-use Rattle.std.specs.Prelude.{ℕ, ◌+◌, ◌-◌, ◌*◌, ◌/◌, ◌%◌, ◌^◌, ◌==◌, Bool, true, false, not, ◌&&◌, ◌||◌, nat_lt, nat_le, if◌then◌else◌, ℤ, pos, negsuc, ◌+ℤ◌, neg_ℤ, int_le, List, [], ◌∷◌, length, take, drop, map, slice_index, slice_range, Option, Some, None, Result, Ok, Err, codes}
+-- What a statement means: its tokens as words, the words behind its name as its operands, and all as one or two
+-- instructions, or the fault (appendices A and B).
+use Rattle.std.specs.Prelude.{ℕ, ◌+◌, ◌-◌, ◌*◌, ◌/◌, ◌%◌, ◌^◌, ◌==◌, Bool, true, false, not, ◌&&◌, ◌||◌, nat_lt, nat_le}
+use Rattle.std.specs.Prelude.{if◌then◌else◌, ℤ, pos, negsuc, ◌+ℤ◌, neg_ℤ, int_le, List, [], ◌∷◌, length, take, drop}
+use Rattle.std.specs.Prelude.{map, slice_index, slice_range, Option, Some, None, Result, Ok, Err, codes}
 use Rattle.std.specs.Option.{option_map, option_and_then, option_map_or, option_or, unwrap_or}
 use Rattle.std.specs.List.{find, position_from}
 use Rattle.std.specs.Char.{is_ascii_digit}
@@ -17,7 +20,8 @@ use Rattle.v8_syntax.specs.declared.expression.{Base.Base, Expression.Expression
 
 -- the bytes of a line from one place up to another, and none where the line has no such bytes
 abbrev pub bytes_between : List ℕ → ℕ → ℕ → List ℕ
-bytes_between line start stop = if nat_le start stop && nat_le stop (length line) then slice_range line start stop else []
+bytes_between line start stop =
+    if nat_le start stop && nat_le stop (length line) then slice_range line start stop else []
 
 -- what stands beside a name in a table
 abbrev pub beside : {A : Type 0} → List ℕ → List (List ℕ × A) → Option A
@@ -27,29 +31,36 @@ beside name rows = option_map (λ row. row.1) (find (λ row. bytes_eq name row.0
 
 -- the first register of each letter, and how many there are: globals, outs, locals, ins, and all
 abbrev pub groups : List (List ℕ × (ℕ × ℕ))
-groups = (codes "g", (0, 8)) ∷ (codes "o", (8, 8)) ∷ (codes "l", (16, 8)) ∷ (codes "i", (24, 8)) ∷ (codes "r", (0, 32)) ∷ []
+groups = (codes "g", (0, 8)) ∷ (codes "o", (8, 8)) ∷ (codes "l", (16, 8)) ∷ (codes "i", (24, 8)) ∷ (codes "r", (0, 32))
+    ∷ []
 
 -- a number of one digit or two, with no 0 in front
 abbrev pub small_number : List ℕ → Option ℕ
 small_number (a ∷ []) = if is_ascii_digit a then Some (a - 48) else None
-small_number (a ∷ b ∷ []) = if is_ascii_digit a && is_ascii_digit b && nat_lt 48 a then Some (10 * (a - 48) + (b - 48)) else None
+small_number (a ∷ b ∷ []) =
+    if is_ascii_digit a && is_ascii_digit b && nat_lt 48 a then Some (10 * (a - 48) + (b - 48)) else None
 small_number _ = None
 
 -- `sp`, `fp`, or a letter and a number
 abbrev pub register_named : List ℕ → Option ℕ
 register_named name =
     option_or (beside name ((codes "sp", 14) ∷ (codes "fp", 30) ∷ []))
-    (option_and_then (λ group. option_and_then (λ n. if nat_lt n group.1 then Some (group.0 + n) else None) (small_number (drop 1 name))) (beside (take 1 name) groups))
+    (option_and_then
+    (λ group. option_and_then (λ n. if nat_lt n group.1 then Some (group.0 + n) else None)
+    (small_number (drop 1 name))) (beside (take 1 name) groups))
 
 -- the state registers that have a name here
 abbrev pub specials : List (List ℕ × Special)
-specials = (codes "y", Special.Y) ∷ (codes "psr", Special.Psr) ∷ (codes "wim", Special.Wim) ∷ (codes "tbr", Special.Tbr) ∷ []
+specials = (codes "y", Special.Y) ∷ (codes "psr", Special.Psr) ∷ (codes "wim", Special.Wim) ∷ (codes "tbr", Special.Tbr)
+    ∷ []
 
 -- ---- the word of each token
 
 -- what stands behind a `%`
 abbrev pub percent_word : List ℕ → Word
-percent_word name = unwrap_or (option_or (option_map Word.Register (register_named name)) (option_map Word.Special (beside name specials))) Word.Unknown
+percent_word name =
+    unwrap_or (option_or (option_map Word.Register (register_named name))
+    (option_map Word.Special (beside name specials))) Word.Unknown
 
 -- `a` annuls, `.` is the place, and another name is a symbol
 abbrev pub name_kind : List ℕ → NameKind
@@ -144,7 +155,9 @@ moved NameKind.Place value = Base.Here value
 moved _ value = Base.Symbol value
 
 abbrev pub named_expression : NameKind → Option ℕ → Reading Expression
-named_expression kind value = after 43 number_first giving plain (moved kind value) or_else negative (moved kind value) or_else gives (plain (Base.Symbol value) 0)
+named_expression kind value =
+    after 43 number_first giving plain (moved kind value) or_else negative (moved kind value) or_else gives
+    (plain (Base.Symbol value) 0)
 
 -- ---- their values: whole numbers, without wrapping
 
@@ -172,11 +185,14 @@ word_in range e = based e.base (offset_of e) >>= in_range (least range) (greates
 -- how many bytes from the instruction, as a word: `.+N` itself, or from here to an address below 2 ^ 32
 abbrev pub distance : ℕ → Base → ℤ → Result ℕ SyntaxFault
 distance here (Base.Here v) z = in_range (negsuc 2147483647) (pos 2147483647) SyntaxFault.Target z
-distance here base z = based base z >>= in_range (pos 0) (pos 4294967295) SyntaxFault.Target >>= λ target. Ok ((target + 2 ^ 32 - here) % 2 ^ 32)
+distance here base z =
+    based base z >>= in_range (pos 0) (pos 4294967295) SyntaxFault.Target >>= λ target. Ok
+    ((target + 2 ^ 32 - here) % 2 ^ 32)
 
 -- a multiple of 4 less than so many bytes before, or after, the instruction, in words
 abbrev pub reached : ℕ → ℕ → Result ℕ SyntaxFault
-reached reach w = if w % 4 == 0 && (nat_lt w reach || nat_le (2 ^ 32 - reach) w) then Ok (w / 4) else Err SyntaxFault.Target
+reached reach w =
+    if w % 4 == 0 && (nat_lt w reach || nat_le (2 ^ 32 - reach) w) then Ok (w / 4) else Err SyntaxFault.Target
 
 -- ---- what operands fill
 
@@ -200,7 +216,9 @@ added_register = after 43 register_first or_else gives 0
 -- the condition under which a form has that name, the number of its suffix: 0 where it has none
 abbrev pub named : Form → List ℕ → Option ℕ
 named f name =
-    if f.conditional then (if bytes_eq f.name (bytes_between name 0 1) then position_from (λ suffix. bytes_eq suffix (drop 1 name)) 0 suffixes else None)
+    if f.conditional
+    then (if bytes_eq f.name (bytes_between name 0 1)
+    then position_from (λ suffix. bytes_eq suffix (drop 1 name)) 0 suffixes else None)
     else (if bytes_eq f.name name then Some 0 else None)
 
 -- ---- `set`
@@ -236,7 +254,9 @@ module _ (values : List ℕ → Option ℕ) (line : List ℕ) where
 
   -- such a one behind `+`, a number behind `-`, else %g0
   unfoldable pub added_second : Range → Reading (Result Operand SyntaxFault)
-  added_second range = after 43 (second range) or_else negative Base.Number giving immediate range or_else gives (Ok (Operand.Register 0))
+  added_second range =
+      after 43 (second range) or_else negative Base.Number giving immediate range or_else gives
+      (Ok (Operand.Register 0))
 
   -- a register and such a one; an expression, and a register behind it
   unfoldable pub address : Range → Reading (Result ℕ SyntaxFault)
@@ -249,13 +269,18 @@ module _ (values : List ℕ → Option ℕ) (line : List ℕ) where
   set_operands = expression and_then λ e. after 44 register_first and_then λ rd. end giving λ _. (e, rd)
 
   unfoldable pub set : List Word → Result (List Instr) SyntaxFault
-  set ws = option_map_or (λ x. word_in Range.Whole x.0.0 >>= λ w. Ok (set_instructions (is_symbolic x.0.0.base) w x.0.1)) (set_operands ws) (Err SyntaxFault.Shape)
+  set ws = option_map_or
+      (λ x. word_in Range.Whole x.0.0 >>= λ w. Ok (set_instructions (is_symbolic x.0.0.base) w x.0.1)) (set_operands ws)
+      (Err SyntaxFault.Shape)
 
 -- and where the statement stands
 module _ (values : List ℕ → Option ℕ) (here : ℕ) (line : List ℕ) where
-  -- the words to a target (appendix B, "Branch on Integer Condition Codes" and "Call and Link"), in a field of the bits that reach so far
+  -- the words to a target (appendix B, "Branch on Integer Condition Codes" and "Call and Link"), in a field of the bits
+  -- that reach so far
   unfoldable pub target : ℕ → Bool → Reading (Result ℕ SyntaxFault)
-  target reach annuls = expression values line giving λ e. distance here e.base (offset_of e) >>= reached reach >>= λ d. Ok (annul_bit annuls + d % (reach / 2))
+  target reach annuls =
+      expression values line giving λ e. distance here e.base (offset_of e) >>= reached reach >>= λ d. Ok
+      (annul_bit annuls + d % (reach / 2))
 
   unfoldable pub read : Part → Reading (Result ℕ SyntaxFault)
   read (Part.Register f) = register_first giving λ r. Ok (r * scale f)
@@ -265,7 +290,8 @@ module _ (values : List ℕ → Option ℕ) (here : ℕ) (line : List ℕ) where
   read Part.Memory = after 91 (address values line Range.Signed) and_then λ x. after 93 (gives x)
   read Part.Elsewhere =
       after 91 register_first and_then λ rs1. added_register and_then λ rs2.
-      after 93 (expression values line) giving λ e. word_in Range.Space e >>= λ asi. Ok (elsewhere_bits rs1 rs2 (asi % 2 ^ 8))
+      after 93 (expression values line) giving λ e. word_in Range.Space e >>= λ asi. Ok
+      (elsewhere_bits rs1 rs2 (asi % 2 ^ 8))
   read (Part.Number range) = expression values line giving λ e. word_in range e >>= λ n. Ok (n % 2 ^ width range)
   read Part.Call = target (2 ^ 31) false
   read Part.Branch = (after 44 annul_first or_else gives false) and_then target (2 ^ 23)
@@ -281,8 +307,10 @@ module _ (values : List ℕ → Option ℕ) (here : ℕ) (line : List ℕ) where
   operands_of (p ∷ ps) = read p and_then λ x. behind ps giving added x
 
   -- the word of the first of some forms that has the name and that the operands fit, else the fault
-  abbrev pub of_condition : (SyntaxFault → Result ℕ SyntaxFault) → SyntaxFault → Form → List Word → Option ℕ → Result ℕ SyntaxFault
-  of_condition others fault f ws (Some condition) = option_map_or (λ x. x.0 >>= λ n. Ok (filled f condition n)) (operands_of f.parts ws) (others SyntaxFault.Shape)
+  abbrev pub of_condition : (SyntaxFault → Result ℕ SyntaxFault) → SyntaxFault → Form → List Word → Option ℕ →
+      Result ℕ SyntaxFault
+  of_condition others fault f ws (Some condition) =
+      option_map_or (λ x. x.0 >>= λ n. Ok (filled f condition n)) (operands_of f.parts ws) (others SyntaxFault.Shape)
   of_condition others fault f ws None = others fault
 
   abbrev pub first_of : SyntaxFault → List Form → List ℕ → List Word → Result ℕ SyntaxFault
@@ -296,7 +324,9 @@ module _ (values : List ℕ → Option ℕ) (here : ℕ) (line : List ℕ) where
 
 -- the instructions of a statement, a name first, or its fault
 abbrev pub source_meaning : (List ℕ → Option ℕ) → ℕ → List ℕ → List Token → Result (List Instr) SyntaxFault
-source_meaning values here line tokens = option_map_or (λ x. named_meaning values here line x.0 x.1) (name_first line (words_of line tokens)) (Err SyntaxFault.UnknownMnemonic)
+source_meaning values here line tokens =
+    option_map_or (λ x. named_meaning values here line x.0 x.1) (name_first line (words_of line tokens))
+    (Err SyntaxFault.UnknownMnemonic)
 
 -- ---- how many instructions a statement takes, whatever its symbols are worth
 
@@ -307,4 +337,6 @@ count_of (Err SyntaxFault.UnknownSymbol) = 2
 count_of (Err fault) = 1
 
 abbrev pub statement_length : List ℕ → List Token → ℕ
-statement_length line tokens = option_map_or (λ x. if bytes_eq x.0 (codes "set") then count_of (set (λ _. None) line x.1) else 1) (name_first line (words_of line tokens)) 1
+statement_length line tokens =
+    option_map_or (λ x. if bytes_eq x.0 (codes "set") then count_of (set (λ _. None) line x.1) else 1)
+    (name_first line (words_of line tokens)) 1

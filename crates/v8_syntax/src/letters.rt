@@ -59,7 +59,8 @@ fn items_at(table: &[&'static [u8]], place: usize) -> &'static [u8]
 /// The numbers of the forms whose names begin with a letter, in their order.
 pub fn numbers_from(letter: u8) -> &'static [u8]
     ensures within { All (λ k. k < 111) result.now }
-    ensures forms { (d : Form) → map (λ k. get_or forms k d) result.now ≡ filter (λ f. slice_index f.name 0 == letter) forms }
+    ensures forms { (d : Form) →
+        map (λ k. get_or forms k d) result.now ≡ filter (λ f. slice_index f.name 0 == letter) forms }
 {
     if letter < b'a' {
         return &[];

@@ -1,5 +1,6 @@
 // The operands of a statement, read by the parts of its form.
-ghost use Rattle.std.specs.Prelude.{◌≡◌, ℕ, ◌+◌, ◌*◌, ◌/◌, ◌%◌, ◌^◌, ◌<◌, ◌≤◌, List, [], MatchOption, Some, None, false, true, Ok};
+ghost use Rattle.std.specs.Prelude.{◌≡◌, ℕ, ◌+◌, ◌*◌, ◌/◌, ◌%◌, ◌^◌, ◌<◌, ◌≤◌, List, [], MatchOption, Some, None};
+ghost use Rattle.std.specs.Prelude.{false, true, Ok};
 ghost use Rattle.v8_forms.specs.Forms.{plus, width};
 ghost use Rattle.v8_syntax.specs.Statements.{words_of, added, after, annul_first, behind, operands_of, read, target};
 ghost use Rattle.v8_forms.specs.Text.{annul_bit, code_of};
@@ -16,7 +17,8 @@ use v8_forms::{Part, annul_bit, code_of, low_bits, operand_bits, scale};
 
 /// What follows `,a`, which annuls.
 fn after_annul<'t>(line: &[u8], tokens: &'t [Token]) -> Option<&'t [Token]>
-    ensures { MatchOption result (after 44 annul_first (words_of line.now tokens.now) ≡ None) (λ rest. after 44 annul_first (words_of line.now tokens.now) ≡ Some (true, words_of line.now rest.now)) }
+    ensures { MatchOption result (after 44 annul_first (words_of line.now tokens.now) ≡ None)
+        (λ rest. after 44 annul_first (words_of line.now tokens.now) ≡ Some (true, words_of line.now rest.now)) }
 {
     match front(line, after_sign(b',', line, tokens)?) {
         Some((Word::Name(NameKind::Annul, _, _), rest)) => Some(rest),
@@ -33,7 +35,10 @@ fn read_target<'t, S: Symbols>(
     tokens: &'t [Token],
 ) -> Read<'t, Filled>
     requires { 2 ≤ reach }
-    ensures { MatchOption result (target (S.values symbols.now) (S.place symbols.now) line.now reach annul (words_of line.now tokens.now) ≡ None) (λ x. target (S.values symbols.now) (S.place symbols.now) line.now reach annul (words_of line.now tokens.now) ≡ Some (x.0, words_of line.now x.1.now)) }
+    ensures { MatchOption result
+        (target (S.values symbols.now) (S.place symbols.now) line.now reach annul (words_of line.now tokens.now) ≡ None)
+        (λ x. target (S.values symbols.now) (S.place symbols.now) line.now reach annul (words_of line.now tokens.now) ≡
+        Some (x.0, words_of line.now x.1.now)) }
 {
     let (place, rest) = read_expression(symbols, line, tokens)?;
     let words = displacement(reach, symbols.here(), place);
@@ -43,7 +48,10 @@ fn read_target<'t, S: Symbols>(
 
 #[tactic(auto, unfolding(crate::specs::Statements::read))]
 fn read_branch<'t, S: Symbols>(symbols: &S, line: &[u8], tokens: &'t [Token]) -> Read<'t, Filled>
-    ensures { MatchOption result (read (S.values symbols.now) (S.place symbols.now) line.now parts.Branch (words_of line.now tokens.now) ≡ None) (λ x. read (S.values symbols.now) (S.place symbols.now) line.now parts.Branch (words_of line.now tokens.now) ≡ Some (x.0, words_of line.now x.1.now)) }
+    ensures { MatchOption result
+        (read (S.values symbols.now) (S.place symbols.now) line.now parts.Branch (words_of line.now tokens.now) ≡ None)
+        (λ x. read (S.values symbols.now) (S.place symbols.now) line.now parts.Branch (words_of line.now tokens.now) ≡
+        Some (x.0, words_of line.now x.1.now)) }
 {
     match after_annul(line, tokens) {
         Some(rest) => read_target(0x80_0000, true, symbols, line, rest),
@@ -58,7 +66,10 @@ fn read<'t, S: Symbols>(
     line: &[u8],
     tokens: &'t [Token],
 ) -> Read<'t, Filled>
-    ensures { MatchOption result (read (S.values symbols.now) (S.place symbols.now) line.now part.now (words_of line.now tokens.now) ≡ None) (λ x. read (S.values symbols.now) (S.place symbols.now) line.now part.now (words_of line.now tokens.now) ≡ Some (x.0, words_of line.now x.1.now)) }
+    ensures { MatchOption result
+        (read (S.values symbols.now) (S.place symbols.now) line.now part.now (words_of line.now tokens.now) ≡ None)
+        (λ x. read (S.values symbols.now) (S.place symbols.now) line.now part.now (words_of line.now tokens.now) ≡
+        Some (x.0, words_of line.now x.1.now)) }
 {
     match part {
         Part::Register(field) => match register_first(line, tokens) {
@@ -97,7 +108,10 @@ fn added(first: Filled, second: Filled) -> Filled
 
 /// The operands behind commas, to the end of the statement.
 fn behind<S: Symbols>(parts: &[Part], symbols: &S, line: &[u8], tokens: &[Token]) -> Option<Filled>
-    ensures { MatchOption result (behind (S.values symbols.now) (S.place symbols.now) line.now parts.now (words_of line.now tokens.now) ≡ None) (λ x. behind (S.values symbols.now) (S.place symbols.now) line.now parts.now (words_of line.now tokens.now) ≡ Some (x, [])) }
+    ensures { MatchOption result
+        (behind (S.values symbols.now) (S.place symbols.now) line.now parts.now (words_of line.now tokens.now) ≡ None)
+        (λ x. behind (S.values symbols.now) (S.place symbols.now) line.now parts.now (words_of line.now tokens.now) ≡
+        Some (x, [])) }
 {
     match parts.split_first() {
         Some((part, parts)) => {
@@ -116,7 +130,10 @@ pub fn operands_of<S: Symbols>(
     line: &[u8],
     tokens: &[Token],
 ) -> Option<Filled>
-    ensures { MatchOption result (operands_of (S.values symbols.now) (S.place symbols.now) line.now parts.now (words_of line.now tokens.now) ≡ None) (λ x. operands_of (S.values symbols.now) (S.place symbols.now) line.now parts.now (words_of line.now tokens.now) ≡ Some (x, [])) }
+    ensures { MatchOption result
+        (operands_of (S.values symbols.now) (S.place symbols.now) line.now parts.now (words_of line.now tokens.now) ≡
+        None) (λ x. operands_of (S.values symbols.now) (S.place symbols.now) line.now parts.now
+        (words_of line.now tokens.now) ≡ Some (x, [])) }
 {
     match parts.split_first() {
         Some((part, parts)) => {

@@ -1,7 +1,9 @@
 // Statements read as instructions.
-ghost use Rattle.std.specs.Prelude.{◌≡◌, ℕ, ◌+◌, ◌*◌, ◌/◌, ◌%◌, ◌^◌, ◌<◌, List, All, Option, MatchOption, MatchResult, [], ◌∷◌, get_or, map, Ok, Err, Some, None};
+ghost use Rattle.std.specs.Prelude.{◌≡◌, ℕ, ◌+◌, ◌*◌, ◌/◌, ◌%◌, ◌^◌, ◌<◌, List, All, Option, MatchOption, MatchResult};
+ghost use Rattle.std.specs.Prelude.{[], ◌∷◌, get_or, map, Ok, Err, Some, None};
 ghost use Rattle.v8_forms.specs.Forms.{Form, forms};
-ghost use Rattle.v8_syntax.specs.Statements.{words_of, count_of, first_of, is_symbolic, named_meaning, or, set, set_instructions, set_operands, sethi, source_meaning, statement_length};
+ghost use Rattle.v8_syntax.specs.Statements.{words_of, count_of, first_of, is_symbolic, named_meaning, or, set};
+ghost use Rattle.v8_syntax.specs.Statements.{set_instructions, set_operands, sethi, source_meaning, statement_length};
 ghost use Rattle.v8_syntax.specs.declared.fault.SyntaxFault.TheVariants.{UnknownMnemonic};
 
 use crate::expression::{Base, Expression, after_sign, read_expression, register_first, word_in};
@@ -64,7 +66,8 @@ fn is_symbolic(base: Base) -> bool
 
 #[tactic(auto, unfolding(crate::specs::Statements::set_operands))]
 fn set_operands<S: Symbols>(symbols: &S, line: &[u8], tokens: &[Token]) -> Option<(Expression, Reg)>
-    ensures { MatchOption result (set_operands (S.values symbols.now) line.now (words_of line.now tokens.now) ≡ None) (λ x. set_operands (S.values symbols.now) line.now (words_of line.now tokens.now) ≡ Some (x, [])) }
+    ensures { MatchOption result (set_operands (S.values symbols.now) line.now (words_of line.now tokens.now) ≡ None)
+        (λ x. set_operands (S.values symbols.now) line.now (words_of line.now tokens.now) ≡ Some (x, [])) }
 {
     let (value, after) = read_expression(symbols, line, tokens)?;
     let more = after_sign(b',', line, after)?;
@@ -76,7 +79,8 @@ fn set_operands<S: Symbols>(symbols: &S, line: &[u8], tokens: &[Token]) -> Optio
 
 #[tactic(auto, unfolding(crate::specs::Statements::set))]
 fn set<S: Symbols>(symbols: &S, line: &[u8], tokens: &[Token]) -> Result<Instructions, SyntaxFault>
-    ensures { MatchResult result (λ v. set (S.values symbols.now) line.now (words_of line.now tokens.now) ≡ Ok v.items) (λ f. set (S.values symbols.now) line.now (words_of line.now tokens.now) ≡ Err f) }
+    ensures { MatchResult result (λ v. set (S.values symbols.now) line.now (words_of line.now tokens.now) ≡ Ok v.items)
+        (λ f. set (S.values symbols.now) line.now (words_of line.now tokens.now) ≡ Err f) }
 {
     let Some((value, rd)) = set_operands(symbols, line, tokens) else {
         return Err(SyntaxFault::Shape);
@@ -95,7 +99,9 @@ fn first_of<S: Symbols>(
     tokens: &[Token],
 ) -> Result<u32, SyntaxFault>
     requires { All (λ k. k < 111) numbers.now }
-    ensures { (d : Form) → result ≡ first_of (S.values symbols.now) (S.place symbols.now) line.now fault (map (λ k. get_or forms k d) numbers.now) name.now (words_of line.now tokens.now) }
+    ensures { (d : Form) →
+        result ≡ first_of (S.values symbols.now) (S.place symbols.now) line.now fault
+        (map (λ k. get_or forms k d) numbers.now) name.now (words_of line.now tokens.now) }
 {
     let mut fault = fault;
     for number in numbers {
@@ -110,15 +116,16 @@ fn first_of<S: Symbols>(
     Err(fault)
 }
 
-/// The word of the first of all forms that has the name and that the operands fit. Only forms whose names begin as this one are
-/// looked at.
+/// The word of the first of all forms that has the name and that the operands fit. Only forms whose names begin as this
+/// one are looked at.
 fn word_of_statement<S: Symbols>(
     name: &[u8],
     symbols: &S,
     line: &[u8],
     tokens: &[Token],
 ) -> Result<u32, SyntaxFault>
-    ensures { result ≡ first_of (S.values symbols.now) (S.place symbols.now) line.now UnknownMnemonic forms name.now (words_of line.now tokens.now) }
+    ensures { result ≡ first_of (S.values symbols.now) (S.place symbols.now) line.now UnknownMnemonic forms name.now
+        (words_of line.now tokens.now) }
 {
     let numbers = numbers_from(sign_byte(name));
     let fault = SyntaxFault::UnknownMnemonic;
@@ -132,7 +139,11 @@ fn named_meaning<S: Symbols>(
     line: &[u8],
     tokens: &[Token],
 ) -> Result<Instructions, SyntaxFault>
-    ensures { MatchResult result (λ v. named_meaning (S.values symbols.now) (S.place symbols.now) line.now name.now (words_of line.now tokens.now) ≡ Ok v.items) (λ f. named_meaning (S.values symbols.now) (S.place symbols.now) line.now name.now (words_of line.now tokens.now) ≡ Err f) }
+    ensures { MatchResult result
+        (λ v. named_meaning (S.values symbols.now) (S.place symbols.now) line.now name.now
+        (words_of line.now tokens.now) ≡ Ok v.items)
+        (λ f. named_meaning (S.values symbols.now) (S.place symbols.now) line.now name.now
+        (words_of line.now tokens.now) ≡ Err f) }
 {
     if is_same(name, b"set") {
         return set(symbols, line, tokens);
@@ -144,14 +155,15 @@ fn named_meaning<S: Symbols>(
 /// The instructions of a statement, one or two: the mnemonic and operands that `tokens` are in `line` (appendix A).
 ///
 /// # Errors
-/// The fault of least number: `UnknownMnemonic`, also where no name comes first; `Shape` of the operands; `Immediate` out of its
-/// range; `UnknownSymbol`; `Target` out of reach, or not a multiple of 4 away.
+/// The fault of least number: `UnknownMnemonic`, also where no name comes first; `Shape` of the operands; `Immediate`
+/// out of its range; `UnknownSymbol`; `Target` out of reach, or not a multiple of 4 away.
 pub fn parse_instr<S: Symbols>(
     line: &[u8],
     tokens: &[Token],
     symbols: &S,
 ) -> Result<ArrayVec<Instr, 2>, SyntaxFault>
-    ensures { MatchResult result (λ v. source_meaning (S.values symbols.now) (S.place symbols.now) line.now tokens.now ≡ Ok v.items) (λ f. source_meaning (S.values symbols.now) (S.place symbols.now) line.now tokens.now ≡ Err f) }
+    ensures { MatchResult result (λ v. source_meaning (S.values symbols.now) (S.place symbols.now) line.now tokens.now ≡
+        Ok v.items) (λ f. source_meaning (S.values symbols.now) (S.place symbols.now) line.now tokens.now ≡ Err f) }
 {
     match name_first(line, tokens) {
         Some((name, rest)) => named_meaning(name, symbols, line, rest),
@@ -187,8 +199,8 @@ fn set_length(line: &[u8], tokens: &[Token]) -> usize
     }
 }
 
-/// How many instructions a statement takes, 1 or 2, before any symbol is known: `set` of a symbol takes 2, whatever the symbol
-/// is worth. A statement with a fault counts as 1.
+/// How many instructions a statement takes, 1 or 2, before any symbol is known: `set` of a symbol takes 2, whatever the
+/// symbol is worth. A statement with a fault counts as 1.
 pub fn length_of(line: &[u8], tokens: &[Token]) -> usize
     ensures { result ≡ statement_length line.now tokens.now }
 {

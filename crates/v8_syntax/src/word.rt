@@ -1,7 +1,9 @@
 // What each token of a statement is.
-ghost use Rattle.std.specs.Prelude.{◌≡◌, ℕ, ◌+◌, ◌-◌, ◌*◌, ◌<◌, ◌≤◌, List, Option, IfSome, MatchOption, Some, None, [], ◌∷◌, slice_index, drop, map};
+ghost use Rattle.std.specs.Prelude.{◌≡◌, ℕ, ◌+◌, ◌-◌, ◌*◌, ◌<◌, ◌≤◌, List, Option, IfSome, MatchOption, Some, None, []};
+ghost use Rattle.std.specs.Prelude.{◌∷◌, slice_index, drop, map};
 ghost use Rattle.std.specs.Str.{bytes_eq};
-ghost use Rattle.v8_syntax.specs.Statements.{name_first, beside, bytes_between, groups, small_number, register_named, percent_word, name_kind, word_of, words_of};
+ghost use Rattle.v8_syntax.specs.Statements.{name_first, beside, bytes_between, groups, small_number, register_named};
+ghost use Rattle.v8_syntax.specs.Statements.{percent_word, name_kind, word_of, words_of};
 
 use sbx_text::{Kind, Token};
 use v8_forms::Special;
@@ -34,7 +36,8 @@ static SPECIALS: [(&str, Special); 4] = [
     ("tbr", Special::Tbr),
 ];
 
-/// The bytes of a line from the byte `start` up to the byte `stop`, as a token has them; none where the line has no such bytes.
+/// The bytes of a line from the byte `start` up to the byte `stop`, as a token has them; none where the line has no
+/// such bytes.
 pub fn bytes_between(line: &[u8], start: usize, stop: usize) -> &[u8]
     ensures { result.now ≡ bytes_between line.now start stop }
 {
@@ -99,8 +102,8 @@ fn small_number(digits: &[u8]) -> Option<u8>
     }
 }
 
-/// The register of a name without its `%`: `g`, `o`, `l` or `i` and a digit 0 to 7; `sp`; `fp`; or `r0` to `r31`, with no 0 in
-/// front (appendix A, "Registers"). `None` for any other name.
+/// The register of a name without its `%`: `g`, `o`, `l` or `i` and a digit 0 to 7; `sp`; `fp`; or `r0` to `r31`, with
+/// no 0 in front (appendix A, "Registers"). `None` for any other name.
 pub fn register_named(name: &[u8]) -> Option<Reg>
     ensures { result ≡ register_named name.now }
 {
@@ -175,7 +178,8 @@ pub fn word_of(line: &[u8], token: &Token) -> Word
 /// The bytes of the name that comes first, and the tokens after it.
 #[tactic(auto, unfolding(crate::specs::Statements::word_of))]
 pub fn name_first<'l, 't>(line: &'l [u8], tokens: &'t [Token]) -> Option<(&'l [u8], &'t [Token])>
-    ensures { MatchOption result (name_first line.now (words_of line.now tokens.now) ≡ None) (λ x. name_first line.now (words_of line.now tokens.now) ≡ Some (x.0.now, words_of line.now x.1.now)) }
+    ensures { MatchOption result (name_first line.now (words_of line.now tokens.now) ≡ None)
+        (λ x. name_first line.now (words_of line.now tokens.now) ≡ Some (x.0.now, words_of line.now x.1.now)) }
 {
     let (first, rest) = tokens.split_first()?;
     match first.kind {
@@ -186,7 +190,8 @@ pub fn name_first<'l, 't>(line: &'l [u8], tokens: &'t [Token]) -> Option<(&'l [u
 
 /// The first word, and the tokens after it.
 pub fn front<'t>(line: &[u8], tokens: &'t [Token]) -> Option<(Word, &'t [Token])>
-    ensures { MatchOption result (words_of line.now tokens.now ≡ []) (λ x. words_of line.now tokens.now ≡ x.0 ∷ words_of line.now x.1.now) }
+    ensures { MatchOption result (words_of line.now tokens.now ≡ [])
+        (λ x. words_of line.now tokens.now ≡ x.0 ∷ words_of line.now x.1.now) }
 {
     let (first, rest) = tokens.split_first()?;
     Some((word_of(line, first), rest))

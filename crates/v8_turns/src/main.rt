@@ -1,5 +1,6 @@
-//! Compares turns and walks with what the machine does: prints each line of standard input that differs, and how many agree, of each row of
-//! the format table and of each type of trap. `vectors/README.md` says how lines are read, and where they come from.
+//! Compares turns and walks with what the machine does: prints each line of standard input that differs, and how many
+//! agree, of each row of the format table and of each type of trap. `vectors/README.md` says how lines are read, and
+//! where they come from.
 #![tactic(auto)]
 
 mod fields;

@@ -32,8 +32,8 @@ const REGISTERS: usize = 16 * 32;
 /// The words of RAM that lines name: its first 64 KiB.
 pub const WORDS: usize = 0x4000;
 
-/// A state: `annul` is the annul flag, `word` the instruction that a line has, and `windows` has outs and locals of each window, one after
-/// the other.
+/// A state: `annul` is the annul flag, `word` the instruction that a line has, and `windows` has outs and locals of
+/// each window, one after the other.
 #[derive(Clone, Drop)]
 pub struct State {
     pub control: Control,
@@ -93,7 +93,8 @@ impl State {
         true
     }
 
-    /// Sets a word of RAM, whose place stands in brackets, or a register: `g3`, or `o5.31` and `l5.31` for out 5 and local 5 of window 31.
+    /// Sets a word of RAM, whose place stands in brackets, or a register: `g3`, or `o5.31` and `l5.31` for out 5 and
+    /// local 5 of window 31.
     fn put_place(&mut self, name: &str, word: u32) -> bool {
         if let Some(place) = name.strip_prefix('[') {
             return put_word(&mut self.memory, place, word);

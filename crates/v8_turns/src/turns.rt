@@ -61,7 +61,8 @@ fn read_after(after: &mut State, text: &str) -> Option<Told> {
     }
 }
 
-/// The turn of a line: `WINDOWS FIELD .. -> EVENT FIELD ..`, whose fields behind the arrow tell what is another than before.
+/// The turn of a line: `WINDOWS FIELD .. -> EVENT FIELD ..`, whose fields behind the arrow tell what is another than
+/// before.
 pub fn read_turn(alloc: Global, ground: &Vec<u32>, text: &str) -> Result<Option<Case>, AllocError> {
     let mut before = State::new(alloc, ground)?;
     let Some((front, back)) = text.split_once(" -> ") else {

@@ -17,9 +17,10 @@ enum Kind {
     Fetch,
 }
 
-/// What a line tells of an access: the context table and the context, what makes it, its access type (AT of the fault status, 0 to 7),
-/// its address, the address of the instruction that makes it, and the word that is stored or has to be loaded or fetched; where it goes
-/// and the level of the page's entry; or the fault status, which is 0 where it is done.
+/// What a line tells of an access: the context table and the context, what makes it, its access type (AT of the fault
+/// status, 0 to 7), its address, the address of the instruction that makes it, and the word that is stored or has to be
+/// loaded or fetched; where it goes and the level of the page's entry; or the fault status, which is 0 where it is
+/// done.
 #[derive(Clone, Copy)]
 struct Walk {
     table: u64,
@@ -129,7 +130,8 @@ impl Walk {
         }
     }
 
-    /// The instruction that makes the access. Identifiers of spaces: 8 and 9 user's and supervisor's instructions, 10 and 11 their data.
+    /// The instruction that makes the access. Identifiers of spaces: 8 and 9 user's and supervisor's instructions, 10
+    /// and 11 their data.
     fn instruction(&self) -> u32 {
         let space = if self.at & 2 != 0 { 8 } else { 10 } + (self.at & 1);
         let base = if self.kind == Kind::Store {

@@ -36,7 +36,9 @@ words_next ws i d n all answer l before word decides =
       words = All-more (λ p. IsWord p.now) ws i d l before.words word.0;
       spelled = (
         λ t. All-more (λ p. IsSpelledAgain (digits_value 16 p.now)) ws i d l (before.spelled.0 (left all answer t)) (decides'.0 (right all answer t)),
-        λ whole. let parts = All-pop (λ p. IsSpelledAgain (digits_value 16 p.now)) (take (i + 1) ws) (take i ws) (Some (get_or ws i d)) (take_more ws i d l) whole in both all answer (before.spelled.1 parts.0) (decides'.1 parts.1),
+        λ whole. let parts =
+            All-pop (λ p. IsSpelledAgain (digits_value 16 p.now)) (take (i + 1) ws) (take i ws) (Some (get_or ws i d)) (take_more ws i d l) whole in
+            both all answer (before.spelled.1 parts.0) (decides'.1 parts.1),
       );
     }
 

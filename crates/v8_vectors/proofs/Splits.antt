@@ -11,7 +11,8 @@ Precedes seen text rest = (ps : List (List ℕ)) → SplitsInto rest ps → Spli
 
 -- what `split_whitespace` says of an item, as the record
 pub starts_with_piece : (bs p rest : List ℕ)
-    → (gap : List ℕ) × (bs ≡ gap ++ (p ++ rest)) × (0 < length p) × NoCharPasses is_not_whitespace gap × NoCharPasses is_whitespace p × ((more : List ℕ) × EmptyOrStartsWithPassing is_whitespace rest more)
+    → (gap : List ℕ) × (bs ≡ gap ++ (p ++ rest)) × (0 < length p) × NoCharPasses is_not_whitespace gap × NoCharPasses is_whitespace p
+    × ((more : List ℕ) × EmptyOrStartsWithPassing is_whitespace rest more)
     → StartsWithPiece bs p rest
 starts_with_piece bs p rest item =
     record { gap = item.0; split = item.1; nonempty = item.2; gap_is_blank = item.3; piece_has_no_space = item.4; rest_starts_blank = item.5 }

@@ -1,9 +1,9 @@
 //! Compares results and words with those of other tools, a line each on standard input: prints each line that differs,
 //! and how many agree. Which tools gave them is told at `results` and `words`.
 //!
-//! A line with a tab has words in hexadecimal before it, and the statement that they were made of behind it. Any other is
-//! `op a b icc y value icc y`: the operation, its operands, the codes and Y before it, and the value, the codes and Y after
-//! it, in hexadecimal; codes are one digit, N 8, Z 4, V 2, C 1.
+//! A line with a tab has words in hexadecimal before it, and the statement that they were made of behind it. Any other
+//! is `op a b icc y value icc y`: the operation, its operands, the codes and Y before it, and the value, the codes and
+//! Y after it, in hexadecimal; codes are one digit, N 8, Z 4, V 2, C 1.
 #![tactic(auto)]
 
 ghost use Rattle.std.specs.Prelude.{◌≡◌, ◌^◌, ◌<◌, ◌≤◌, ◌↔◌, IfOk, IfSome, IsNone, IsTrue, MatchOption};
@@ -181,8 +181,8 @@ fn compare(rt: &HostRuntime, line: &str) -> io::Result<bool> {
     Ok(false)
 }
 
-/// Compares the lines of a reader, and gives how many agree, and how many there are. The reader's type stays open here, so that what
-/// stands in it takes no part in the proof.
+/// Compares the lines of a reader, and gives how many agree, and how many there are. The reader's type stays open here,
+/// so that what stands in it takes no part in the proof.
 fn compare_lines<R: BufRead + Drop>(rt: &HostRuntime, reader: R) -> io::Result<(u64, u64)> {
     let mut agreed = 0u64;
     let mut lines = 0u64;

@@ -1,13 +1,14 @@
-//! Results of qemu-sparc (QEMU 7.2, user mode), by programs that set the condition codes and Y, run one instruction, and
-//! print what it left.
+//! Results of qemu-sparc (QEMU 7.2, user mode), by programs that set the condition codes and Y, run one instruction,
+//! and print what it left.
 ghost use Rattle.std.specs.Prelude.{◌≡◌, IsTrue, ◌↔◌};
-ghost use Rattle.v8_vectors.specs.Agreement.{Holds, IsGivenBy, IsGivenUnlessOverflow, IsQuotientOf, unless_overflow, untrapped};
+ghost use Rattle.v8_vectors.specs.Agreement.{Holds, IsGivenBy, IsGivenUnlessOverflow, IsQuotientOf, unless_overflow};
+ghost use Rattle.v8_vectors.specs.Agreement.{untrapped};
 
 use v8_alu::{AluOut, Division, Op, TaggedOp, alu, divide, tagged_tv};
 use v8_word::Icc;
 
-/// What was run. A tagged operation is one that doesn't trap; the form that traps has the same result where the overflow
-/// flag stays clear (appendix B, "Tagged Add Instructions").
+/// What was run. A tagged operation is one that doesn't trap; the form that traps has the same result where the
+/// overflow flag stays clear (appendix B, "Tagged Add Instructions").
 #[derive(Clone, Copy)]
 pub enum Operation {
     Plain(Op),
@@ -62,8 +63,8 @@ impl Case {
         tagged_tv(op, self.a, self.b, self.icc, self.y) == unless_overflow(self.there)
     }
 
-    /// Whether the operation gives here what it gave there: value, codes and Y. A division has to have a quotient, and the
-    /// trapping form of a tagged operation this result, or none at an overflow.
+    /// Whether the operation gives here what it gave there: value, codes and Y. A division has to have a quotient, and
+    /// the trapping form of a tagged operation this result, or none at an overflow.
     pub fn holds(&self) -> bool
         ensures { IsTrue result ↔ Holds self.now.operation self.now }
     {

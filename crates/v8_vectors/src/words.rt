@@ -1,5 +1,5 @@
-//! Words that GNU as (binutils 2.40, options -32 -Av8) gives of a statement, but for `tst`, `btst` and the plain `restore`,
-//! which have the operands of this language's own forms; their unused bits are 0.
+//! Words that GNU as (binutils 2.40, options -32 -Av8) gives of a statement, but for `tst`, `btst` and the plain
+//! `restore`, which have the operands of this language's own forms; their unused bits are 0.
 ghost use Rattle.std.specs.Prelude.{IsTrue, ◌↔◌};
 ghost use Rattle.v8_vectors.specs.Agreement.{IsSpelledAgain};
 

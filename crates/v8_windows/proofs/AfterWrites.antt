@@ -16,7 +16,8 @@ word_with v w k x w' k' a b = by_window (w' == w) refl
         ap (λ xs. get_or xs k' 0) (get_or-set_other v.words w w' (slice_set (get_or v.words w []) k x) [] other) ∙ rw e refl
     by_window true e =
         let same : w' ≡ w = grind (arith, nat_tests) in
-        let row : get_or (slice_set v.words w (slice_set (get_or v.words w []) k x)) w' [] ≡ slice_set (get_or v.words w []) k x = rw same (get_or-set_same v.words w (slice_set (get_or v.words w []) k x) [] a) in
+        let row : get_or (slice_set v.words w (slice_set (get_or v.words w []) k x)) w' [] ≡ slice_set (get_or v.words w []) k x =
+        rw same (get_or-set_same v.words w (slice_set (get_or v.words w []) k x) [] a) in
         ap (λ xs. get_or xs k' 0) row ∙ by_place (k' == k) refl
       where
         by_place : (t : Bool) → (k' == k) ≡ t → get_or (slice_set (get_or v.words w []) k x) k' 0 ≡ (if (w' == w) && (k' == k) then x else word_at v w' k')

@@ -12,7 +12,8 @@ one_more n i j xs e there =
 
 -- eight words one by one
 pub eight_listed : (at : ℕ) (xs : List ℕ) → at + 8 ≤ length xs →
-    slice_index xs at ∷ slice_index xs (at + 1) ∷ slice_index xs (at + 2) ∷ slice_index xs (at + 3) ∷ slice_index xs (at + 4) ∷ slice_index xs (at + 5) ∷ slice_index xs (at + 6) ∷ slice_index xs (at + 7) ∷ [] ≡ eight at xs
+    slice_index xs at ∷ slice_index xs (at + 1) ∷ slice_index xs (at + 2) ∷ slice_index xs (at + 3) ∷ slice_index xs (at + 4) ∷ slice_index xs (at + 5)
+    ∷ slice_index xs (at + 6) ∷ slice_index xs (at + 7) ∷ [] ≡ eight at xs
 eight_listed at xs room =
     sym (one_more 7 at (at + 1) xs (omega arith) (omega arith)
     ∙ ap (λ t. slice_index xs at ∷ t) (one_more 6 (at + 1) (at + 2) xs (omega arith) (omega arith)

@@ -24,7 +24,8 @@ locals_kept n w locals flat here h f = halves_set n w locals (eight 16 flat) h (
 pub shown_globals : (flat : List ℕ) → AreRegisters flat → AreGlobals (eight 0 flat)
 shown_globals flat f = let half = eight_half 0 flat f (omega arith) in record { count = half.count; fit = half.fit }
 
-pub shown_file : (n w mask : ℕ) (outs locals : List (List ℕ)) (flat : List ℕ) → 4 ≤ n → n ≤ 32 → w < n → mask < 2 ^ n → AreRegisters flat → AreHalves n outs → AreHalves n locals → IsFile n (shown n outs locals flat w mask)
+pub shown_file : (n w mask : ℕ) (outs locals : List (List ℕ)) (flat : List ℕ) → 4 ≤ n → n ≤ 32 → w < n → mask < 2 ^ n → AreRegisters flat → AreHalves n outs →
+    AreHalves n locals → IsFile n (shown n outs locals flat w mask)
 shown_file n w mask outs locals flat few many here small f o l =
     record {
       few = few;
@@ -124,7 +125,9 @@ pub entered_registers : (n w v : ℕ) (outs locals : List (List ℕ)) (flat : Li
 entered_registers n w v outs locals flat few here there f o l =
     let outs_fine = outs_kept n w outs flat few here o f in
     let locals_fine = locals_kept n w locals flat here l f in
-    registers_kept (eight 0 flat) (get_or (with_outs n outs flat w) v []) (get_or (with_locals locals flat w) v []) (get_or (with_outs n outs flat w) (above n v) []) (eight_half 0 flat f (omega arith)) (outs_fine.each v there) (locals_fine.each v there) (outs_fine.each (above n v) (above_less n v few there))
+    registers_kept (eight 0 flat) (get_or (with_outs n outs flat w) v []) (get_or (with_locals locals flat w) v [])
+    (get_or (with_outs n outs flat w) (above n v) []) (eight_half 0 flat f (omega arith)) (outs_fine.each v there) (locals_fine.each v there)
+    (outs_fine.each (above n v) (above_less n v few there))
     (eight_index 0 0 flat (omega arith) ∙ f.zero)
 
 -- What is known of the fields of a file whose current window has become v, and was another one in old.
@@ -200,7 +203,8 @@ reads_out : (n w mask : ℕ) (outs locals : List (List ℕ)) (flat : List ℕ) (
     word_at (shown n outs locals flat w mask) w k ≡ slice_index flat (8 + k)
 reads_out n w mask outs locals flat k few here f o l small =
     let row : get_or (rows_of (with_outs n outs flat w) (with_locals locals flat w)) w [] ≡ eight 8 flat ++ get_or (with_locals locals flat w) w [] =
-    row_is (with_outs n outs flat w) (with_locals locals flat w) w (same_length n w outs locals flat o l) ∙ ap (λ t. t ++ get_or (with_locals locals flat w) w []) (outs_here n w outs flat few here o) in
+    row_is (with_outs n outs flat w) (with_locals locals flat w) w (same_length n w outs locals flat o l)
+    ∙ ap (λ t. t ++ get_or (with_locals locals flat w) w []) (outs_here n w outs flat few here o) in
     ap (λ t. slice_index t k) row
     ∙ get_or_append_left (eight 8 flat) (get_or (with_locals locals flat w) w []) 0 k (omega (arith, eight_length 8 flat (omega (arith, f.count))))
     ∙ eight_index 8 k flat small
@@ -390,18 +394,22 @@ writes n w mask outs locals flat r x few here f o l low small = by_kind (kind_of
 
     by_kind : Kind r → shown n outs locals new w mask ≡ with_reg n (shown n outs locals flat w mask) r x
     by_kind (Global high) =
-        by_halves n w mask outs locals new (slice_set (eight 0 flat) r x) (eight 8 flat) (eight 16 flat) (eight 24 flat) (at 0 r (omega arith)) (beyond 8 high) (beyond 16 (omega arith)) (beyond 24 (omega arith))
+        by_halves n w mask outs locals new (slice_set (eight 0 flat) r x) (eight 8 flat) (eight 16 flat) (eight 24 flat) (at 0 r (omega arith)) (beyond 8 high)
+        (beyond 16 (omega arith)) (beyond 24 (omega arith))
         ∙ sym (with_global n (shown n outs locals flat w mask) r x low high)
     by_kind (Out k less e) =
-        by_halves n w mask outs locals new (eight 0 flat) (slice_set (eight 8 flat) k x) (eight 16 flat) (eight 24 flat) (below 0 (omega arith)) (at 8 k e) (beyond 16 (omega arith)) (beyond 24 (omega arith))
+        by_halves n w mask outs locals new (eight 0 flat) (slice_set (eight 8 flat) k x) (eight 16 flat) (eight 24 flat) (below 0 (omega arith)) (at 8 k e)
+        (beyond 16 (omega arith)) (beyond 24 (omega arith))
         ∙ writes_out n w mask outs locals flat k x few here f o l less
         ∙ sym (with_window n (shown n outs locals flat w mask) r k x (omega arith) e)
     by_kind (Local k less e) =
-        by_halves n w mask outs locals new (eight 0 flat) (eight 8 flat) (slice_set (eight 16 flat) k x) (eight 24 flat) (below 0 (omega arith)) (below 8 (omega arith)) (at 16 k e) (beyond 24 (omega arith))
+        by_halves n w mask outs locals new (eight 0 flat) (eight 8 flat) (slice_set (eight 16 flat) k x) (eight 24 flat) (below 0 (omega arith))
+        (below 8 (omega arith)) (at 16 k e) (beyond 24 (omega arith))
         ∙ writes_local n w mask outs locals flat k x few here f o l less
         ∙ sym (with_window n (shown n outs locals flat w mask) r (8 + k) x (omega arith) (omega arith))
     by_kind (In k less e) =
-        by_halves n w mask outs locals new (eight 0 flat) (eight 8 flat) (eight 16 flat) (slice_set (eight 24 flat) k x) (below 0 (omega arith)) (below 8 (omega arith)) (below 16 (omega arith)) (at 24 k e)
+        by_halves n w mask outs locals new (eight 0 flat) (eight 8 flat) (eight 16 flat) (slice_set (eight 24 flat) k x) (below 0 (omega arith))
+        (below 8 (omega arith)) (below 16 (omega arith)) (at 24 k e)
         ∙ writes_in n w mask outs locals flat k x few here f o l less
         ∙ sym (with_above n (shown n outs locals flat w mask) r k x less e)
 

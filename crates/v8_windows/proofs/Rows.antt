@@ -2,7 +2,8 @@
 use Rattle.std.proofs.Common.{◌≡◌, ◌≢◌, ℕ, zero, suc, ◌-◌, ◌^◌, ◌<◌, ◌≤◌, ◌⊎◌, inl, inr, Bool, true, false, List, [], ◌∷◌, ◌++◌, length, get_or, replicate, refl, sym, ap, ◌∙◌, subst, arith, lit<}
 use Rattle.std.specs.Prelude.{slice_index, slice_set, ◌==◌}
 use Rattle.std.proofs.lemmas.Bool.Decides.{nat_tests}
-use Rattle.std.proofs.lemmas.List.{get_or-set_same, get_or-set_other, length-set, length-append, get_or_append_left, get_or-append_right, get_or_past, get_or-replicate, length-replicate, set-append_left, set-append_right, set-get_or}
+use Rattle.std.proofs.lemmas.List.{get_or-set_same, get_or-set_other, length-set, length-append, get_or_append_left, get_or-append_right, get_or_past}
+use Rattle.std.proofs.lemmas.List.{get_or-replicate, length-replicate, set-append_left, set-append_right, set-get_or}
 use Rattle.v8_windows.specs.Halves.{rows_of, IsHalf, AreHalves}
 use Rattle.v8_windows.specs.Windows.{AreRows}
 
@@ -72,7 +73,8 @@ rows_are n outs locals h l =
               let is : slice_index (get_or outs w [] ++ get_or locals w []) k ≡ slice_index (get_or outs w []) k = get_or_append_left (get_or outs w []) (get_or locals w []) 0 k low in
               rw is (half_fits n w k outs h)
           | inr high ↦
-              let is : slice_index (get_or outs w [] ++ get_or locals w []) k ≡ slice_index (get_or locals w []) (k - length (get_or outs w [])) = get_or-append_right (get_or outs w []) (get_or locals w []) (length (get_or outs w [])) k 0 refl high in
+              let is : slice_index (get_or outs w [] ++ get_or locals w []) k ≡ slice_index (get_or locals w []) (k - length (get_or outs w [])) =
+              get_or-append_right (get_or outs w []) (get_or locals w []) (length (get_or outs w [])) k 0 refl high in
               rw is (half_fits n w (k - length (get_or outs w [])) locals l)
         ]
 

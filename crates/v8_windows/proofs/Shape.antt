@@ -37,7 +37,8 @@ globals_written globals r x h low small =
     record { count = length-set globals r x ∙ h.count; fit = λ i. fit_written globals r x i h.fit there small }
 
 -- the row of window v after a write to window w
-row_by : (n : ℕ) (words : List (List ℕ)) (w k x v : ℕ) (P : List ℕ → Type 0) → w < length words → P (slice_set (get_or words w []) k x) → P (get_or words v []) → P (get_or (slice_set words w (slice_set (get_or words w []) k x)) v [])
+row_by : (n : ℕ) (words : List (List ℕ)) (w k x v : ℕ) (P : List ℕ → Type 0) → w < length words → P (slice_set (get_or words w []) k x) →
+    P (get_or words v []) → P (get_or (slice_set words w (slice_set (get_or words w []) k x)) v [])
 row_by n words w k x v P there here elsewhere = by_window (v == w) refl
   where
     by_window : (t : Bool) → (v == w) ≡ t → P (get_or (slice_set words w (slice_set (get_or words w []) k x)) v [])

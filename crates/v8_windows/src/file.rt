@@ -1,17 +1,19 @@
 //! The register file.
-ghost use Rattle.std.specs.Prelude.{if◌then◌else◌, ◌≡◌, ℕ, ◌+◌, ◌-◌, ◌%◌, ◌^◌, ◌<◌, ◌≤◌, ◌↔◌, IsTrue, not, replicate, [], ◌∷◌, length};
-ghost use Rattle.v8_windows.specs.Windows.{IsFile, reg_of, with_reg, below, above, can_enter, is_masked, moved, trapped};
+ghost use Rattle.std.specs.Prelude.{if◌then◌else◌, ◌≡◌, ℕ, ◌+◌, ◌-◌, ◌%◌, ◌^◌, ◌<◌, ◌≤◌, ◌↔◌, IsTrue, not, replicate};
+ghost use Rattle.std.specs.Prelude.{[], ◌∷◌, length};
+ghost use Rattle.v8_windows.specs.Windows.{IsFile, reg_of, with_reg, below, above, can_enter, is_masked, moved};
+ghost use Rattle.v8_windows.specs.Windows.{trapped};
 
 use crate::halves::{half, whole};
 use std::marker::Model;
 use v8_word::Reg;
 
-/// The integer registers of `N` windows, 4 to 32, with the current window (CWP) and the window invalid mask (WIM) of the
-/// manual's chapter 4. Contracts see the map from window and register to words.
+/// The integer registers of `N` windows, 4 to 32, with the current window (CWP) and the window invalid mask (WIM) of
+/// the manual's chapter 4. Contracts see the map from window and register to words.
 ///
-/// The windows lie in two rings, of outs and of locals: the ins of a window are the outs of the window above. The registers of
-/// the current window stand apart, in the order of their numbers, and are written back to the rings when another window becomes
-/// the current one. Until then what the rings have of them is out of date.
+/// The windows lie in two rings, of outs and of locals: the ins of a window are the outs of the window above. The
+/// registers of the current window stand apart, in the order of their numbers, and are written back to the rings when
+/// another window becomes the current one. Until then what the rings have of them is out of date.
 #[derive(Drop)]
 pub struct RegFile<const N: usize> {
     outs: [[u32; 8]; N],
@@ -30,7 +32,8 @@ impl<const N: usize> Model for RegFile<N> {
 
     ghost view = { λ f. shown N f.outs f.locals f.registers f.current f.mask };
 
-    ghost invariant = { λ f. (4 ≤ N) × (N ≤ 32) × (f.current < N) × (f.mask < 2 ^ N) × AreRegisters f.registers × AreHalves N f.outs × AreHalves N f.locals };
+    ghost invariant = { λ f. (4 ≤ N) × (N ≤ 32) × (f.current < N) × (f.mask < 2 ^ N) × AreRegisters f.registers × AreHalves N f.outs
+        × AreHalves N f.locals };
 }
 
 impl<const N: usize> RegFile<N> {
@@ -142,7 +145,8 @@ impl<const N: usize> RegFile<N> {
         }
     }
 
-    /// Goes to the window below, whatever the mask says, and puts `pc` and `npc` into its registers 17 and 18 (chapter 7).
+    /// Goes to the window below, whatever the mask says, and puts `pc` and `npc` into its registers 17 and 18 (chapter
+    /// 7).
     pub fn enter_trap(&mut self, pc: u32, npc: u32)
         ensures { self.new ≡ trapped N self.old pc npc }
     {

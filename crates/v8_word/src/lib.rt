@@ -1,5 +1,6 @@
-// Words of SPARC V8, their bit fields, and the small types that are read from them: registers, trap types, access sizes,
-// conditions and condition codes (The SPARC Architecture Manual Version 8, chapters 4, 5 and 7, appendices B and F).
+// Words of SPARC V8, their bit fields, and the small types that are read from them: registers, trap types, access
+// sizes, conditions and condition codes (The SPARC Architecture Manual Version 8, chapters 4, 5 and 7, appendices B and
+// F).
 #![tactic(auto)]
 
 ghost use Rattle.std.specs.Prelude.{◌≡◌, ℕ, ◌+◌, ◌-◌, ◌*◌, ◌/◌, ◌%◌, ◌^◌, ◌<◌, ◌≤◌, IfSome};
@@ -10,7 +11,8 @@ ghost use Rattle.v8_word.specs.Sizes.{bytes_in};
 
 use std::marker::Model;
 
-/// An integer register of the current window, by its number 0 to 31 (chapter 4, "IU r Registers"). Contracts see the number.
+/// An integer register of the current window, by its number 0 to 31 (chapter 4, "IU r Registers"). Contracts see the
+/// number.
 #[derive(Clone, Copy, PartialEq, Eq)]
 pub struct Reg {
     number: u8,
@@ -164,7 +166,8 @@ pub fn bits_of(word: u32, low: u32, width: u32) -> u32
     (word >> low) & ((1 << width) - 1)
 }
 
-/// The register whose number stands in the five bits from bit `low` up: rd from 25, rs1 from 14, rs2 from 0 (appendix F).
+/// The register whose number stands in the five bits from bit `low` up: rd from 25, rs1 from 14, rs2 from 0 (appendix
+/// F).
 pub fn reg_at(word: u32, low: u32) -> Reg
     requires { low < 32 }
     ensures { result ≡ bits_of word low 5 }
@@ -194,7 +197,8 @@ pub fn flag_at(word: u32, low: u32) -> bool
     (word >> low) & 1 == 1
 }
 
-/// A condition of a branch or a trap on the integer condition codes, in the order of their numbers (appendix F, "Condition Codes").
+/// A condition of a branch or a trap on the integer condition codes, in the order of their numbers (appendix F,
+/// "Condition Codes").
 #[derive(Clone, Copy, PartialEq, Eq, Debug)]
 pub enum Cond {
     Never,
@@ -224,7 +228,8 @@ pub struct Icc {
     pub c: bool,
 }
 
-/// The condition whose number stands in the field cond, bits 28 to 25 (appendix B, "Branch on Integer Condition Codes").
+/// The condition whose number stands in the field cond, bits 28 to 25 (appendix B, "Branch on Integer Condition
+/// Codes").
 pub fn cond_at(word: u32) -> Cond
     ensures { result ≡ cond_of (bits_of word 25 4) }
 {

@@ -28,4 +28,11 @@ abbrev pub word_swap : List ℕ → Unit {0} → ℕ → Size → ℕ → Option
 word_swap ram d at size v = exchanged_after word_store ram at size v (word_load ram d at size)
 
 abbrev pub word_bus : Meaning (Unit {0})
-word_bus = record { stopped = λ d. None; load = word_load; store = word_store; swap = word_swap; asks = λ d at size store. false }
+word_bus = record {
+  stopped = λ d. None;
+  load = word_load;
+  store = word_store;
+  swap = word_swap;
+  asks =
+      λ d at size store. false;
+}

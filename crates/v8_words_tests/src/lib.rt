@@ -1,4 +1,5 @@
-//! Tests of words, formats, what they ask for, results, windows, translation, the cache, handlers and page tables. Expected values come from the manual, from GNU as, and by hand.
+//! Tests of words, formats, what they ask for, results, windows, translation, the cache, handlers and page tables.
+//! Expected values come from the manual, from GNU as, and by hand.
 #![tactic(auto)]
 
 #[cfg(test)]

@@ -23,7 +23,8 @@ fn addresses_and_targets(rt: HostRuntime) {
     assert!(rt; (fifth.number(), last.number()) == (0x85, 0xff));
 }
 
-/// A condition, whether its branch has the annul bit, whether it is taken where Z is set, and whether it then annuls its slot.
+/// A condition, whether its branch has the annul bit, whether it is taken where Z is set, and whether it then annuls
+/// its slot.
 type Slot = (Cond, bool, bool, bool);
 
 const SLOTS: [Slot; 7] = [

@@ -6,8 +6,8 @@ ghost use Rattle.want.specs.Wants.{refused};
 
 use std::alloc::{AllocError, AllocFailed};
 
-/// What a growth of memory that was refused leaves in the hand of who asked for it. Nothing else makes one: it comes of std's
-/// `AllocError`, which `?` turns into it. So an answer that holds it can't be given at will.
+/// What a growth of memory that was refused leaves in the hand of who asked for it. Nothing else makes one: it comes of
+/// std's `AllocError`, which `?` turns into it. So an answer that holds it can't be given at will.
 #[derive(Clone, Copy, PartialEq, Eq, Debug)]
 pub struct Want(AllocError);
 

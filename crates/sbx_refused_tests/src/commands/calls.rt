@@ -8,8 +8,9 @@ use sbx_command::Job;
 use std::alloc::Global;
 use std::process::Abort;
 
-/// The name of a job, its file, and how many calls it makes of the file, of the input, which has three bytes, and of the output. A read
-/// gives a byte, and a further one tells the end; a trace is written line by line, and each output is flushed at its end.
+/// The name of a job, its file, and how many calls it makes of the file, of the input, which has three bytes, and of
+/// the output. A read gives a byte, and a further one tells the end; a trace is written line by line, and each output
+/// is flushed at its end.
 type Row = (&'static str, &'static [u8], [usize; 3]);
 
 const ROWS: [Row; 5] = [
@@ -23,7 +24,8 @@ const ROWS: [Row; 5] = [
 /// What is told of a call that fails, of the file, the input and the output, by their numbers.
 const LINES: [(usize, &[u8]); 3] = [(0, b"file\n"), (1, b"input\n"), (2, b"output\n")];
 
-/// Whether what a job tells with a failed call is this line, and what it has put out is the front of what it puts out otherwise.
+/// Whether what a job tells with a failed call is this line, and what it has put out is the front of what it puts out
+/// otherwise.
 fn is_stop(told: &Told, ample: &Told, line: &[u8]) -> bool {
     let whole = ample.out.text();
     told.ended.status == 4 && told.err.has(line) && whole.starts_with(told.out.text())

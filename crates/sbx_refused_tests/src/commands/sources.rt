@@ -21,8 +21,9 @@ pub(super) const SOURCE: &[u8] = b".services exit,put
  ta 0
 ";
 
-/// A source of each kind of list that an image has: words, functions with a param and a result, blocks with a cell and a term, regions of
-/// values and of zeros. Labels are named before and behind them, and values stand in front of a block's first instruction.
+/// A source of each kind of list that an image has: words, functions with a param and a result, blocks with a cell and
+/// a term, regions of values and of zeros. Labels are named before and behind them, and values stand in front of a
+/// block's first instruction.
 const FULL: &[u8] = b".services exit
 .function main,leaf,0,0,9
 .fuel 9
@@ -49,7 +50,8 @@ table: .word first,table
  nop
 ";
 
-/// Its image, by the fields of docs/image.md: the header and the sizes of the regions, the words, the two regions, the functions.
+/// Its image, by the fields of docs/image.md: the header and the sizes of the regions, the words, the two regions, the
+/// functions.
 const FULL_IMAGE: [u8; 241] = [
     0x53, 0x42, 0x58, 0x38, 0x00, 0x02, 0x00, 0x01, 0x00, 0x00, 0x00, 0x07, 0x00, 0x02, 0x00, 0x01,
     0x00, 0x02, 0x00, 0x00, 0x00, 0x10, 0x00, 0x00, 0x00, 0x00, 0x00, 0x10, 0x00, 0x01, 0x03, 0x00,

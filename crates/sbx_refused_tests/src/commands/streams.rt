@@ -22,8 +22,8 @@ pub(super) const ECHO: [u8; 203] = [
     0x00, 0x00, 0x00, 0x00, 0x00, 0x00, 0x00, 0x00, 0x00, 0x00, 0x04,
 ];
 
-/// Ends of an echo, whose input are three bytes, one a call. The first fault that a run meets is told, and what it put out until then
-/// stays.
+/// Ends of an echo, whose input are three bytes, one a call. The first fault that a run meets is told, and what it put
+/// out until then stays.
 const ENDS: [End; 9] = [
     ([0, 0, 0], 0, b"abc", b""),
     ([0, 1, 0], 4, b"", b"input\n"),

@@ -1,4 +1,5 @@
-//! Command lines and what they ask for, by tables that are one text each; also of what is read alone: numbers, and bytes up to a bound.
+//! Command lines and what they ask for, by tables that are one text each; also of what is read alone: numbers, and
+//! bytes up to a bound.
 use super::sources::ASM;
 use super::{LIST, RUN, Reader, TRACE, VERIFY};
 use crate::passing::passes;

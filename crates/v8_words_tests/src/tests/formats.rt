@@ -1,5 +1,5 @@
-// Words of the manual's formats (appendix F), those of GNU as (binutils 2.40), and words that are none. All the words of
-// GNU as that the repository has are in the program v8_vectors.
+// Words of the manual's formats (appendix F), those of GNU as (binutils 2.40), and words that are none. All the words
+// of GNU as that the repository has are in the program v8_vectors.
 use crate::rows::each_holds;
 use v8_formats::{
     Alternate, Branch, Instr, Operand, Place, Three, Trap, Upper, decode, encode, is_canonical,

@@ -321,8 +321,8 @@ fn refuses_where_the_path_ends(rt: HostRuntime) {
     }
 }
 
-/// The fault type of each access to a page, 0 where it is allowed: load, fetch, store, store to an instruction space; of
-/// users and of the supervisor, a row an access field.
+/// The fault type of each access to a page, 0 where it is allowed: load, fetch, store, store to an instruction space;
+/// of users and of the supervisor, a row an access field.
 const FAULT_TYPES: [([u8; 4], [u8; 4]); 8] = [
     ([0, 2, 2, 2], [0, 2, 2, 2]),
     ([0, 2, 0, 2], [0, 2, 0, 2]),

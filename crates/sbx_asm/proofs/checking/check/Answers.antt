@@ -28,8 +28,11 @@ loop-at-preserved c =
     record {
       before = i ∷ so_far.before;
       context = c.after-context.ensures values so_far.before so_far.context own.0;
-      faults = told_more (faults_at values) c.loop-at.checked.fault c.add_line.new.self.fault (fold told c.args.told_before (each (faults_at values) [] lines)) so_far.before lines k i _ c.loop-at-test.true c.index-lines-at.is rest own.1 so_far.faults;
-      words = one_more (words_at values) c.loop-at.checked.words.items c.add_line.new.self.words.items (each (words_at values) [] lines) so_far.before lines k i _ c.loop-at-test.true c.index-lines-at.is rest own.2 so_far.words;
+      faults = told_more (faults_at values) c.loop-at.checked.fault c.add_line.new.self.fault
+          (fold told c.args.told_before
+          (each (faults_at values) [] lines)) so_far.before lines k i _ c.loop-at-test.true c.index-lines-at.is rest own.1 so_far.faults;
+      words = one_more (words_at values) c.loop-at.checked.words.items c.add_line.new.self.words.items
+          (each (words_at values) [] lines) so_far.before lines k i _ c.loop-at-test.true c.index-lines-at.is rest own.2 so_far.words;
     }
 
 pub returns : goal.returns

@@ -22,4 +22,6 @@ pub returns : goal.returns
 returns c =
     let values : Values = worth c.args.table.now in
     let so_far = c.loop-line.invariant in
-    c.new-3.ensures ∙ c.in_ok-end_region.ensures.regions ∙ all_regions values c.loop-line.data so_far.0 c.args.lines.now c.loop-line.line-index (regions_of values c.args.lines.now) c.loop-line-test.false so_far.2
+    c.new-3.ensures ∙ c.in_ok-end_region.ensures.regions
+    ∙ all_regions values c.loop-line.data so_far.0 c.args.lines.now c.loop-line.line-index
+    (regions_of values c.args.lines.now) c.loop-line-test.false so_far.2

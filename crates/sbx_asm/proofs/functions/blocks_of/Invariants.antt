@@ -7,4 +7,6 @@ use Rattle.sbx_asm.proofs.functions.blocks_of.Given as goal
 
 abbrev pub invariant-loop-at : goal.invariant-loop-at
 invariant-loop-at l = (before : List Item) → l.fn.place ≡ place_at before
-    → (b : List Item) × (l.here ≡ place_at b) × (l.blocks.items ++ each block_at b (drop l.at l.own) ≡ block_with (code_address before) (up_to ends_block l.own) ∷ each block_at (l.fn.first ∷ before) l.own)
+    → (b : List Item) × (l.here ≡ place_at b)
+    × (l.blocks.items ++ each block_at b (drop l.at l.own) ≡ block_with (code_address before) (up_to ends_block l.own)
+    ∷ each block_at (l.fn.first ∷ before) l.own)

@@ -10,4 +10,5 @@ use Rattle.sbx_batch.proofs.batch.run_batch.Given as goal
 -- and what they put out was taken.
 abbrev pub invariant-loop-each : goal.invariant-loop-each
 invariant-loop-each g l = IsState g.row.N l.board.state.mmu l.board.state.world
-    × ((made : State g.row.N) × (now : State g.row.N) × IsNew g.row.N [] [] made × (l.board.state ≡ without_output now) × Completes g.row.N made l.batch l.answers.items now (drop l.each-index l.batch))
+    × ((made : State g.row.N) × (now : State g.row.N) × IsNew g.row.N [] [] made × (l.board.state ≡ without_output now)
+    × Completes g.row.N made l.batch l.answers.items now (drop l.each-index l.batch))

@@ -17,7 +17,8 @@ returns-clause-next g c =
     let formed : IsFormed parts = subst IsFormed c.image-image.ensures.image c.tells_form.ensures in (
       end,
       next g.row.N parts c.args.input.now c.args.board.now.state end limits formed c.image-image.ensures.checked c.image-image.ensures.safe bytes c.requires _
-          (subst (λ (s : State g.row.N). EndsOn g.row.N parts s end c.in-Ok.ended) c.set_back.ensures c.in-Ok.ensures.ended) c.take_output.ensures.taken c.in-Ok.ensures.depth c.run_board.ensures.contained,
+          (subst (λ (s : State g.row.N). EndsOn g.row.N parts s end c.in-Ok.ended) c.set_back.ensures c.in-Ok.ensures.ended) c.take_output.ensures.taken
+          c.in-Ok.ensures.depth c.run_board.ensures.contained,
       c.take_output.ensures.left,
     )
 

@@ -22,7 +22,8 @@ loop-line-preserved c =
     record {
       before = c.line-item.result ∷ so_far.before;
       stands = c.after-place.ensures so_far.before so_far.stands;
-      found = one_more gives c.loop-line.found.items c.push_found.new.found.items (each gives [] lines) so_far.before lines c.loop-line.line-index c.line-item.result c.loop-line-test.true c.line-item.is
+      found = one_more gives c.loop-line.found.items c.push_found.new.found.items
+          (each gives [] lines) so_far.before lines c.loop-line.line-index c.line-item.result c.loop-line-test.true c.line-item.is
           (c.in_ok-push_found.ensures so_far.before (drop (c.loop-line.line-index + 1) lines) (ap (λ (p : Place). p.next_word) so_far.stands)) so_far.found;
     }
 

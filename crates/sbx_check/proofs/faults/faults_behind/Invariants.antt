@@ -8,5 +8,6 @@ abbrev pub invariant-loop-line : goal.invariant-loop-line
 invariant-loop-line l = record {
   before : List Item;
   stands : l.place ≡ place_at before;
-  found : l.found.items ++ each (found_at (worth l.survey.table) l.survey.repeats.items l.behind) before (drop l.line-index l.lines) ≡ each (found_at (worth l.survey.table) l.survey.repeats.items l.behind) [] l.lines;
+  found : l.found.items ++ each (found_at (worth l.survey.table) l.survey.repeats.items l.behind) before (drop l.line-index l.lines) ≡
+      each (found_at (worth l.survey.table) l.survey.repeats.items l.behind) [] l.lines;
 }

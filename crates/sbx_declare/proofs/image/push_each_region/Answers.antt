@@ -8,7 +8,13 @@ pub behind-start-requires-clause-start : goal.behind-start-requires-clause-start
 behind-start-requires-clause-start c = omega (arith, c.loop-region.invariant.2)
 
 pub behind-start-requires-clause-small : goal.behind-start-requires-clause-small
-behind-start-requires-clause-small c = omega (arith, c.loop-region.invariant.1, c.loop-region.invariant.2, pages_behind c.args.regions.now c.loop-region.region-index c.region-item.result c.loop-region-test.true c.region-item.is)
+behind-start-requires-clause-small c =
+    omega (
+      arith,
+      c.loop-region.invariant.1,
+      c.loop-region.invariant.2,
+      pages_behind c.args.regions.now c.loop-region.region-index c.region-item.result c.loop-region-test.true c.region-item.is,
+    )
 
 pub loop-region-preserved : goal.loop-region-preserved
 loop-region-preserved c = (

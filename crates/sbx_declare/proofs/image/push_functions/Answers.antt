@@ -7,7 +7,8 @@ use Rattle.sbx_declare.proofs.image.push_functions.Goals as goal
 pub loop-function-preserved : goal.loop-function-preserved
 loop-function-preserved c = (
   ap (λ n. n + 1) c.loop-function.invariant.0,
-  numbered_more (function_text c.args.version) (string_bytes c.loop-function.out) (string_bytes c.push_function.new.out) _ c.loop-function.number c.loop-function.function-index c.args.functions.now c.function-item.result
+  numbered_more (function_text c.args.version) (string_bytes c.loop-function.out)
+      (string_bytes c.push_function.new.out) _ c.loop-function.number c.loop-function.function-index c.args.functions.now c.function-item.result
       c.loop-function-test.true c.function-item.is c.in_ok-push_function.ensures c.loop-function.invariant.1,
 )
 

@@ -25,4 +25,5 @@ returns-clause-least c =
     let worked : c.with_constant.result ≡ least_value ends c.args.form.now = search rules in
     let fits : SFits w128 c.with_constant.result = search rules in
     let e = to_z-of_z w128 c.with_constant.result fits in
-    rw e (subst (λ (z : ℤ). IsLeast ends c.args.form.now z) (sym worked) (value_is_least ends c.args.form.now (subst (λ (ts : List FormTerm). AscendFrom 0 ts) c.terms-terms.ensures.value c.terms-terms.ensures.ascending)))
+    rw e (subst (λ (z : ℤ). IsLeast ends c.args.form.now z) (sym worked)
+    (value_is_least ends c.args.form.now (subst (λ (ts : List FormTerm). AscendFrom 0 ts) c.terms-terms.ensures.value c.terms-terms.ensures.ascending)))

@@ -16,7 +16,8 @@ use Rattle.sbx_domain.proofs.lowest.least_of.Goals as goal
 pub least_term-requires : goal.least_term-requires
 least_term-requires c =
     let none : FormTerm = record { location = 0; coefficient = pos 0 } in
-    let b : unsigned_abs (get_or c.args.terms.now c.loop-term.term-index none).coefficient ≤ 2 ^ 32 = within_at (2 ^ 32) c.args.terms.now c.loop-term.term-index none c.requires.small c.loop-term-test.true in
+    let b : unsigned_abs (get_or c.args.terms.now c.loop-term.term-index none).coefficient ≤ 2 ^ 32 =
+    within_at (2 ^ 32) c.args.terms.now c.loop-term.term-index none c.requires.small c.loop-term-test.true in
     omega (arith, b)
 
 pub loop-term-preserved : goal.loop-term-preserved

@@ -22,7 +22,8 @@ loop-location-preserved g c =
 
 pub returns-clause-moved : goal.returns-clause-moved
 returns-clause-moved g c =
-    all_restored g.row.T.Denot c.loop-location.location c.args.entries.now c.loop-location.entries c.clear_entries.new.entries c.requires.size (omega arith) c.loop-location.invariant.1 c.clear_entries.ensures.cleared
+    all_restored g.row.T.Denot c.loop-location.location c.args.entries.now c.loop-location.entries c.clear_entries.new.entries c.requires.size
+    (omega arith) c.loop-location.invariant.1 c.clear_entries.ensures.cleared
 
 pub clear_entries-requires-clause-marked : goal.clear_entries-requires-clause-marked
 clear_entries-requires-clause-marked g c = λ k low high unmarked.

@@ -13,7 +13,8 @@ loop-location-preserved c =
     let n = c.loop-location.location in
     let size : length ys ≡ length c.args.entries.now = c.loop-location.invariant.0 in (
       length-set ys n c.returned_entry.result ∙ size,
-      one_more_filled Entry n (result_entry c.args.results.now) c.args.entries.now ys c.returned_entry.result (omega (arith, size, c.requires, c.loop-location-test.true)) c.returned_entry.ensures c.loop-location.invariant.1,
+      one_more_filled Entry n (result_entry c.args.results.now) c.args.entries.now ys c.returned_entry.result
+          (omega (arith, size, c.requires, c.loop-location-test.true)) c.returned_entry.ensures c.loop-location.invariant.1,
     )
 
 pub returns-clause-moved : goal.returns-clause-moved

@@ -22,4 +22,5 @@ returns-in-Ok-None-clause-goes g c =
 
 pub returns-in-Err-clause-stops : goal.returns-in-Err-clause-stops
 returns-in-Err-clause-stops g c =
-    off_reader c.in-Err.fault c.args.met c.args.course.now c.args.course.now (g.R.Read.remaining c.args.reader.now) (g.R.Read.remaining c.read_byte.new.reader) c.in-Err.ensures.fault c.if-met.false c.in-Err.ensures.nothing
+    off_reader c.in-Err.fault c.args.met c.args.course.now c.args.course.now (g.R.Read.remaining c.args.reader.now)
+    (g.R.Read.remaining c.read_byte.new.reader) c.in-Err.ensures.fault c.if-met.false c.in-Err.ensures.nothing

@@ -19,7 +19,8 @@ exchange-requires-clause-few g c =
 
 pub exchange-requires-clause-found : goal.exchange-requires-clause-found
 exchange-requires-clause-found g c = λ is.
-    not_lost c.args.accepted.now c.args.windows c.rounds.met c.rounds.course (g.R.Read.remaining c.args.reader.now) (g.R.Read.remaining c.rounds.reader) (g.W.Write.contents c.args.writer.now) (g.W.Write.contents c.rounds.writer)
+    not_lost c.args.accepted.now c.args.windows c.rounds.met c.rounds.course (g.R.Read.remaining c.args.reader.now) (g.R.Read.remaining c.rounds.reader)
+    (g.W.Write.contents c.args.writer.now) (g.W.Write.contents c.rounds.writer)
     c.rounds.invariant.goes (c.advance-halt.ensures.lost is)
 
 pub returns-in-Err-Ended-clause-whole : goal.returns-in-Err-Ended-clause-whole
@@ -34,7 +35,8 @@ returns-in-Err-Ended-clause-whole g c =
     let met = c.rounds.met in
     let stops = subst (λ (s : Stop). StopsSo s met went reader writer c.exchange.new.course reader_now writer_now) c.in-Err-Ended.field-0-is c.in-Err-Ended.ensures.stops in
     let so = advanced met c.rounds.course went reader writer c.advance-halt.ensures.goes c.args.accepted.now c.args.windows first written_first c.rounds.invariant.goes in
-    flowed_so c.args.accepted.now c.args.windows met first written_first reader_now writer_now c.exchange.new.course (record { status = c.in-Err-Ended.status; counts = c.tally.result.traffic }) stops.0
+    flowed_so c.args.accepted.now c.args.windows met first written_first reader_now writer_now c.exchange.new.course
+    (record { status = c.in-Err-Ended.status; counts = c.tally.result.traffic }) stops.0
     (ap (λ (t : Tally). t.traffic) c.tally.ensures) (stops.1 c.args.accepted.now c.args.windows first written_first so)
 
 pub returns-in-Err-Fault-clause-part : goal.returns-in-Err-Fault-clause-part
@@ -46,7 +48,9 @@ returns-in-Err-Fault-clause-part g c =
     let went = c.advance-halt.new.self in
     let met = c.rounds.met in
     let so = advanced met c.rounds.course went reader writer c.advance-halt.ensures.goes c.args.accepted.now c.args.windows first written_first c.rounds.invariant.goes in
-    (subst (λ (s : Stop). StopsSo s met went reader writer c.exchange.new.course (g.R.Read.remaining c.exchange.new.reader) (g.W.Write.contents c.exchange.new.writer)) c.in-Err-Fault.field-0-is c.in-Err-Fault.ensures.stops) c.args.accepted.now c.args.windows first written_first so
+    (subst (λ (s : Stop). StopsSo s met went reader writer c.exchange.new.course (g.R.Read.remaining c.exchange.new.reader)
+    (g.W.Write.contents c.exchange.new.writer)) c.in-Err-Fault.field-0-is c.in-Err-Fault.ensures.stops) c.args.accepted.now c.args.windows first
+    written_first so
 
 pub rounds-preserved : goal.rounds-preserved
 rounds-preserved g c =

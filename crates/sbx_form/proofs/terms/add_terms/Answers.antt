@@ -34,14 +34,19 @@ loop-term-preserved g c =
     record {
       value = ap (λ (ts : List FormTerm). add_terms k (drop (i + 1) c.args.more.now) ts) is
           ∙ more_added k c.args.more.now c.loop-term.terms.items i none (add_terms k c.args.more.now c.args.terms.now.items) c.loop-term-test.true c.loop-term.invariant.value;
-      room = (let n = ap (λ (ts : List FormTerm). length ts) is in let m = few (get_or c.args.more.now i none).location (k *ℤ (get_or c.args.more.now i none).coefficient) c.loop-term.terms.items in omega (arith, n, m, c.loop-term.invariant.room));
-      small = wider_bound ((2 ^ 80 + i * 2 ^ 64) + 2 ^ 64) (2 ^ 80 + (i + 1) * 2 ^ 64) c.add_scaled.new.terms.items (omega arith) (c.add_scaled.ensures.within (2 ^ 80 + i * 2 ^ 64) c.loop-term.invariant.small);
+      room = (let n = ap (λ (ts : List FormTerm). length ts) is in
+          let m = few (get_or c.args.more.now i none).location (k *ℤ (get_or c.args.more.now i none).coefficient) c.loop-term.terms.items in
+          omega (arith, n, m, c.loop-term.invariant.room));
+      small = wider_bound ((2 ^ 80 + i * 2 ^ 64) + 2 ^ 64) (2 ^ 80 + (i + 1) * 2 ^ 64) c.add_scaled.new.terms.items (omega arith)
+          (c.add_scaled.ensures.within (2 ^ 80 + i * 2 ^ 64) c.loop-term.invariant.small);
     }
 
 pub returns : goal.returns
 returns g c =
     let f : SFits w32 c.args.times = search rules in
-    all_added (to_z w32 (of_z w32 c.args.times)) c.args.times c.args.more.now c.loop-term.terms.items c.loop-term.term-index c.args.terms.now.items c.loop-term-test.false (to_z-of_z w32 c.args.times f) c.loop-term.invariant.value
+    all_added (to_z w32
+    (of_z w32 c.args.times)) c.args.times c.args.more.now c.loop-term.terms.items c.loop-term.term-index c.args.terms.now.items c.loop-term-test.false
+    (to_z-of_z w32 c.args.times f) c.loop-term.invariant.value
 
 pub loop-term-init : goal.loop-term-init
 loop-term-init g c = grind (arith, common_steps)

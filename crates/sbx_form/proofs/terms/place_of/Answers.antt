@@ -9,7 +9,9 @@ pub loop-i-preserved : goal.loop-i-preserved
 loop-i-preserved c =
     let b = c.if-term-location.false in
     let t : FormTerm = get_or c.args.terms.now c.loop-i.i (record { location = 0; coefficient = pos 0 }) in
-    λ d. skips_more c.args.location d c.args.terms.now c.loop-i.i t (omega arith) (get_or_default c.args.terms.now c.loop-i.i (record { location = 0; coefficient = pos 0 }) t (omega arith)) c.if-term-location.false (c.loop-i.invariant d)
+    λ d. skips_more c.args.location d c.args.terms.now c.loop-i.i t (omega arith)
+    (get_or_default c.args.terms.now c.loop-i.i (record { location = 0; coefficient = pos 0 }) t (omega arith)) c.if-term-location.false
+    (c.loop-i.invariant d)
 
 pub returns-then-term-location-clause-stops : goal.returns-then-term-location-clause-stops
 returns-then-term-location-clause-stops c = grind (arith, common_steps)

@@ -20,7 +20,9 @@ returns-then-deref-place-clause-splits g c =
     let room : c.args.place < length c.args.terms.now.items = omega arith in
     let is : c.remove.result ≡ get_or c.args.terms.now.items c.args.place c.remove.result = search rules in
     let same : c.remove.result.location ≡ c.args.location =
-    ap (λ (t : FormTerm). t.location) is ∙ (sym (location_as c.args.terms.now.items c.deref.result.now c.args.place c.remove.result (let z : FormTerm = record { location = 0; coefficient = pos 0 } in z) room c.deref.ensures.0) ∙ c.if-deref-place.true) in
+    ap (λ (t : FormTerm). t.location) is
+    ∙ (sym (location_as c.args.terms.now.items c.deref.result.now c.args.place c.remove.result (let z : FormTerm =
+    record { location = 0; coefficient = pos 0 } in z) room c.deref.ensures.0) ∙ c.if-deref-place.true) in
     let e : c.remove.result.coefficient ≡ to_z w128 (of_z w128 c.remove.result.coefficient) = sym (to_z-of_z w128 c.remove.result.coefficient f) in
     λ d. meets_removed c.args.location d c.args.terms.now.items c.remove.new.self.items c.args.place c.remove.result room is same c.remove.ensures.items (c.requires.splits d)
     ∙ ap (λ (z : ℤ). take c.args.place c.remove.new.self.items ++ keep c.args.location (d +ℤ z) (drop c.args.place c.remove.new.self.items)) e

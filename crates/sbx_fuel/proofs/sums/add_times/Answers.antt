@@ -43,7 +43,9 @@ loop-term-preserved c =
 
 pub returns : goal.returns
 returns c =
-    all_added (to_z w128 (of_z w128 c.args.times)) c.args.times c.args.form.now c.loop-term.terms.items c.loop-term.term-index c.args.terms.now.items c.loop-term-test.false (to_z-of_z w128 c.args.times c.ranges.times) c.loop-term.invariant.value
+    all_added (to_z w128
+    (of_z w128 c.args.times)) c.args.times c.args.form.now c.loop-term.terms.items c.loop-term.term-index c.args.terms.now.items c.loop-term-test.false
+    (to_z-of_z w128 c.args.times c.ranges.times) c.loop-term.invariant.value
 
 pub add_times_term-requires-clause-small_times : goal.add_times_term-requires-clause-small_times
 add_times_term-requires-clause-small_times c = grind (arith, common_steps)

@@ -10,7 +10,9 @@ none : FormTerm
 none = record { location = 0; coefficient = pos 0 }
 
 pub less_form-requires-clause-small : goal.less_form-requires-clause-small
-less_form-requires-clause-small c = wider_bound (2 ^ 31 + c.loop-term.term-index * 2 ^ 66) (2 ^ 80) c.loop-term.terms.items (omega (arith, c.requires.few, c.loop-term-test.true)) c.loop-term.invariant.small
+less_form-requires-clause-small c =
+    wider_bound (2 ^ 31 + c.loop-term.term-index * 2 ^ 66) (2 ^ 80) c.loop-term.terms.items
+    (omega (arith, c.requires.few, c.loop-term-test.true)) c.loop-term.invariant.small
 
 pub less_form-requires-clause-small_term : goal.less_form-requires-clause-small_term
 unfolding none
@@ -24,11 +26,14 @@ loop-term-preserved c =
       value = ap (λ (ts : List FormTerm). start_terms (known c.args.now.now) (drop (i + 1) c.args.next.now) ts) c.less_form.ensures.value
           ∙ start_more (known c.args.now.now) c.args.next.now c.loop-term.terms.items i none _ c.loop-term-test.true c.loop-term.invariant.value;
       room = omega (arith, c.less_form.ensures.few, c.loop-term.invariant.room);
-      small = wider_bound ((2 ^ 31 + i * 2 ^ 66) + 2 ^ 66) (2 ^ 31 + (i + 1) * 2 ^ 66) c.less_form.new.terms.items (omega arith) (c.less_form.ensures.within (2 ^ 31 + i * 2 ^ 66) c.loop-term.invariant.small);
+      small = wider_bound ((2 ^ 31 + i * 2 ^ 66) + 2 ^ 66) (2 ^ 31 + (i + 1) * 2 ^ 66) c.less_form.new.terms.items (omega arith)
+          (c.less_form.ensures.within (2 ^ 31 + i * 2 ^ 66) c.loop-term.invariant.small);
     }
 
 pub returns-clause-value : goal.returns-clause-value
 returns-clause-value c = start_all (known c.args.now.now) c.args.next.now c.loop-term.terms.items c.loop-term.term-index _ c.loop-term-test.false c.loop-term.invariant.value
 
 pub returns-clause-small : goal.returns-clause-small
-returns-clause-small c = wider_bound (2 ^ 31 + c.loop-term.term-index * 2 ^ 66) (2 ^ 70) c.loop-term.terms.items (omega (arith, c.requires.few, c.loop-term.auto.term-index-end)) c.loop-term.invariant.small
+returns-clause-small c =
+    wider_bound (2 ^ 31 + c.loop-term.term-index * 2 ^ 66) (2 ^ 70) c.loop-term.terms.items
+    (omega (arith, c.requires.few, c.loop-term.auto.term-index-end)) c.loop-term.invariant.small

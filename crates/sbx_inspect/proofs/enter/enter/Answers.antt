@@ -49,7 +49,10 @@ loop-number-preserved c =
     let weighs = from_spot (λ f b i. c.weight_of_spot-weight.result ≡ weight_of_place parts f b i) f b i r.function r.block r.number at.0 at.1 at.2 c.weight_of_spot-weight.ensures.value in
     let asks = from_spot (λ f b i. r.operation ≡ op_at parts f b i) f b i r.function r.block r.number at.0 at.1 at.2 spot.operation in
     let calls = from_spot (λ f b i. r.callee ≡ callee_at parts f b i) f b i r.function r.block r.number at.0 at.1 at.2 spot.callee in
-    let moved = from_spot (λ f b i. x ≡ (if ((c.loop-number.number + 1) == end) && is_branch r.operation then d else after_word parts f b i d)) f b i r.function r.block r.number at.0 at.1 at.2 c.pass_to_slot.ensures in
+    let moved = from_spot
+    (λ f b i. x ≡
+    (if ((c.loop-number.number + 1) == end)
+    && is_branch r.operation then d else after_word parts f b i d)) f b i r.function r.block r.number at.0 at.1 at.2 c.pass_to_slot.ensures in
     let goes : x ≡ (if ((i + 1) == end) && is_branch (op_at parts f b i) then d else after_word parts f b i d) =
     moved ∙ ap (λ (o : Operation). if ((i + 1) == end) && is_branch o then d else after_word parts f b i d) asks in
     let bound = c.loop-number.invariant.bound in

@@ -9,5 +9,7 @@ use Rattle.sbx_inspect.proofs.find.begun.Goals as goal
 pub returns-clause-point : goal.returns-clause-point
 returns-clause-point c =
     let parted = IsPartitionedBy-leb (λ (x : Block). x.address) c.args.blocks.now c.args.address (rises Block (λ x. x.address) c.args.blocks.now c.requires) in
-    let point = IsPartitionPoint-from_clause (λ (x : Block). nat_le x.address c.args.address) c.args.blocks.now c.partition_point.result c.partition_point.ensures.partitioned parted (λ a r q k. search rules) in
+    let point = IsPartitionPoint-from_clause
+    (λ (x : Block). nat_le x.address c.args.address) c.args.blocks.now c.partition_point.result c.partition_point.ensures.partitioned parted
+    (λ a r q k. search rules) in
     point_of c.args.blocks.now c.args.address c.partition_point.result point

@@ -8,13 +8,15 @@ use Rattle.sbx_inspect.proofs.sides.fuel_of.Goals as goal
 
 pub fuel_terms-requires : goal.fuel_terms-requires
 fuel_terms-requires c =
-    let stands : Stands c.args.image.now c.args.function c.args.block c.function_at.result.now c.block_at-declared.result.now = record { function_is = sym c.function_at.ensures.value; block_is = sym c.block_at-declared.ensures } in
+    let stands : Stands c.args.image.now c.args.function c.args.block c.function_at.result.now c.block_at-declared.result.now =
+    record { function_is = sym c.function_at.ensures.value; block_is = sym c.block_at-declared.ensures } in
     let kept = stands_kept c.args.image.now c.requires.keeps c.args.function c.args.block c.function_at.result.now c.block_at-declared.result.now stands c.requires.block.0 c.requires.block.1 in
     (omega arith, kept.few)
 
 pub returns : goal.returns
 returns c =
-    let stands : Stands c.args.image.now c.args.function c.args.block c.function_at.result.now c.block_at-declared.result.now = record { function_is = sym c.function_at.ensures.value; block_is = sym c.block_at-declared.ensures } in
+    let stands : Stands c.args.image.now c.args.function c.args.block c.function_at.result.now c.block_at-declared.result.now =
+    record { function_is = sym c.function_at.ensures.value; block_is = sym c.block_at-declared.ensures } in
     let made : ℤ → List FormTerm → Form = λ z ts. record { constant = z; terms = ts } in
     let fits : SFits w64 c.block_at-declared.result.now.fuel = search rules in
     let same : to_z w64 (of_z w64 c.block_at-declared.result.now.fuel) ≡ c.block_at-declared.result.now.fuel = to_z-of_z w64 c.block_at-declared.result.now.fuel fits in

@@ -7,7 +7,8 @@ use Rattle.sbx_known.specs.declared.courses.Course.{Course}
 use Rattle.sbx_known.specs.Courses.{is_any}
 use Rattle.sbx_pass.proofs.after.breaks_results.Goals as goal
 
-returned : (course : Option Course) (d : Known) (results : List Range) (t : Bool) → is_any (λ v. is_back v.way) course d ≡ t → is_any (λ v. is_back v.way && not (has_outs 8 results v.known)) course d ≡ (t && not (has_outs 8 results d))
+returned : (course : Option Course) (d : Known) (results : List Range) (t : Bool) → is_any (λ v. is_back v.way) course d ≡ t →
+    is_any (λ v. is_back v.way && not (has_outs 8 results v.known)) course d ≡ (t && not (has_outs 8 results d))
 returned None d results t e = ap (λ b. b && not (has_outs 8 results d)) e
 returned (Some c) d results t e = ap (λ b. b && not (has_outs 8 results d)) e
 

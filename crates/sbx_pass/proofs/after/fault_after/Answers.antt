@@ -25,7 +25,8 @@ or_second true t h = refl
 or_second false t h = h
 
 -- the rule of cells, where what a call is made with is kept
-pub cells_told : (edges params lists : Bool) → params ≡ false → ((edges || lists) ≡ true → IsTrue edges ⊎ (IsTrue params ⊎ IsTrue lists)) × (IsTrue edges ⊎ (IsTrue params ⊎ IsTrue lists) → (edges || lists) ≡ true)
+pub cells_told : (edges params lists : Bool) → params ≡ false →
+    ((edges || lists) ≡ true → IsTrue edges ⊎ (IsTrue params ⊎ IsTrue lists)) × (IsTrue edges ⊎ (IsTrue params ⊎ IsTrue lists) → (edges || lists) ≡ true)
 cells_told edges params lists none = (
   λ h. elim (or_cases edges lists h) [ inl x ↦ inl x | inr x ↦ inr (inr x) ],
   λ h. elim h [ inl x ↦ or_first edges lists x | inr rest ↦ elim rest [ inl x ↦ absurd (cc) | inr x ↦ or_second edges lists x ] ],

@@ -29,12 +29,17 @@ returns c =
     let room = by_test P OutOfStack c.lacks_room.result (lacks_room parts f b i) c.then_some.result c.then_some.ensures c.lacks_room.ensures (λ h. h) (λ h. h) in
     let past = by_test P RunsPastEnd c.some_goes_past.result (list_any (λ (v : Visit). is_past v.way) (visits_at parts f b i)) c.then_some-2.result c.then_some-2.ensures
     (c.some_goes_past.ensures d e ∙ ap (list_any (λ (v : Visit). is_past v.way)) (sym ways) ∙ sym (any_mapped (λ v. is_past v.way) (arrived parts f b i) (visits_at parts f b i))) (λ h. h) (λ h. h) in
-    let results = by_test P UnkeptResults c.breaks_results_on.result (list_any (λ (v : Visit). is_back v.way && not (has_outs 8 (function_at parts f).results (now parts f b i v))) (visits_at parts f b i)) c.then_some-3.result c.then_some-3.ensures
+    let results =
+    by_test P UnkeptResults c.breaks_results_on.result
+    (list_any (λ (v : Visit). is_back v.way && not (has_outs 8 (function_at parts f).results (now parts f b i v)))
+    (visits_at parts f b i)) c.then_some-3.result c.then_some-3.ensures
     (c.breaks_results_on.ensures
     ∙ ap (λ (g : Function). list_any (λ (v : Visit). is_back v.way && not (has_outs 8 g.results v.known)) (listed c.args.courses.now d e)) c.function_at-function.ensures.value
     ∙ ap (list_any (λ (v : Visit). is_back v.way && not (has_outs 8 (function_at parts f).results v.known))) (sym ways)
     ∙ sym (any_mapped (λ v. is_back v.way && not (has_outs 8 (function_at parts f).results v.known)) (arrived parts f b i) (visits_at parts f b i))) (λ h. h) (λ h. h) in
-    let entry = by_test P BadEntry c.is_bad_entry.result ((f == 0) && ((is_entry b i && not (length (function_at parts f).params == 0)) || is_return (op_at parts f b i))) c.then_some-4.result c.then_some-4.ensures
+    let entry = by_test P BadEntry c.is_bad_entry.result
+    ((f == 0) && ((is_entry b i && not (length (function_at parts f).params == 0))
+    || is_return (op_at parts f b i))) c.then_some-4.result c.then_some-4.ensures
     (c.is_bad_entry.ensures ∙ ap (λ (o : Operation). (f == 0) && ((is_entry b i && not (length (function_at parts f).params == 0)) || is_return o)) c.requires.spot.operation) (λ h. h) (λ h. h) in
     let two = both P 15 16 17 c.then_some.result c.then_some-2.result c.or.result (omega arith) (omega arith) c.or.ensures room past in
     let three = both P 15 17 18 c.or.result c.then_some-3.result c.or-2.result (omega arith) (omega arith) c.or-2.ensures two results in

@@ -68,7 +68,9 @@ loop-number-preserved c =
     let told = from_spot (λ f b i. Tells (Holds parts f b i) 1 21 c.fault_at.result) f b i r.function r.block r.number at.0 at.1 at.2 c.fault_at.ensures.told in
     let kept : AreKept (Holds parts f b i) 1 21 = subst (Tells (Holds parts f b i) 1 21) none told in
     let weighs = from_spot (λ f b i. c.weight_of_spot-weight.result ≡ weight_of_place parts f b i) f b i r.function r.block r.number at.0 at.1 at.2 c.weight_of_spot-weight.ensures.value in
-    let goes_on = from_spot (λ f b i. suc i < words_in parts f b → known c.fault_at.new.here ≡ state_at parts f b (suc i)) f b i r.function r.block r.number at.0 at.1 at.2 (c.fault_at.ensures.next none) in
+    let goes_on =
+    from_spot (λ f b i. suc i < words_in parts f b →
+    known c.fault_at.new.here ≡ state_at parts f b (suc i)) f b i r.function r.block r.number at.0 at.1 at.2 (c.fault_at.ensures.next none) in
     let asks = from_spot (λ f b i. r.operation ≡ op_at parts f b i) f b i r.function r.block r.number at.0 at.1 at.2 spot.operation in
     let calls = from_spot (λ f b i. r.callee ≡ callee_at parts f b i) f b i r.function r.block r.number at.0 at.1 at.2 spot.callee in
     let bound = c.loop-number.invariant.bound in

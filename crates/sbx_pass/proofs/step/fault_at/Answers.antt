@@ -34,7 +34,8 @@ fault_once_run-requires-clause-visits c =
 pub returns-in-None-clause-next : goal.returns-in-None-clause-next
 returns-in-None-clause-next c none less = by_test (is_branch c.args.spot.now.before) refl
   where
-    by_test : (t : Bool) → is_branch c.args.spot.now.before ≡ t → known c.fault_once_run.new.here ≡ state_at c.args.image.now c.args.spot.now.function c.args.spot.now.block (suc c.args.spot.now.number)
+    by_test : (t : Bool) → is_branch c.args.spot.now.before ≡ t →
+        known c.fault_once_run.new.here ≡ state_at c.args.image.now c.args.spot.now.function c.args.spot.now.block (suc c.args.spot.now.number)
     by_test true is =
         let parts = c.args.image.now in
         let f = c.args.spot.now.function in

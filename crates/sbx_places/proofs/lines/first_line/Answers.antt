@@ -6,7 +6,8 @@ use Rattle.sbx_places.proofs.lines.first_line.Goals.{else-stop-gt0-via-then-stop
 
 pub returns-then-source-stop-eq13-clause-lines : goal.returns-then-source-stop-eq13-clause-lines
 returns-then-source-stop-eq13-clause-lines c =
-    with_return c.in-Some.stop c.args.source.now c.if-stop-gt0.true c.in-Some.ensures.0.high c.if-source-stop-eq13.true (eqb-true _ 10 c.in-Some.ensures.1) (is_clear c.in-Some.stop c.args.source.now c.in-Some.ensures.0.before)
+    with_return c.in-Some.stop c.args.source.now c.if-stop-gt0.true c.in-Some.ensures.0.high c.if-source-stop-eq13.true (eqb-true _ 10 c.in-Some.ensures.1)
+    (is_clear c.in-Some.stop c.args.source.now c.in-Some.ensures.0.before)
 
 pub returns-else-stop-gt0-clause-lines : goal.returns-else-stop-gt0-clause-lines
 returns-else-stop-gt0-clause-lines c =

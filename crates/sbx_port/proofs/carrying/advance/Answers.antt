@@ -4,17 +4,22 @@ use Rattle.sbx_port.proofs.Told.{counts_on, failed_some, slice_cut, slice_goes, 
 use Rattle.sbx_port.proofs.carrying.advance.Goals as goal
 
 pub overflow_sub-result : goal.overflow_sub-result
-overflow_sub-result g c = counts_on g.row.N c.most-most.result c.count-counted.result c.count.result c.args.board.now.state c.run.new.self.state c.in-Err.ensures.stands c.most-most.ensures.told c.count-counted.ensures c.count.ensures
+overflow_sub-result g c =
+    counts_on g.row.N c.most-most.result c.count-counted.result c.count.result c.args.board.now.state c.run.new.self.state c.in-Err.ensures.stands
+    c.most-most.ensures.told c.count-counted.ensures c.count.ensures
 
 pub returns-in-Ok-clause-made : goal.returns-in-Ok-clause-made
 returns-in-Ok-clause-made g c = slice_whole g.row.N c.args.left c.most-most.result c.args.board.now.state c.run.new.self.state c.in-Ok.ensures.run c.most-most.ensures.within
 
 pub returns-in-Err-clause-made : goal.returns-in-Err-clause-made
-returns-in-Err-clause-made g c = slice_cut g.row.N c.args.left c.most-most.result c.count-counted.result c.count.result c.args.board.now.state c.run.new.self.state c.in-Err.ensures.stands c.most-most.ensures.told c.count-counted.ensures c.count.ensures c.most-most.ensures.within
+returns-in-Err-clause-made g c =
+    slice_cut g.row.N c.args.left c.most-most.result c.count-counted.result c.count.result c.args.board.now.state c.run.new.self.state c.in-Err.ensures.stands
+    c.most-most.ensures.told c.count-counted.ensures c.count.ensures c.most-most.ensures.within
 
 pub returns-in-Err-clause-goes : goal.returns-in-Err-clause-goes
 returns-in-Err-clause-goes g c = λ full.
-    slice_goes g.row.N c.most-most.result c.count-counted.result c.count.result c.args.board.now.state c.run.new.self.state c.in-Err.ensures.stands c.most-most.ensures.told c.count-counted.ensures c.count.ensures c.requires.empty
+    slice_goes g.row.N c.most-most.result c.count-counted.result c.count.result c.args.board.now.state c.run.new.self.state c.in-Err.ensures.stands
+    c.most-most.ensures.told c.count-counted.ensures c.count.ensures c.requires.empty
     (λ none. c.lacks.ensures.holds (failed_some c.args.board.now.failed c.requires.served (c.port.ensures.failed ∙ c.in-Err.ensures.count)) full (c.port.ensures.output ∙ none))
 
 pub returns-in-Ok-clause-lacks : goal.returns-in-Ok-clause-lacks

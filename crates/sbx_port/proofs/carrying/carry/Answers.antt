@@ -61,7 +61,9 @@ loop-left-preserved g c =
     let t = slice.new.board.state in
     let on = way_sliced g.row.N c.args.limit c.args.board.now.state c.loop-left.left read c.loop-left.met w c.loop-left.board.state t slice.result.turns
     way (sym c.ending.ensures ∙ c.in-None.is) slice.ensures.made c.in_ok-look.ensures.fine in
-    let (all, there, had, (put, ended)) = way_exchanged g.row.N c.args.limit c.args.board.now.state (c.loop-left.left - slice.result.turns) read c.loop-left.met c.in_ok-met.met slice.result.lacks w t c.exchange.new.board.state
+    let (all, there, had, (put, ended)) =
+    way_exchanged g.row.N c.args.limit c.args.board.now.state
+    (c.loop-left.left - slice.result.turns) read c.loop-left.met c.in_ok-met.met slice.result.lacks w t c.exchange.new.board.state
     (g.R.Read.remaining c.args.reader.now) (g.R.Read.remaining c.loop-left.reader) (g.R.Read.remaining c.exchange.new.reader)
     on has (still_none g.row.N c.loop-left.left c.loop-left.met c.loop-left.board.state t slice.result.turns slice.ensures.made none)
     slice.ensures.lacks c.in_ok-met.ensures.fed c.in_ok-met.ensures.kept in (

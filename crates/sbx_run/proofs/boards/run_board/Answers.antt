@@ -16,13 +16,15 @@ pub returns-in_err-outcome-clause-stands : goal.returns-in_err-outcome-clause-st
 returns-in_err-outcome-clause-stands g c =
     let same = c.image-image.ensures.image in
     let p = err_from_is_err_and c.from_residual.result c.from_residual.ensures.1 in
-    rw p.1 (stands_on g.row.N c.image-image.result.now c.args.accepted.now c.budget.result c.args.board.now.state c.load.new.self.state c.run.new.self.state same (c.budget.ensures ∙ ap budget same) c.load.ensures.start c.load.ensures.state c.in_err-outcome.ensures.stands c.in_err-outcome.ensures.goes_on)
+    rw p.1 (stands_on g.row.N c.image-image.result.now c.args.accepted.now c.budget.result c.args.board.now.state c.load.new.self.state c.run.new.self.state
+    same (c.budget.ensures ∙ ap budget same) c.load.ensures.start c.load.ensures.state c.in_err-outcome.ensures.stands c.in_err-outcome.ensures.goes_on)
 
 pub returns-in_err-outcome-clause-calls : goal.returns-in_err-outcome-clause-calls
 returns-in_err-outcome-clause-calls g c =
     let same = c.image-image.ensures.image in
     let p = err_from_is_err_and c.from_residual.result c.from_residual.ensures.1 in
-    rw p.1 (cut_asks g.row.N c.image-image.result.now c.args.accepted.now c.budget.result c.args.board.now c.load.new.self c.run.new.self same (c.budget.ensures ∙ ap budget same) c.load.ensures.start c.load.ensures.calls c.in_err-outcome.ensures.calls)
+    rw p.1 (cut_asks g.row.N c.image-image.result.now c.args.accepted.now c.budget.result c.args.board.now c.load.new.self c.run.new.self same
+    (c.budget.ensures ∙ ap budget same) c.load.ensures.start c.load.ensures.calls c.in_err-outcome.ensures.calls)
 
 pub returns-in_err-outcome-clause-state : goal.returns-in_err-outcome-clause-state
 returns-in_err-outcome-clause-state g c =
@@ -74,12 +76,14 @@ returns-clause-depth g c =
     let loaded : IsStart g.row.N parts c.args.board.now.state start = subst (λ (p : Parts). IsStart g.row.N p c.args.board.now.state start) same c.load.ensures.start in
     let limits : IsImage parts = subst IsImage same c.tells_limits.ensures in
     let run : IsRun g.row.N (budget parts) start end = subst (λ k. IsRun g.row.N k start end) (c.budget.ensures ∙ ap budget same) c.in_ok-outcome.ensures.run in
-    board_quiet g.row.N parts c.args.board.now.state start end limits c.image-image.ensures.safe given loaded c.load.ensures.state run c.in_ok-outcome.outcome c.in_ok-outcome.ensures.told c.image-image.ensures.depth
+    board_quiet g.row.N parts c.args.board.now.state start end limits c.image-image.ensures.safe given loaded c.load.ensures.state run c.in_ok-outcome.outcome
+    c.in_ok-outcome.ensures.told c.image-image.ensures.depth
 
 pub returns-clause-calls : goal.returns-clause-calls
 returns-clause-calls g c =
     let same = c.image-image.ensures.image in
-    run_asks g.row.N c.image-image.result.now c.args.accepted.now c.budget.result c.args.board.now c.load.new.self c.run.new.self same (c.budget.ensures ∙ ap budget same) c.load.ensures.start c.load.ensures.calls c.in_ok-outcome.ensures.calls
+    run_asks g.row.N c.image-image.result.now c.args.accepted.now c.budget.result c.args.board.now c.load.new.self c.run.new.self same
+    (c.budget.ensures ∙ ap budget same) c.load.ensures.start c.load.ensures.calls c.in_ok-outcome.ensures.calls
 
 pub returns-clause-state : goal.returns-clause-state
 returns-clause-state g c =

@@ -11,7 +11,9 @@ pub returns-in-Err-tell_turns-clause-part : goal.returns-in-Err-tell_turns-claus
 returns-in-Err-tell_turns-clause-part g c =
     turns_begun g.B.Bus.meaning g.row.N c.args.mmu.now c.args.limit _ _ _ _ _ _ c.in-Ok.ensures.whole
     (begun_is {D = g.B.Bus.Device} g.row.N
-    (world g.row.N c.args.machine.now.cpu (g.B.Bus.ram c.args.machine.now.bus) (g.B.Bus.device c.args.machine.now.bus)) c.args.teller.now.registers c.put_start.new.teller.registers (g.B.Bus.ram c.args.teller.now.memory) (g.B.Bus.ram c.put_start.new.teller.memory)
+    (world g.row.N c.args.machine.now.cpu (g.B.Bus.ram c.args.machine.now.bus)
+    (g.B.Bus.device c.args.machine.now.bus)) c.args.teller.now.registers c.put_start.new.teller.registers (g.B.Bus.ram c.args.teller.now.memory)
+    (g.B.Bus.ram c.put_start.new.teller.memory)
     c.in-Ok.ensures.registers (ap g.B.Bus.ram c.put_start.ensures.memory)) c.in-Err-tell_turns.ensures.part
 
 pub returns-in-Ok-tell_turns-clause-whole : goal.returns-in-Ok-tell_turns-clause-whole
@@ -19,7 +21,9 @@ returns-in-Ok-tell_turns-clause-whole g c =
     on_ok_weaker c.put_end.result
     (states_told g.B.Bus.meaning g.row.N c.args.mmu.now c.args.limit _ _ c.in-Ok-tell_turns.count _ _ _ _ _ _ _ c.in-Ok.ensures.whole
     (begun_is {D = g.B.Bus.Device} g.row.N
-    (world g.row.N c.args.machine.now.cpu (g.B.Bus.ram c.args.machine.now.bus) (g.B.Bus.device c.args.machine.now.bus)) c.args.teller.now.registers c.put_start.new.teller.registers (g.B.Bus.ram c.args.teller.now.memory) (g.B.Bus.ram c.put_start.new.teller.memory)
+    (world g.row.N c.args.machine.now.cpu (g.B.Bus.ram c.args.machine.now.bus)
+    (g.B.Bus.device c.args.machine.now.bus)) c.args.teller.now.registers c.put_start.new.teller.registers (g.B.Bus.ram c.args.teller.now.memory)
+    (g.B.Bus.ram c.put_start.new.teller.memory)
     c.in-Ok.ensures.registers (ap g.B.Bus.ram c.put_start.ensures.memory)) c.in-Ok-tell_turns.ensures.whole) c.put_end.ensures.whole
 
 pub returns-in-Ok-tell_turns-clause-part : goal.returns-in-Ok-tell_turns-clause-part
@@ -27,5 +31,7 @@ returns-in-Ok-tell_turns-clause-part g c =
     on_err_weaker c.put_end.result
     (end_begun g.B.Bus.meaning g.row.N c.args.mmu.now c.args.limit _ _ c.in-Ok-tell_turns.count _ _ _ _ _ _ _ c.in-Ok.ensures.whole
     (begun_is {D = g.B.Bus.Device} g.row.N
-    (world g.row.N c.args.machine.now.cpu (g.B.Bus.ram c.args.machine.now.bus) (g.B.Bus.device c.args.machine.now.bus)) c.args.teller.now.registers c.put_start.new.teller.registers (g.B.Bus.ram c.args.teller.now.memory) (g.B.Bus.ram c.put_start.new.teller.memory)
+    (world g.row.N c.args.machine.now.cpu (g.B.Bus.ram c.args.machine.now.bus)
+    (g.B.Bus.device c.args.machine.now.bus)) c.args.teller.now.registers c.put_start.new.teller.registers (g.B.Bus.ram c.args.teller.now.memory)
+    (g.B.Bus.ram c.put_start.new.teller.memory)
     c.in-Ok.ensures.registers (ap g.B.Bus.ram c.put_start.ensures.memory)) c.in-Ok-tell_turns.ensures.whole) c.put_end.ensures.part

@@ -12,7 +12,9 @@ use Rattle.sbx_stream.proofs.streams.run_stream.Goals as goal
 pub returns-in_err-board-clause-part : goal.returns-in_err-board-clause-part
 returns-in_err-board-clause-part g c =
     let p = err_from_is_err_and c.from_residual.result c.from_residual.ensures.1 in
-    rw (p.1, p.2) (no_memory c.args.accepted.now c.image-image.ensures.safe c.in_err-board.field-0.0 (g.R.Read.remaining c.args.reader.now) (g.W.Write.contents c.args.writer.now) c.in_err-board.ensures.fault)
+    rw (p.1, p.2)
+    (no_memory c.args.accepted.now c.image-image.ensures.safe c.in_err-board.field-0.0 (g.R.Read.remaining c.args.reader.now)
+    (g.W.Write.contents c.args.writer.now) c.in_err-board.ensures.fault)
 
 pub returns-in_err-board-clause-contained : goal.returns-in_err-board-clause-contained
 returns-in_err-board-clause-contained g c =

@@ -25,7 +25,10 @@ loop-region-preserved g c =
     record {
       count = pages_more c.args.regions.now l.region-index c.region-item.result less c.region-item.is c.requires l.pages c.page_count-more.result l.invariant.count taken;
       few = pages_few c.args.regions.now l.region-index c.region-item.result less c.region-item.is c.requires l.pages c.page_count-more.result l.invariant.count taken;
-      bytes = bytes_placed c.args.regions.now l.region-index c.region-item.result less c.region-item.is c.requires l.pages c.page_count-more.result l.invariant.count taken _ l.memory.ram _ l.invariant.bytes (subst (λ (bs : List ℕ). HasBytesOf (DATA_PLACE + 4096 * l.pages) bs (4096 * c.page_count-more.result) l.memory.ram c.set_bytes.new.self.ram) c.as_slice-bytes.ensures c.set_bytes.ensures.ram);
+      bytes = bytes_placed c.args.regions.now l.region-index c.region-item.result less c.region-item.is c.requires l.pages c.page_count-more.result
+          l.invariant.count taken _ l.memory.ram _ l.invariant.bytes
+          (subst (λ (bs : List ℕ). HasBytesOf (DATA_PLACE + 4096 * l.pages) bs
+          (4096 * c.page_count-more.result) l.memory.ram c.set_bytes.new.self.ram) c.as_slice-bytes.ensures c.set_bytes.ensures.ram);
       port = c.set_bytes.ensures.port ∙ l.invariant.port;
       ended = c.set_bytes.ensures.ended ∙ l.invariant.ended;
       stopped = c.set_bytes.ensures.stopped ∙ l.invariant.stopped;

@@ -4,7 +4,18 @@ use Rattle.v8_forms.proofs.printing.push_word.Goals as goal
 
 pub returns : goal.returns
 returns c = record {
-  bytes = rw (c.push_digit-8.ensures.bytes, c.push_digit-7.ensures.bytes, c.push_digit-6.ensures.bytes, c.push_digit-5.ensures.bytes, c.push_digit-4.ensures.bytes, c.push_digit-3.ensures.bytes, c.push_digit-2.ensures.bytes, c.push_digit.ensures.bytes, c.push_str.ensures.bytes) (simp append_assoc);
+  bytes = rw (
+    c.push_digit-8.ensures.bytes,
+    c.push_digit-7.ensures.bytes,
+    c.push_digit-6.ensures.bytes,
+    c.push_digit-5.ensures.bytes,
+    c.push_digit-4.ensures.bytes,
+    c.push_digit-3.ensures.bytes,
+    c.push_digit-2.ensures.bytes,
+    c.push_digit.ensures.bytes,
+    c.push_str.ensures.bytes,
+  )
+      (simp append_assoc);
 }
 
 pub push_digit-requires-5-clause-small : goal.push_digit-requires-5-clause-small

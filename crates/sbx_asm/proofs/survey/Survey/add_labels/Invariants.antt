@@ -10,4 +10,6 @@ use Rattle.sbx_asm.proofs.survey.Survey.add_labels.Given as goal
 abbrev pub invariant-loop : goal.invariant-loop
 invariant-loop l =
     (labels : List Label) → IsSurvey labels l.fn.self
-    → (so_far : List Label) × IsSurvey so_far l.self × (fold (with_one l.number l.address) so_far (label_names l.line (l.count - l.counter) l.rest) ≡ fold (with_one l.number l.address) labels (label_names l.line l.count l.fn.tokens))
+    → (so_far : List Label) × IsSurvey so_far l.self
+    × (fold (with_one l.number l.address) so_far (label_names l.line (l.count - l.counter) l.rest) ≡
+    fold (with_one l.number l.address) labels (label_names l.line l.count l.fn.tokens))

@@ -16,7 +16,8 @@ returns c =
     let xs : List (Option Entry) = c.self.inside.entries.items in
     let ws : List (Option Entry) = c.clear_entries.new.entries in
     let size : length ws ≡ length xs = c.clear_entries.ensures.size ∙ ap length c.as_mut_slice.ensures.value in
-    ap (λ (zs : List (Option Entry)). known (record { entries = zs; y = None; icc = false; relation = None })) (whole c.self.inside.entries.len ws (drop (length ws) xs) (omega (arith, size, c.self.inside.entries.ok.0)))
+    ap (λ (zs : List (Option Entry)). known (record { entries = zs; y = None; icc = false; relation = None }))
+    (whole c.self.inside.entries.len ws (drop (length ws) xs) (omega (arith, size, c.self.inside.entries.ok.0)))
     ∙ nothing_in_cleared ws (all_cleared Entry c.as_mut_slice.result.now ws (omega (arith, c.self.invariant.0, ap length c.as_mut_slice.ensures.value)) c.clear_entries.ensures.cleared)
 
 pub invariant_of-self : goal.invariant_of-self
@@ -27,5 +28,7 @@ invariant_of-self c =
       grind (arith, common_steps),
       grind (arith, common_steps),
       subst (λ (zs : List (Option Entry)). AreMarked 0 1040 (replicate 65 false) zs) (sym (whole c.self.inside.entries.len ws (drop (length ws) xs) (omega (arith, size, c.self.inside.entries.ok.0))))
-          (none_marked Entry (replicate 65 false) ws (all_cleared Entry c.as_mut_slice.result.now ws (omega (arith, c.self.invariant.0, ap length c.as_mut_slice.ensures.value)) c.clear_entries.ensures.cleared)),
+          (none_marked Entry (replicate 65 false) ws
+          (all_cleared Entry c.as_mut_slice.result.now ws
+          (omega (arith, c.self.invariant.0, ap length c.as_mut_slice.ensures.value)) c.clear_entries.ensures.cleared)),
     )

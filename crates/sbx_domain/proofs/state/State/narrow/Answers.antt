@@ -23,7 +23,8 @@ pub invariant_of-self : goal.invariant_of-self
 invariant_of-self c = (
   grind (arith, common_steps),
   grind (arith, common_steps),
-  marked_written Entry c.self.inside.marks c.self.inside.entries.items c.args.location c.with_range-entry.result c.self.invariant.1 (omega (arith, c.if-from-lt-LOCATIONS.true, c.from.ensures)) c.self.invariant.2,
+  marked_written Entry c.self.inside.marks c.self.inside.entries.items c.args.location c.with_range-entry.result c.self.invariant.1
+      (omega (arith, c.if-from-lt-LOCATIONS.true, c.from.ensures)) c.self.invariant.2,
 )
 
 pub index_mut-requires : goal.index_mut-requires

@@ -18,7 +18,8 @@ returns c =
     let s : Table = record { entries = c.self.inside.entries.items; y = c.self.inside.y; icc = c.self.inside.icc; relation = c.self.inside.relation } in
     let ws : List (Option Entry) = c.restore_entries.new.entries in
     let size : length ws ≡ length c.self.inside.entries.items = c.restore_entries.ensures.size ∙ ap length c.as_mut_slice.ensures.value in
-    ap (λ (zs : List (Option Entry)). known (record { entries = zs; y = s.y; icc = s.icc; relation = None })) (whole c.self.inside.entries.len ws (drop (length ws) c.self.inside.entries.items) (omega (arith, size, c.self.inside.entries.ok.0)))
+    ap (λ (zs : List (Option Entry)). known (record { entries = zs; y = s.y; icc = s.icc; relation = None }))
+    (whole c.self.inside.entries.len ws (drop (length ws) c.self.inside.entries.items) (omega (arith, size, c.self.inside.entries.ok.0)))
     ∙ (known_popped s ws (λ k. c.restore_entries.ensures.moved k
     ∙ ap (λ (xs : List (Option Entry)). if is_global k then slice_index_or xs k None else (if is_out k then slice_index_or xs (k + 16) None else None)) c.as_mut_slice.ensures.value)
     ∙ ap (λ (t : Table). restored (known t)) c.self.view_is)
@@ -30,6 +31,9 @@ invariant_of-self c =
     let size : length ws ≡ length xs = c.restore_entries.ensures.size ∙ ap length c.as_mut_slice.ensures.value in (
       grind (arith, common_steps),
       grind (arith, common_steps),
-      subst (λ (zs : List (Option Entry)). AreMarked 0 1040 c.only-self-inside.result zs) (sym (whole c.self.inside.entries.len ws (drop (length ws) xs) (omega (arith, size, c.self.inside.entries.ok.0))))
-          (subst (λ (ms : List Bool). AreMarked 0 1040 ms ws) (sym c.only-self-inside.ensures) (marked_restored Entry xs ws (λ k. c.restore_entries.ensures.moved k ∙ ap (λ (ys : List (Option Entry)). after_restore Entry ys k) c.as_mut_slice.ensures.value))),
+      subst (λ (zs : List (Option Entry)). AreMarked 0 1040 c.only-self-inside.result zs)
+          (sym (whole c.self.inside.entries.len ws (drop (length ws) xs) (omega (arith, size, c.self.inside.entries.ok.0))))
+          (subst (λ (ms : List Bool). AreMarked 0 1040 ms ws) (sym c.only-self-inside.ensures)
+          (marked_restored Entry xs ws
+          (λ k. c.restore_entries.ensures.moved k ∙ ap (λ (ys : List (Option Entry)). after_restore Entry ys k) c.as_mut_slice.ensures.value))),
     )

@@ -34,6 +34,9 @@ invariant_of-self c =
     let size : length ws ≡ length xs = c.save_entries.ensures.size ∙ ap length c.as_mut_slice.ensures.value in (
       grind (arith, common_steps),
       grind (arith, common_steps),
-      subst (λ (zs : List (Option Entry)). AreMarked 0 1040 c.only-self-inside.result zs) (sym (whole c.self.inside.entries.len ws (drop (length ws) xs) (omega (arith, size, c.self.inside.entries.ok.0))))
-          (subst (λ (ms : List Bool). AreMarked 0 1040 ms ws) (sym c.only-self-inside.ensures) (marked_saved Entry xs ws (λ k. c.save_entries.ensures.moved k ∙ ap (λ (ys : List (Option Entry)). after_save Entry ys k) c.as_mut_slice.ensures.value))),
+      subst (λ (zs : List (Option Entry)). AreMarked 0 1040 c.only-self-inside.result zs)
+          (sym (whole c.self.inside.entries.len ws (drop (length ws) xs) (omega (arith, size, c.self.inside.entries.ok.0))))
+          (subst (λ (ms : List Bool). AreMarked 0 1040 ms ws) (sym c.only-self-inside.ensures)
+          (marked_saved Entry xs ws
+          (λ k. c.save_entries.ensures.moved k ∙ ap (λ (ys : List (Option Entry)). after_save Entry ys k) c.as_mut_slice.ensures.value))),
     )

@@ -11,7 +11,8 @@ use Rattle.sbx_domain.specs.Known.{Table, known, with_entry}
 pub returns-then-from-lt-LOCATIONS : goal.returns-then-from-lt-LOCATIONS
 returns-then-from-lt-LOCATIONS c =
     let s : Table = record { entries = c.self.inside.entries.items; y = c.self.inside.y; icc = c.self.inside.icc; relation = c.self.inside.relation } in
-    known_written s c.args.location c.args.entry c.without_location-self-inside.result c.self.invariant.0 (grind (arith, nat_tests, c.if-location-gt0.true, c.if-from-lt-LOCATIONS.true, c.from.ensures)) c.without_location-self-inside.ensures
+    known_written s c.args.location c.args.entry c.without_location-self-inside.result c.self.invariant.0
+    (grind (arith, nat_tests, c.if-location-gt0.true, c.if-from-lt-LOCATIONS.true, c.from.ensures)) c.without_location-self-inside.ensures
     ∙ ap (λ (t : Table). with_entry c.args.location c.args.entry (known t)) c.self.view_is
 
 pub returns-else-location-gt0 : goal.returns-else-location-gt0

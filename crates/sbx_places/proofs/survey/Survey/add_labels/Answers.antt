@@ -30,7 +30,8 @@ returns-in_default c = λ labels held.
     let total : List Label = fold (with_one c.args.number c.args.address) labels (label_names c.args.line.now c.args.count c.args.tokens.now) in
     subst (λ (ls : List Label). IsSurvey ls c.loop.self)
     (ends (with_one c.args.number c.args.address) c.args.line.now c.args.count c.loop.counter so_far.0 total c.loop-test.true
-    (at_tokens (with_one c.args.number c.args.address) c.args.line.now c.args.count c.loop.counter so_far.0 total c.loop.rest.now [] (nil_from_length c.loop.rest.now c.in_default.ensures.cases) so_far.2)
+    (at_tokens (with_one c.args.number c.args.address) c.args.line.now c.args.count c.loop.counter so_far.0 total c.loop.rest.now []
+    (nil_from_length c.loop.rest.now c.in_default.ensures.cases) so_far.2)
     ∙ with_all c.args.number c.args.address labels (label_names c.args.line.now c.args.count c.args.tokens.now))
     so_far.1
 

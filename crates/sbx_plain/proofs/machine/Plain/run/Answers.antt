@@ -10,7 +10,8 @@ pub loop-count-preserved : goal.loop-count-preserved
 loop-count-preserved c = record {
   reached =
       let step = subst (λ told. Turns (turn c.args.image.now (filled c.args.fill)) c.loop-count.self c.step.new.self told) c.in-Went.is c.in_ok-step.ensures in
-      reaches_more c.args.image.now c.args.fill c.args.self.now c.loop-count.self c.step.new.self c.loop-count.path.items c.place-place.result c.push.new.self.items (search rules) c.loop-count.invariant.reached c.place-place.ensures step (search rules);
+      reaches_more c.args.image.now c.args.fill c.args.self.now c.loop-count.self c.step.new.self c.loop-count.path.items c.place-place.result
+      c.push.new.self.items (search rules) c.loop-count.invariant.reached c.place-place.ensures step (search rules);
   steps = search rules;
 }
 

@@ -10,7 +10,8 @@ returns-clause-goes g c =
     let t = c.advance-slice.new.board.state in
     let fine : Fine c.args.self.now.met [] t.world.memory.device =
     elim c.else-not-self.branch [
-      | else-not-self-via-then-not-self+else-has_ended w ↦ fine_unknown c.args.self.now.met t.world.memory.device (λ none. w.has_ended.ensures.goes_on w.if-has_ended.false (w.port.ensures.input ∙ none))
+      | else-not-self-via-then-not-self+else-has_ended w ↦
+          fine_unknown c.args.self.now.met t.world.memory.device (λ none. w.has_ended.ensures.goes_on w.if-has_ended.false (w.port.ensures.input ∙ none))
       | else-not-self-via-else-not-self w ↦ fine_known c.args.self.now.met t.world.memory.device (search rules)
     ] in
     λ parts read written goes.

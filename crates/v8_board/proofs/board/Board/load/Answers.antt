@@ -24,7 +24,8 @@ returns-clause-start g c = grind (arith, common_steps)
 pub returns-clause-contained : goal.returns-clause-contained
 returns-clause-contained g c =
     let kept = placed_kept g.row.N c.args.image.now _ _ c.place.ensures.ram in
-    loads_contained g.row.N c.args.image.now c.self.inside.machine.cpu c.boot.new.self.cpu c.boot.new.self.bus.ram c.boot.new.self.mmu _ c.self.invariant.0 c.self.invariant.1 c.boot.ensures.cpu c.boot.ensures.file
+    loads_contained g.row.N c.args.image.now c.self.inside.machine.cpu c.boot.new.self.cpu c.boot.new.self.bus.ram c.boot.new.self.mmu _ c.self.invariant.0
+    c.self.invariant.1 c.boot.ensures.cpu c.boot.ensures.file
     (rw c.boot.ensures.bus kept) (rw c.boot.ensures.mmu c.self.invariant.2) (rw c.boot.ensures.bus c.place.ensures.stopped)
 
 pub returns-clause-state : goal.returns-clause-state
@@ -39,12 +40,14 @@ returns-clause-state g c =
 
 pub returns-clause-failed : goal.returns-clause-failed
 returns-clause-failed g c =
-    let port : c.boot.new.self.bus.port ≡ c.self.inside.machine.bus.port = ap (λ (m : Memory g.row.P.Denot). m.port) c.boot.ensures.bus ∙ c.place.ensures.port ∙ ap (λ (m : Memory g.row.P.Denot). m.port) c.bus_mut.ensures.value in
+    let port : c.boot.new.self.bus.port ≡ c.self.inside.machine.bus.port = ap (λ (m : Memory g.row.P.Denot). m.port) c.boot.ensures.bus ∙ c.place.ensures.port
+    ∙ ap (λ (m : Memory g.row.P.Denot). m.port) c.bus_mut.ensures.value in
     ap g.P.Port.failed port ∙ ap (λ (s : Seen g.row.N). s.failed) c.self.view_is
 
 pub returns-clause-calls : goal.returns-clause-calls
 returns-clause-calls g c =
-    let port : c.boot.new.self.bus.port ≡ c.self.inside.machine.bus.port = ap (λ (m : Memory g.row.P.Denot). m.port) c.boot.ensures.bus ∙ c.place.ensures.port ∙ ap (λ (m : Memory g.row.P.Denot). m.port) c.bus_mut.ensures.value in
+    let port : c.boot.new.self.bus.port ≡ c.self.inside.machine.bus.port = ap (λ (m : Memory g.row.P.Denot). m.port) c.boot.ensures.bus ∙ c.place.ensures.port
+    ∙ ap (λ (m : Memory g.row.P.Denot). m.port) c.bus_mut.ensures.value in
     ap g.P.Port.calls port ∙ ap (λ (s : Seen g.row.N). s.calls) c.self.view_is
 
 pub y-word-requires : goal.y-word-requires

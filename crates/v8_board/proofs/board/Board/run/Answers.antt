@@ -10,9 +10,11 @@ loop-done-init g c = (no_turns _ _, refl, no_calls g.row.N c.args.self.now.state
 
 pub loop-done-preserved : goal.loop-done-preserved
 loop-done-preserved g c = (
-  one_turn_more g.row.N c.loop-done.done c.args.self.now.state c.loop-done.self.state c.turn.new.self.state c.in-Ok._turn c.loop-done.invariant.0 (sym c.ending.ensures ∙ c.in-None.is) c.in-Ok.ensures.turn,
+  one_turn_more g.row.N c.loop-done.done c.args.self.now.state c.loop-done.self.state c.turn.new.self.state c.in-Ok._turn c.loop-done.invariant.0
+      (sym c.ending.ensures ∙ c.in-None.is) c.in-Ok.ensures.turn,
   c.in-Ok.ensures.count ∙ c.loop-done.invariant.1,
-  one_turn_called g.row.N c.loop-done.done c.args.self.now.state c.loop-done.self.state c.turn.new.self.state c.in-Ok._turn c.args.self.now.calls c.loop-done.self.calls c.turn.new.self.calls c.loop-done.invariant.0 c.in-Ok.ensures.turn c.loop-done.invariant.2 c.in-Ok.ensures.calls,
+  one_turn_called g.row.N c.loop-done.done c.args.self.now.state c.loop-done.self.state c.turn.new.self.state c.in-Ok._turn c.args.self.now.calls
+      c.loop-done.self.calls c.turn.new.self.calls c.loop-done.invariant.0 c.in-Ok.ensures.turn c.loop-done.invariant.2 c.in-Ok.ensures.calls,
 )
 
 pub returns-in_default-clause-run : goal.returns-in_default-clause-run
@@ -34,7 +36,8 @@ returns-in_default-clause-contained g c =
 
 pub returns-clause-contained : goal.returns-clause-contained
 returns-clause-contained g c =
-    run_kept g.row.N c.args.limit c.args.self.now.state c.loop-done.self.state (whole_run g.row.N c.args.limit c.loop-done.done c.args.self.now.state c.loop-done.self.state c.loop-done.invariant.0 (omega arith))
+    run_kept g.row.N c.args.limit c.args.self.now.state c.loop-done.self.state
+    (whole_run g.row.N c.args.limit c.loop-done.done c.args.self.now.state c.loop-done.self.state c.loop-done.invariant.0 (omega arith))
 
 pub returns-in-Err-clause-contained : goal.returns-in-Err-clause-contained
 returns-in-Err-clause-contained g c =
@@ -50,15 +53,18 @@ returns-in-Err-clause-goes_on g c =
 
 pub returns-in_default-clause-calls : goal.returns-in_default-clause-calls
 returns-in_default-clause-calls g c =
-    ended_asks g.row.N c.args.limit c.loop-done.done c.args.self.now.state c.loop-done.self.state c.args.self.now.calls c.loop-done.self.calls c.loop-done.invariant.0 (omega arith) (λ none. c.in_default.not-None (c.ending.ensures ∙ none)) c.loop-done.invariant.2
+    ended_asks g.row.N c.args.limit c.loop-done.done c.args.self.now.state c.loop-done.self.state c.args.self.now.calls c.loop-done.self.calls
+    c.loop-done.invariant.0 (omega arith) (λ none. c.in_default.not-None (c.ending.ensures ∙ none)) c.loop-done.invariant.2
 
 pub returns-clause-calls : goal.returns-clause-calls
 returns-clause-calls g c =
-    whole_asks g.row.N c.args.limit c.loop-done.done c.args.self.now.state c.loop-done.self.state c.args.self.now.calls c.loop-done.self.calls c.loop-done.invariant.0 (omega arith) c.loop-done.invariant.2
+    whole_asks g.row.N c.args.limit c.loop-done.done c.args.self.now.state c.loop-done.self.state c.args.self.now.calls c.loop-done.self.calls
+    c.loop-done.invariant.0 (omega arith) c.loop-done.invariant.2
 
 pub returns-in-Err-clause-calls : goal.returns-in-Err-clause-calls
 returns-in-Err-clause-calls g c =
-    let asks = cut_asks g.row.N c.args.limit c.loop-done.done c.args.self.now.state c.loop-done.self.state c.args.self.now.calls c.loop-done.self.calls c.turn.new.self.calls c.loop-done.invariant.0 (omega arith) (sym c.ending.ensures ∙ c.in-None.is) c.loop-done.invariant.2 c.in-Err.ensures.calls in
+    let asks = cut_asks g.row.N c.args.limit c.loop-done.done c.args.self.now.state c.loop-done.self.state c.args.self.now.calls c.loop-done.self.calls
+    c.turn.new.self.calls c.loop-done.invariant.0 (omega arith) (sym c.ending.ensures ∙ c.in-None.is) c.loop-done.invariant.2 c.in-Err.ensures.calls in
     rw c.in-Err.ensures.state asks
 
 pub returns-in_default-clause-told : goal.returns-in_default-clause-told

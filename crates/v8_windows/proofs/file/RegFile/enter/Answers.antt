@@ -8,7 +8,8 @@ pub invariant_of-self : goal.invariant_of-self
 invariant_of-self g c =
     let f = c.self.inside in
     let i = c.self.invariant in
-    let e = entered_as g.row.N f.current c.args.window f.mask f.outs f.locals f.registers c.half-globals.result c.half.result c.half-2.result c.half-3.result c.whole-self-inside.result c.next-above_left.result c.next.result
+    let e = entered_as g.row.N f.current c.args.window f.mask f.outs f.locals f.registers c.half-globals.result c.half.result c.half-2.result c.half-3.result
+    c.whole-self-inside.result c.next-above_left.result c.next.result
     i.0 i.2 c.requires i.4 i.5 i.6 c.half-globals.ensures c.half.ensures c.half-2.ensures c.half-3.ensures c.next-above_left.ensures.value c.next.ensures.value c.whole-self-inside.ensures in
     (i.0, i.1, c.requires, i.3, e.registers, e.outs, e.locals)
 
@@ -16,7 +17,8 @@ pub returns : goal.returns
 returns g c =
     let f = c.self.inside in
     let i = c.self.invariant in
-    let e = entered_as g.row.N f.current c.args.window f.mask f.outs f.locals f.registers c.half-globals.result c.half.result c.half-2.result c.half-3.result c.whole-self-inside.result c.next-above_left.result c.next.result
+    let e = entered_as g.row.N f.current c.args.window f.mask f.outs f.locals f.registers c.half-globals.result c.half.result c.half-2.result c.half-3.result
+    c.whole-self-inside.result c.next-above_left.result c.next.result
     i.0 i.2 c.requires i.4 i.5 i.6 c.half-globals.ensures c.half.ensures c.half-2.ensures c.half-3.ensures c.next-above_left.ensures.value c.next.ensures.value c.whole-self-inside.ensures in
     e.shows ∙ ap (λ v. moved v c.args.window) c.self.view_is
 
