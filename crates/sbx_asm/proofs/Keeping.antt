@@ -80,10 +80,6 @@ module _ (n : ℕ) (ts others : List Token) where
         (λ j. drop (least j) (e j)) ∙ drop-append_seam us others,
       )
 
-pub no_tokens : (f : TextFault) (ts others : List Token) (read : Result (List Token) TextFault) → Err f ≡ counted read → ts ≡ result_unwrap_or read [] ++ others → (Err f ≡ read) × (ts ≡ others)
-no_tokens f ts others (Ok us) h e = absurd (cc)
-no_tokens f ts others (Err g) h e = (cc h, e)
-
 module _ (read total : List Item) (k : ℕ) (rest : List ℕ) (so_far : read ++ map item_of (enumerate_from (k + 1) (lines_of rest)) ≡ total) where
   pub next_item : (line after : List ℕ) → lines_of rest ≡ line ∷ lines_of after → (read ++ item_of (k + 1, line) ∷ []) ++ map item_of (enumerate_from (k + 1 + 1) (lines_of after)) ≡ total
   next_item line after first =

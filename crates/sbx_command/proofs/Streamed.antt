@@ -16,8 +16,8 @@ use Rattle.sbx_stream.specs.Streams.{IsAnswerWritten, IsFront, IsStreamed}
 use Rattle.sbx_command.specs.Laws.{KnownInputsAreAnswered}
 use Rattle.sbx_stops.specs.declared.stops.Stop.{Stop}
 use Rattle.sbx_stops.specs.declared.stops.Stop.TheVariants.{Source, Image, Refused, File, Input, Output, Memory, NoRoom}
-use Rattle.sbx_stops.specs.Stops.{IsEarly, IsOfFile, IsTrueOf, stop_of_run}
-use Rattle.sbx_command.specs.Streaming.{HasFront, HasNothing, Leaves, LeavesOn, Left, OfAccepted, Ran, RanOn, RunGives, status_of_word}
+use Rattle.sbx_stops.specs.Stops.{IsEarly, stop_of_run}
+use Rattle.sbx_command.specs.Streaming.{HasFront, HasNothing, Leaves, LeavesOn, Left, OfAccepted, RanOn, RunGives, status_of_word}
 use Rattle.sbx_put.proofs.Written.{kept_after}
 
 -- a run on as many windows as another number says
@@ -76,12 +76,6 @@ faulted windows parts a b c d fault stop (read, met, written, so, bytes, got, al
 
 -- ---- of the file
 
--- a run of an accepted image is one of the image that the known bytes of the file spell
-pub ran_of : (windows : ℕ) (file a b c d : Option (List ℕ)) (parts : Parts) (status : ℕ) → IfSome file (λ bytes. (reading bytes ≡ Ok parts) × Checked parts)
-    → RanOn windows parts a b c d status → Ran windows file a b c d status
-ran_of windows None a b c d parts status read ran = tt
-ran_of windows (Some bytes) a b c d parts status read ran = (parts, read.0, ran)
-
 of_accepted : (P : Parts → Type 0) (file : Option (List ℕ)) (parts : Parts) → IfSome file (λ bytes. (reading bytes ≡ Ok parts) × Checked parts) → P parts → OfAccepted P file
 of_accepted P None parts read so = tt
 of_accepted P (Some bytes) parts read so = (parts, read.0, read.1, so)
@@ -101,35 +95,6 @@ pub left_of : (file a b c d : Option (List ℕ)) (parts : Parts) (stop : Stop) �
     → Streamed a b c d (LeavesOn parts stop) → Left file a b c d stop
 left_of file a b c d parts stop accepted (read, met, written, so, bytes, got, all, put) =
     (read, met, written, leaves_of file parts stop read met written accepted so, bytes, got, all, put)
-
--- a run's own stop tells nothing of the bytes of the file
-own_is_true : (parts : Parts) (stop : Stop) (read : List ℕ) (met : Bool) (written : List ℕ) → LeavesOn parts stop read met written
-    → (bytes : List ℕ) → IsTrueOf stop bytes
-own_is_true parts Input read met written so bytes = tt
-own_is_true parts Output read met written so bytes = tt
-own_is_true parts (Memory want) read met written so bytes = tt
-own_is_true parts (Source fault) read met written so bytes = absurd so
-own_is_true parts (Image fault) read met written so bytes = absurd so
-own_is_true parts (Refused refusal) read met written so bytes = absurd so
-own_is_true parts File read met written so bytes = absurd so
-own_is_true parts (NoRoom full) read met written so bytes = absurd so
-
-pub own_stop : (file a b c d : Option (List ℕ)) (parts : Parts) (stop : Stop) → Streamed a b c d (LeavesOn parts stop) → IfSome file (IsTrueOf stop)
-own_stop None a b c d parts stop left = tt
-own_stop (Some bytes) a b c d parts stop (read, met, written, so, fit, got, all, put) = own_is_true parts stop read met written so bytes
-
-own_refuses_none : (parts : Parts) (stop : Stop) (read : List ℕ) (met : Bool) (written : List ℕ) → LeavesOn parts stop read met written → IsOfFile stop → ⊥
-own_refuses_none parts Input read met written so refuses = refuses
-own_refuses_none parts Output read met written so refuses = refuses
-own_refuses_none parts (Memory want) read met written so refuses = refuses
-own_refuses_none parts (Source fault) read met written so refuses = so
-own_refuses_none parts (Image fault) read met written so refuses = so
-own_refuses_none parts (Refused refusal) read met written so refuses = so
-own_refuses_none parts File read met written so refuses = so
-own_refuses_none parts (NoRoom full) read met written so refuses = so
-
-pub own_untouched : (a b c d : Option (List ℕ)) (parts : Parts) (stop : Stop) → Streamed a b c d (LeavesOn parts stop) → IsOfFile stop → ⊥
-own_untouched a b c d parts stop (read, met, written, so, fit, got, all, put) refuses = own_refuses_none parts stop read met written so refuses
 
 -- ---- before a run
 

@@ -80,13 +80,3 @@ part_cleared A from to n m marks xs ys low next same unmarked rest filled = more
         let mark : slice_index_or marks (k / 16) false ≡ false = ap (λ (q : ℕ). slice_index_or marks q false) (same k above below) ∙ unmarked in
         after_clear_within A from to xs k first last ∙ sym (rest k first last mark)
     by_end k above below false h = after_clear_past A from to xs k (grind (arith, nat_tests))
-
--- in such a part of two lists all is the same
-pub part_copied : (A : Type 0) (n m : ℕ) (from_marks to_marks : List Bool) (from old ys : List (Option A)) → n < m → m ≤ 1040 → ((k : ℕ) → n ≤ k → k < m → k / 16 ≡ n / 16)
-    → slice_index_or from_marks (n / 16) false ≡ false → slice_index_or to_marks (n / 16) false ≡ false → AreMarked 0 1040 from_marks from → AreMarked 0 1040 to_marks old
-    → FilledTo A n (λ k. slice_index_or from k None) old ys → FilledTo A m (λ k. slice_index_or from k None) old ys
-part_copied A n m from_marks to_marks from old ys next end same unmarked unmarked_too rest rest_too filled =
-    more_filled A n m (λ k. slice_index_or from k None) old ys next (λ k above below.
-    (let high : k < 1040 = omega (arith, below, end) in
-    rest k (omega arith) high (ap (λ (q : ℕ). slice_index_or from_marks q false) (same k above below) ∙ unmarked)
-    ∙ sym (rest_too k (omega arith) high (ap (λ (q : ℕ). slice_index_or to_marks q false) (same k above below) ∙ unmarked_too)))) filled

@@ -1,9 +1,8 @@
 -- Terms in a form's array.
-use Rattle.std.proofs.Common.{◌≡◌, ℕ, zero, suc, ◌+◌, ◌-◌, ◌^◌, ◌<◌, ◌≤◌, Bool, true, List, [], ◌∷◌, ◌++◌, length, get_or, take, drop, map, replicate, refl, sym, ap, ◌∙◌, arith}
+use Rattle.std.proofs.Common.{◌≡◌, ℕ, zero, suc, ◌-◌, ◌^◌, ◌<◌, ◌≤◌, Bool, true, List, [], ◌∷◌, length, get_or, take, drop, map, replicate, refl, arith}
 use Rattle.std.specs.Prelude.{◌&&◌, nat_le, unsigned_abs}
 use Rattle.std.specs.List.{list_all}
 use Rattle.std.proofs.lemmas.Bool.Decides.{nat_tests}
-use Rattle.std.proofs.lemmas.List.{map-append, take_more}
 use Rattle.sbx_form.specs.declared.terms.FormTerm.{FormTerm}
 use Rattle.sbx_form.specs.Forms.{AreWithin}
 use Rattle.sbx_range.proofs.Words.{both_true}
@@ -43,13 +42,6 @@ row_packs (a ∷ b ∷ c ∷ d ∷ e ∷ f ∷ []) h = (refl, refl)
 row_packs (a ∷ b ∷ c ∷ d ∷ e ∷ f ∷ g ∷ []) h = (refl, refl)
 row_packs (a ∷ b ∷ c ∷ d ∷ e ∷ f ∷ g ∷ i ∷ []) h = (refl, refl)
 row_packs (a ∷ b ∷ c ∷ d ∷ e ∷ f ∷ g ∷ i ∷ j ∷ ts) h = absurd (omega arith)
-
--- one more term of those that were kept
-pub one_unpacked : (ts : List KeptTerm) (i : ℕ) (d : KeptTerm) (us : List FormTerm) → i < length ts → us ≡ map widened (take i ts) → us ++ widened (get_or ts i d) ∷ [] ≡ map widened (take (i + 1) ts)
-one_unpacked ts i d us room is =
-    ap (λ vs. vs ++ widened (get_or ts i d) ∷ []) is
-    ∙ (sym (map-append widened (take i ts) (get_or ts i d ∷ []))
-    ∙ ap (map widened) (sym (take_more ts i d room)))
 
 -- what a form that is kept says of its parts
 pub record IsSmall (f : Form) : Type 0 where

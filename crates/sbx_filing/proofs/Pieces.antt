@@ -1,23 +1,19 @@
 -- What a file that is read piece by piece tells of the image.
-use Rattle.std.proofs.Common.{◌≡◌, ◌≢◌, refl, sym, ap, subst, ℕ, List, [], ◌++◌, Option, None, Some, IfSome, MatchResult, Result, Ok, Err, ◌∙◌}
-use Rattle.std.proofs.lemmas.List.{append_assoc, append-nil}
-use Rattle.std.specs.Io.KnownBytes.{Consumes, IsAtEnd}
+use Rattle.std.proofs.Common.{◌≡◌, ◌≢◌, sym, ap, subst, ℕ, List, ◌++◌, Option, None, Some, IfSome, Result, Ok, Err, ◌∙◌}
+use Rattle.std.proofs.lemmas.List.{append_assoc}
+use Rattle.std.specs.Io.KnownBytes.{Consumes}
 use Rattle.sbx_image.specs.ImageFault.{ImageFault}
 use Rattle.sbx_image.specs.ImageFault.TheVariants as fault
 use Rattle.sbx_image.specs.Reading.{reading}
 use Rattle.sbx_reader.specs.Fronts.{Kept, IsFed, front}
 use Rattle.sbx_reader.proofs.Lasting.{front_lasts}
 use Rattle.want.specs.Wants.{refused}
-use Rattle.sbx_stops.specs.Stops.{IsEarly, IsTrueOfImage, stop_of_image}
+use Rattle.sbx_stops.specs.Stops.{IsTrueOfImage, stop_of_image}
 
 -- the reader joined what the file gave so far
 abbrev pub Joined : Option (List ℕ) → Option (List ℕ) → Kept → Type 0
 Joined all left (Ok bytes) = Consumes all left bytes
 Joined all left (Err fault) = ⊥
-
-pub joined_none : (all : Option (List ℕ)) → Joined all all (Ok [])
-joined_none None = tt
-joined_none (Some bytes) = refl
 
 -- a piece more
 pub joined_more : (all left less : Option (List ℕ)) (bytes piece : List ℕ) → Consumes all left bytes → Consumes left less piece → Consumes all less (bytes ++ piece)
@@ -25,13 +21,6 @@ joined_more None left less bytes piece p q = tt
 joined_more (Some a) None less bytes piece p q = absurd p
 joined_more (Some a) (Some b) None bytes piece p q = absurd q
 joined_more (Some a) (Some b) (Some c) bytes piece p q = p ∙ (ap (λ (l : List ℕ). bytes ++ l) q ∙ sym (append_assoc bytes piece c))
-
-pub all_joined : (all left : Option (List ℕ)) (kept : Kept) → Joined all left kept → IsAtEnd left → IfSome all (λ bytes. kept ≡ Ok bytes)
-all_joined None left kept p q = tt
-all_joined (Some a) None (Ok bytes) p q = absurd p
-all_joined (Some a) None (Err fault) p q = absurd p
-all_joined (Some a) (Some b) (Err fault) p q = absurd p
-all_joined (Some a) (Some b) (Ok bytes) p q = ap (λ (l : List ℕ). Ok l) (sym (p ∙ (ap (λ (l : List ℕ). bytes ++ l) q ∙ append-nil bytes)))
 
 -- the fault of the pieces joined is that of the whole file
 stop_holds : (e : ImageFault) (bytes : List ℕ) → (e ≢ fault.Memory refused → reading bytes ≡ Err e) → IsTrueOfImage (stop_of_image e) bytes
@@ -50,17 +39,6 @@ pub front_stop : (all less : Option (List ℕ)) (joined : List ℕ) (e : ImageFa
 front_stop None less joined e p q = tt
 front_stop (Some a) None joined e p q = absurd q
 front_stop (Some a) (Some b) joined e p q = subst (IsTrueOfImage (stop_of_image e)) (sym q) (stop_holds e (joined ++ b) (λ ne. front_lasts joined b e (p ne)))
-
-pub image_is_early : (e : ImageFault) → IsEarly (stop_of_image e)
-image_is_early (fault.Memory want) = tt
-image_is_early fault.Short = tt
-image_is_early fault.Magic = tt
-image_is_early fault.Version = tt
-image_is_early fault.Service = tt
-image_is_early fault.Limit = tt
-image_is_early fault.Trailing = tt
-image_is_early fault.Order = tt
-image_is_early fault.Range = tt
 
 -- what a piece more tells where it is refused
 pub fed_stop : (all left less : Option (List ℕ)) (old new : Kept) (piece : List ℕ) (result : Result (Unit {0}) ImageFault) (e : ImageFault)

@@ -254,14 +254,6 @@ base_0 : (file : Registers) → base file 0 ≡ file.newest.outs 14
 unfolding cell
 base_0 file = refl
 
-pushed_base : (fresh : Fresh) (b : ℕ) (file : Registers) → base (pushed fresh b file) 0 ≡ b
-unfolding cell
-pushed_base fresh b file = refl
-
-pushed_older : (fresh : Fresh) (b : ℕ) (file : Registers) (k : ℕ) → base (pushed fresh b file) (suc k) ≡ base file k
-unfolding cell
-pushed_older fresh b file k = refl
-
 -- a base below the newest is below all
 below_all : (pages : ℕ) (file : Registers) (b i : ℕ) → IsStacked pages file → b + 64 ≤ file.newest.outs 14 → i < depth file → b + 64 ≤ base file i
 below_all pages file b zero s h less = let e = base_0 file in omega (arith, e)

@@ -1,6 +1,5 @@
 pub mod Law
 pub mod Registers
-pub mod Alike
 pub mod Turns
 pub mod Examples
 pub mod Goes

@@ -1,6 +1,6 @@
 -- What loops over cells and terms come by, an item at a time.
 use Rattle.std.proofs.Common.{◌≡◌, ℕ, zero, suc, ◌+◌, ◌*◌, ◌^◌, ◌<◌, ◌≤◌, Bool, true, false, List, [], ◌∷◌, ◌++◌, get_or, drop, take, map, length, Some, None}
-use Rattle.std.proofs.Common.{refl, sym, ap, ◌∙◌, append_assoc, append-nil, arith, add-one}
+use Rattle.std.proofs.Common.{refl, sym, ap, ◌∙◌, append_assoc, arith, add-one}
 use Rattle.std.specs.Prelude.{◌==◌, ◌||◌, if◌then◌else◌, Option, ℤ, pos, negsuc, neg_ℤ, ◌*ℤ◌, slice_get, unsigned_abs}
 use Rattle.std.specs.Option.{is_some}
 use Rattle.std.proofs.Math.Seq.{drop-cons}
@@ -110,10 +110,6 @@ none_counted cells ts i d done total room strange so =
     let e : counted cells (drop i ts) ≡ rest =
     ap (counted cells) (drop-cons ts i d room) ∙ ap (λ (b : Bool). if b then form_term t ∷ rest else rest) strange in
     ap (λ n. done ++ counted cells (drop n ts)) (add-one i) ∙ (ap (λ us. done ++ us) (sym e) ∙ so)
-
-pub all_counted : (cells : List Cell) (ts : List Term) (i : ℕ) (done total : List FormTerm) → length ts ≤ i → done ++ counted cells (drop i ts) ≡ total → done ≡ total
-all_counted cells ts i done total past so =
-    sym (append-nil done) ∙ (ap (λ us. done ++ counted cells us) (sym (drop_all i ts past)) ∙ so)
 
 pub negated_within : (m : ℕ) (ts : List FormTerm) → AreWithin m ts → AreWithin m (map negated ts)
 negated_within m [] h = tt

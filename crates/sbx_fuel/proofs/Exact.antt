@@ -182,9 +182,6 @@ no_cells others l r e = absurd cc
 none_some : AreSome nothing_known
 none_some l r e = absurd cc
 
-no_terms : List FormTerm
-no_terms = []
-
 module _ (first : Known) (terms : List FormTerm) (z : ℤ) (some_first : AreSome first) (are_terms : AreTerms terms) where
   abbrev IsAlways : Type 0
   IsAlways = (start : Cells) → InCells first start → pos 0 ≤ℤ (z +ℤ terms_value start terms)

@@ -88,14 +88,6 @@ lies_at start (r ∷ rs) a b e = by (lies_at (behind start r) rs a b) (byte_of_r
 pub data_lies_at : (rs : List Region) (a b : ℕ) → data_at rs a ≡ Some b → LiesInPages data_start rs a b
 data_lies_at rs a b e = lies_at data_start rs a b e
 
--- one region alone
-pub data_of_one : (r : Region) (a : ℕ) → data_at (r ∷ []) a ≡ (if nat_lt a data_start then None else slice_get r.bytes (a - data_start))
-data_of_one r a = by (if nat_lt a data_start then None else slice_get r.bytes (a - data_start))
-  where
-    by : (o : Option ℕ) → or_else o None ≡ o
-    by None = refl
-    by (Some b) = refl
-
 -- ---- what is held
 
 not_less : (x y : ℤ) → not (int_lt x y) ≡ true → y ≤ℤ x

@@ -1,11 +1,10 @@
 -- The cells of a first block are its function's params, from %o0 on.
-use Rattle.std.proofs.Common.{◌≡◌, ℕ, zero, suc, true, List, [], ◌∷◌, refl, ap, arith}
-use Rattle.std.specs.Prelude.{◌&&◌, ◌==◌}
-use Rattle.std.proofs.lemmas.Bool.Decides.{nat_tests}
+use Rattle.std.proofs.Common.{◌≡◌, ℕ, zero, suc, List, [], ◌∷◌, refl, ap, arith}
+use Rattle.std.specs.Prelude.{◌&&◌}
 use Rattle.sbx_image.specs.Range.{Range}
 use Rattle.sbx_image.specs.Parts.{Parts}
 use Rattle.sbx_rules.specs.Known.{Known, range_at}
-use Rattle.sbx_image.specs.Order.{block_at, function_at}
+use Rattle.sbx_image.specs.Order.{function_at}
 use Rattle.sbx_rules.specs.Rules.{has_cells, has_outs, has_range}
 use Rattle.sbx_rules.specs.Ways.{cells_at, out_cells}
 
@@ -13,13 +12,6 @@ pub outs_are_cells : (l : ℕ) (rs : List Range) (d : Known) → has_outs l rs d
 outs_are_cells l [] d = refl
 outs_are_cells l (r ∷ rs) d = ap (λ b. has_range (range_at d l) r && b) (outs_are_cells (suc l) rs d)
 
-no_first : (n : ℕ) → (n == 0) ≡ true → n ≡ 0
-no_first n e = grind (arith, nat_tests)
-
 pub cells_first : (parts : Parts) (f b : ℕ) → b ≡ 0 → cells_at parts f b ≡ out_cells 8 (function_at parts f).params
 cells_first parts f zero e = refl
 cells_first parts f (suc b) e = absurd (omega arith)
-
-pub cells_later : (parts : Parts) (f b : ℕ) → (b ≡ 0 → ⊥) → cells_at parts f b ≡ (block_at parts f b).cells
-cells_later parts f zero e = absurd (e refl)
-cells_later parts f (suc b) e = refl

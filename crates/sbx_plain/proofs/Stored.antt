@@ -99,16 +99,6 @@ stored bytes mid new address (suc c) place n some at there front last a =
     stores_more bytes mid new address c n there (λ x. front x ∙ ap (λ k. with_number bytes address k (n / 256) x) e)
     (λ x. last x ∙ ap (λ (k : ℕ). if x == k then if_some (mid x) (n % 256) else mid x) p) a
 
-front_of : (x y : Option ℕ) → IsSome (followed_by x y) → IsSome x
-front_of None y h = absurd (cc)
-front_of (Some n) y h = refl
-
-pub front_some : (bytes : Bytes) (address count : ℕ) → count ≢ 0 → IsSome (number_at bytes address count) → IsSome (number_at bytes address (count - 1))
-front_some bytes address zero some there = absurd (some refl)
-front_some bytes address (suc c) some there =
-    let e : c ≡ suc c - 1 = omega arith in
-    subst (λ k. IsSome (number_at bytes address k)) e (front_of (number_at bytes address c) (bytes (address + c)) there)
-
 -- memory that is read alike everywhere
 pub number_same : (f g : Bytes) (address count : ℕ) → ((a : ℕ) → f a ≡ g a) → number_at f address count ≡ number_at g address count
 number_same f g address zero same = refl

@@ -91,9 +91,6 @@ number_in_leaves least w small low high bad bytes =
 signed_leaves : (w : Width) (bytes : List ℕ) → Leaves 0 after bytes (signed_at w bytes)
 signed_leaves w bytes = then_leaves 0 after after bytes _ _ (number_leaves 0 w (omega arith) bytes) (λ n. done_leaves after _)
 
-pub word_leaves : (bytes : List ℕ) → Leaves 0 after bytes (number_at w32 bytes)
-word_leaves bytes = number_leaves 0 w32 (omega arith) bytes
-
 pub range_leaves : (bytes : List ℕ) → Leaves 0 after bytes (range_at bytes)
 unfolding range_at
 range_leaves bytes =

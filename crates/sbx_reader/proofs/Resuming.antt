@@ -4,7 +4,7 @@ use Rattle.std.proofs.Common.{Ok, Err, refl, sym, subst, ◌∙◌, arith, inl, 
 use Rattle.std.specs.Prelude.{◌==◌}
 use Rattle.std.specs.Int.{w32, byte_len, from_be_bytes}
 use Rattle.std.proofs.lemmas.Bool.{cases_lt, lt-ltb, le-ltb, ne_eqb, eqb-false}
-use Rattle.std.proofs.lemmas.List.{append_assoc, append-nil, length-append, length-drop, drop-append-le, drop-drop, nil_from_length, take_all}
+use Rattle.std.proofs.lemmas.List.{append-nil, length-append, length-drop, drop-drop, nil_from_length, take_all}
 use Rattle.sbx_image.specs.ImageFault.{ImageFault}
 use Rattle.sbx_image.specs.ImageFault.TheVariants as fault
 use Rattle.sbx_image.specs.Next.{Next}
@@ -409,13 +409,6 @@ starts (Err e) = refl
 pub starts_at_front : GoesOn Front 0 []
 unfolding rest_of
 starts_at_front = (omega arith, λ more. starts (reading more))
-
--- a piece more
-pub goes_on_with : (stage : Stage) (at : ℕ) (bytes piece : List ℕ) → GoesOn stage at bytes → GoesOn stage at (bytes ++ piece)
-goes_on_with stage at bytes piece p = (
-  omega (arith, p.0, length-append bytes piece),
-  λ more. rw (append_assoc bytes piece more, drop-append-le at bytes piece p.0, append_assoc (drop at bytes) piece more) (p.1 (piece ++ more)),
-)
 
 -- the bytes from a place on, as a slice has them
 pub sliced : (at : ℕ) (bytes : List ℕ) → at ≤ length bytes → take (length bytes - at) (drop at bytes) ≡ drop at bytes

@@ -191,10 +191,6 @@ lists_badly function (suc b) block = list_any (λ c. not (is_writable function c
 
 -- ---- words for ways
 
-abbrev pub is_edge : Way → Bool
-is_edge (To t) = true
-is_edge _ = false
-
 -- an edge to a block that isn't the first
 abbrev pub is_inner_edge : Way → Bool
 is_inner_edge (To zero) = false

@@ -34,9 +34,6 @@ same_distance n c j k here a b same =
       | inr e ↦ elim (window_is n c k here b).1 [ inl f ↦ omega arith | inr f ↦ omega arith ]
     ]
 
-pub other_window : (n c j k : ℕ) → c < n → j < n → k < n → j ≢ k → window n c j ≢ window n c k
-other_window n c j k here a b other same = other (same_distance n c j k here a b same)
-
 -- a test of windows is one of distances
 pub window_test : (n c k j : ℕ) → c < n → k < n → j < n → (window n c k == window n c j) ≡ (k == j)
 window_test n c k j here a b = by_same (k == j) refl

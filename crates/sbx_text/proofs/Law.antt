@@ -1,6 +1,6 @@
 -- The tokens of a line are slices of it, in order.
 use Rattle.std.proofs.Common.{◌≡◌, ℕ, zero, suc, ◌+◌, ◌≤◌, Bool, true, false, cond, List, [], ◌∷◌, ◌++◌, length, take, drop, Result, Ok, Err, refl, sym, subst, arith}
-use Rattle.std.specs.Prelude.{IfOk, nat_lt}
+use Rattle.std.specs.Prelude.{nat_lt}
 use Rattle.std.proofs.lemmas.List.{take-append-drop, length-take-le, length-drop}
 use Rattle.sbx_text.specs.declared.Token.{Token}
 use Rattle.sbx_text.specs.declared.Kind.{Kind}
@@ -8,7 +8,7 @@ use Rattle.sbx_text.specs.declared.fault.TextFault.{TextFault}
 use Rattle.sbx_text.specs.declared.fault.TextFault.TheVariants.{LineTooLong}
 use Rattle.sbx_text.specs.declared.scanning.Step.{Step}
 use Rattle.sbx_text.specs.declared.scanning.Step.TheVariants.{Stop, Skip, Emit, Refuse}
-use Rattle.sbx_text.specs.Tokens.{tokens_at, tokens_of, Gives, front, after, before}
+use Rattle.sbx_text.specs.Tokens.{tokens_at, tokens_of, front, after, before}
 use Rattle.sbx_text.specs.Slices.{AreSlices, at_end, at_comment, after_blank, after_token}
 use Rattle.sbx_text.proofs.Fronts.{StopsAt, SkipsAt, Sound, front_sound}
 
@@ -62,9 +62,3 @@ law_of line ts e = by (nat_lt 1024 (length line)) e
     by : (long : Bool) → cond long (Err LineTooLong) (tokens_at (length line) 0 line) ≡ Ok ts → AreSlices 0 line ts
     by true h = absurd (cc)
     by false h = law line ts h
-
--- what is shown of each reading holds of what a call gives
-pub of_call : {X : Type 0} (view : X → List Token) (P : List Token → Type 0) (r : Result X TextFault) (read : Result (List Token) TextFault)
-    → Gives view r read → ((ts : List Token) → read ≡ Ok ts → P ts) → IfOk r (λ x. P (view x))
-of_call view P (Ok x) read g all = all (view x) g
-of_call view P (Err f) read g all = tt

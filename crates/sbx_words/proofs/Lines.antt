@@ -21,7 +21,7 @@ use Rattle.sbx_jobs.specs.declared.jobs.Job.{Job}
 use Rattle.sbx_jobs.specs.declared.jobs.Job.TheVariants.{Asm, Verify, Run, List as Listing, Trace}
 use Rattle.sbx_words.specs.declared.Usage.{Usage}
 use Rattle.sbx_words.specs.declared.Usage.TheVariants.{Text as Told, Memory, NoRoom}
-use Rattle.sbx_words.specs.Lines.{Adds, HasLimit, HasPath, HasWindows, IsAlone, IsGiven, IsText, IsTrueOfWords, Means, MeansJob, Takes, sandbox_app, shape_with}
+use Rattle.sbx_words.specs.Lines.{Adds, HasPath, HasWindows, IsAlone, IsGiven, IsText, IsTrueOfWords, Means, MeansJob, Takes, sandbox_app, shape_with}
 
 -- ---- the command line is one of which `clap` says all
 
@@ -163,28 +163,6 @@ means_letter name found (Run image windows) means = ap (λ (t : Text). slice_ind
 means_letter name found (Listing image) means = ap (λ (t : Text). slice_index t 0) means.0
 means_letter name found (Trace image windows limit) means = ap (λ (t : Text). slice_index t 0) means.0
 
-pub no_asm : (found : List Row) → ((source object : Text) → HasPath (codes "SRC") found source → HasPath (codes "OUT") found object → ⊥)
-    → (job : Job) → MeansJob (codes "asm") found job → ⊥
-no_asm found none (Asm source object) means = none source.now object.now means.1 means.2
-no_asm found none (Verify image) means = let bad : ◌≡◌ {A = ℕ} 97 118 = means_letter (codes "asm") found (Verify image) means in absurd (omega arith)
-no_asm found none (Run image windows) means = let bad : ◌≡◌ {A = ℕ} 97 114 = means_letter (codes "asm") found (Run image windows) means in absurd (omega arith)
-no_asm found none (Listing image) means = let bad : ◌≡◌ {A = ℕ} 97 108 = means_letter (codes "asm") found (Listing image) means in absurd (omega arith)
-no_asm found none (Trace image windows limit) means = let bad : ◌≡◌ {A = ℕ} 97 116 = means_letter (codes "asm") found (Trace image windows limit) means in absurd (omega arith)
-
-pub no_verify : (found : List Row) → first_of (codes "IMG") found ≡ None → (job : Job) → MeansJob (codes "verify") found job → ⊥
-no_verify found none (Verify image) means = let bad : None ≡ Some image.now = sym none ∙ means.1 in cc
-no_verify found none (Asm source object) means = let bad : ◌≡◌ {A = ℕ} 118 97 = means_letter (codes "verify") found (Asm source object) means in absurd (omega arith)
-no_verify found none (Run image windows) means = let bad : ◌≡◌ {A = ℕ} 118 114 = means_letter (codes "verify") found (Run image windows) means in absurd (omega arith)
-no_verify found none (Listing image) means = let bad : ◌≡◌ {A = ℕ} 118 108 = means_letter (codes "verify") found (Listing image) means in absurd (omega arith)
-no_verify found none (Trace image windows limit) means = let bad : ◌≡◌ {A = ℕ} 118 116 = means_letter (codes "verify") found (Trace image windows limit) means in absurd (omega arith)
-
-pub no_list : (found : List Row) → first_of (codes "IMG") found ≡ None → (job : Job) → MeansJob (codes "list") found job → ⊥
-no_list found none (Listing image) means = let bad : None ≡ Some image.now = sym none ∙ means.1 in cc
-no_list found none (Asm source object) means = let bad : ◌≡◌ {A = ℕ} 108 97 = means_letter (codes "list") found (Asm source object) means in absurd (omega arith)
-no_list found none (Verify image) means = let bad : ◌≡◌ {A = ℕ} 108 118 = means_letter (codes "list") found (Verify image) means in absurd (omega arith)
-no_list found none (Run image windows) means = let bad : ◌≡◌ {A = ℕ} 108 114 = means_letter (codes "list") found (Run image windows) means in absurd (omega arith)
-no_list found none (Trace image windows limit) means = let bad : ◌≡◌ {A = ℕ} 108 116 = means_letter (codes "list") found (Trace image windows limit) means in absurd (omega arith)
-
 pub no_run : (found : List Row) → ((image : Text) (windows : ℕ) → HasPath (codes "IMG") found image → HasWindows found windows → ⊥)
     → (job : Job) → MeansJob (codes "run") found job → ⊥
 no_run found none (Run image windows) means = none image.now windows means.1 means.2
@@ -193,15 +171,6 @@ no_run found none (Verify image) means = let bad : ◌≡◌ {A = ℕ} 114 118 =
 no_run found none (Listing image) means = let bad : ◌≡◌ {A = ℕ} 114 108 = means_letter (codes "run") found (Listing image) means in absurd (omega arith)
 no_run found none (Trace image windows limit) means = let bad : ◌≡◌ {A = ℕ} 114 116 = means_letter (codes "run") found (Trace image windows limit) means in absurd (omega arith)
 
-pub no_trace : (found : List Row)
-    → ((image : Text) (windows limit : ℕ) → HasPath (codes "IMG") found image → HasWindows found windows → HasLimit found limit → ⊥)
-    → (job : Job) → MeansJob (codes "trace") found job → ⊥
-no_trace found none (Trace image windows limit) means = none image.now windows limit means.1 means.2 means.3
-no_trace found none (Asm source object) means = let bad : ◌≡◌ {A = ℕ} 116 97 = means_letter (codes "trace") found (Asm source object) means in absurd (omega arith)
-no_trace found none (Verify image) means = let bad : ◌≡◌ {A = ℕ} 116 118 = means_letter (codes "trace") found (Verify image) means in absurd (omega arith)
-no_trace found none (Run image windows) means = let bad : ◌≡◌ {A = ℕ} 116 114 = means_letter (codes "trace") found (Run image windows) means in absurd (omega arith)
-no_trace found none (Listing image) means = let bad : ◌≡◌ {A = ℕ} 116 108 = means_letter (codes "trace") found (Listing image) means in absurd (omega arith)
-
 -- a command without the image that it needs
 pub no_image : (name : Text) (found : List Row) → name ≢ codes "asm" → first_of (codes "IMG") found ≡ None → (job : Job) → MeansJob name found job → ⊥
 no_image name found other none (Asm source object) means = other means.0
@@ -209,15 +178,6 @@ no_image name found other none (Verify image) means = let bad : None ≡ Some im
 no_image name found other none (Run image windows) means = let bad : None ≡ Some image.now = sym none ∙ means.1 in cc
 no_image name found other none (Listing image) means = let bad : None ≡ Some image.now = sym none ∙ means.1 in cc
 no_image name found other none (Trace image windows limit) means = let bad : None ≡ Some image.now = sym none ∙ means.1 in cc
-
--- a name that is none of theirs
-pub no_command : (name : Text) (found : List Row) → name ≢ codes "asm" → name ≢ codes "verify" → name ≢ codes "run" → name ≢ codes "list" → name ≢ codes "trace"
-    → (job : Job) → MeansJob name found job → ⊥
-no_command name found asm verify run list trace (Asm source object) means = asm means.0
-no_command name found asm verify run list trace (Verify image) means = verify means.0
-no_command name found asm verify run list trace (Run image windows) means = run means.0
-no_command name found asm verify run list trace (Listing image) means = list means.0
-no_command name found asm verify run list trace (Trace image windows limit) means = trace means.0
 
 -- ---- words that are refused
 

@@ -123,11 +123,5 @@ regrouped {count} {words} xs ys zs h = subst (λ bs. Heard count bs words) (sym 
 pub three_groups : (a b c d : List ℕ) → ((a ++ b) ++ c) ++ d ≡ a ++ (b ++ (c ++ d))
 three_groups a b c d = simp append_assoc
 
-pub four_groups : (a b c d e : List ℕ) → (((a ++ b) ++ c) ++ d) ++ e ≡ a ++ (b ++ (c ++ (d ++ e)))
-four_groups a b c d e = simp append_assoc
-
 pub regrouped3 : {count : ℕ} {words : ℕ → List Word} (a b c d : List ℕ) → Heard count (a ++ (b ++ (c ++ d))) words → Heard count (((a ++ b) ++ c) ++ d) words
 regrouped3 {count} {words} a b c d h = subst (λ bs. Heard count bs words) (sym (three_groups a b c d)) h
-
-pub regrouped4 : {count : ℕ} {words : ℕ → List Word} (a b c d e : List ℕ) → Heard count (a ++ (b ++ (c ++ (d ++ e)))) words → Heard count ((((a ++ b) ++ c) ++ d) ++ e) words
-regrouped4 {count} {words} a b c d e h = subst (λ bs. Heard count bs words) (sym (four_groups a b c d e)) h
