@@ -1,6 +1,0 @@
-use Rattle.std.proofs.Common.{arith}
-use Rattle.std.proofs.lemmas.Grind.{common_steps}
-use Rattle.sbx_domain.proofs.lin.narrowed.Goals as goal
-
-pub overflow_cast-result : goal.overflow_cast-result
-overflow_cast-result c = grind (arith, common_steps)

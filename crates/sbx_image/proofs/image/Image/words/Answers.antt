@@ -1,5 +1,0 @@
-use Rattle.std.proofs.Common.{rules}
-use Rattle.sbx_image.proofs.image.Image.words.Goals as goal
-
-pub returns : goal.returns
-returns c = search rules

@@ -1,9 +1,0 @@
-use Rattle.std.proofs.Common.{arith}
-use Rattle.std.proofs.lemmas.Grind.{common_steps}
-use Rattle.sbx_range.proofs.bounds.fit.Goals as goal
-
-pub overflow_cast-result-then-is_signed_word-2 : goal.overflow_cast-result-then-is_signed_word-2
-overflow_cast-result-then-is_signed_word-2 c = grind (arith, common_steps)
-
-pub overflow_cast-result : goal.overflow_cast-result
-overflow_cast-result c = grind (arith, common_steps)

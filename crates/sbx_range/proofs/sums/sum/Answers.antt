@@ -1,6 +1,0 @@
-use Rattle.std.proofs.Common.{arith}
-use Rattle.std.proofs.lemmas.Grind.{common_steps}
-use Rattle.sbx_range.proofs.sums.sum.Goals as goal
-
-pub overflow_add-result : goal.overflow_add-result
-overflow_add-result c = grind (arith, common_steps)
