@@ -1,6 +1,6 @@
 //! `fit annotate`: a source in the project's own language gets the annotations that it hasn't got.
 use crate::words::is_option;
-use crate::{Stop, bytes_of, refused, told};
+use crate::{NoSource, bytes_of, refused, told};
 use fit_annotate::{Annotated, Refusal, annotate};
 use sbx_asm::{AsmFault, Cause};
 use sbx_put::put_through;
@@ -96,10 +96,10 @@ fn meaning(cause: Cause) -> &'static str {
 }
 
 /// The status of a fault of the assembler's, which is told: of a file, or of what would be made of it.
-fn tell_fault(rt: &HostRuntime, path: &str, made: &str, fault: AsmFault) -> Result<u8, Stop> {
+fn tell_fault(rt: &HostRuntime, path: &str, made: &str, fault: AsmFault) -> Result<u8, NoSource> {
     let AsmFault { line, cause } = fault;
     if matches!(cause, Cause::Memory(_)) {
-        return Err(Stop::Memory);
+        return Err(NoSource::Memory);
     }
     let meaning = meaning(cause);
     let _ = eprintln!(rt; "{path}{made}:{line}: refused: {cause}, {meaning}");
@@ -114,19 +114,19 @@ fn files_of(alloc: Global, path: &str) -> Result<Vec<String>, AllocError> {
 }
 
 /// The status of a source without annotations to give, which is told.
-fn tell_refusal(rt: &HostRuntime, path: &str, refusal: Refusal) -> Result<u8, Stop> {
+fn tell_refusal(rt: &HostRuntime, path: &str, refusal: Refusal) -> Result<u8, NoSource> {
     match refusal {
         Refusal::Source(fault) => tell_fault(rt, path, "", fault),
         Refusal::Made(fault) => tell_fault(rt, path, " with its annotations", fault),
         Refusal::Program(fault) => match files_of(rt.alloc(), path) {
             Ok(files) => Err(refused(rt.alloc(), fault, files.as_slice())),
-            Err(_error) => Err(Stop::Memory),
+            Err(_error) => Err(NoSource::Memory),
         },
     }
 }
 
 /// Writes a source to a file, or to standard output.
-fn write_source(rt: &HostRuntime, out: Option<&str>, text: &[u8]) -> Result<(), Stop> {
+fn write_source(rt: &HostRuntime, out: Option<&str>, text: &[u8]) -> Result<(), NoSource> {
     match out {
         Some(path) => {
             let mut file: File = fs::create(rt, path)?;
@@ -141,7 +141,7 @@ fn write_source(rt: &HostRuntime, out: Option<&str>, text: &[u8]) -> Result<(), 
 }
 
 /// Tells notes and writes the source; where there are notes, and they are errors, none is written.
-fn finish(rt: &HostRuntime, job: Job<'_>, made: &Annotated) -> Result<u8, Stop> {
+fn finish(rt: &HostRuntime, job: Job<'_>, made: &Annotated) -> Result<u8, NoSource> {
     for note in made.notes.as_slice() {
         let note = note.shown(job.source);
         let _ = eprintln!(rt; "{note}");
@@ -156,7 +156,7 @@ fn finish(rt: &HostRuntime, job: Job<'_>, made: &Annotated) -> Result<u8, Stop> 
 }
 
 /// Does a job, and gives the exit status.
-pub fn perform(rt: &HostRuntime, job: Job<'_>) -> Result<u8, Stop> {
+pub fn perform(rt: &HostRuntime, job: Job<'_>) -> Result<u8, NoSource> {
     let bytes = match bytes_of(rt, job.source) {
         Ok(bytes) => bytes,
         Err(stop) => return Err(told(rt, job.source, stop)),

@@ -20,7 +20,7 @@ const MOST: u64 = 64_000_000;
 
 /// Why there is no source.
 #[derive(Drop)]
-enum Stop {
+enum NoSource {
     /// The program is refused; the files are those that its lines name.
     Refused(Fault, Vec<String>),
     /// A test would be added.
@@ -32,17 +32,17 @@ enum Stop {
     Memory,
 }
 
-impl From<io::Error> for Stop {
-    fn from(error: io::Error) -> Stop {
+impl From<io::Error> for NoSource {
+    fn from(error: io::Error) -> NoSource {
         match error.kind() {
-            ErrorKind::OutOfMemory => Stop::Memory,
-            _ => Stop::File,
+            ErrorKind::OutOfMemory => NoSource::Memory,
+            _ => NoSource::File,
         }
     }
 }
 
 /// A fault without the names of its files.
-fn refused(alloc: Global, fault: Fault, files: &[String]) -> Stop {
+fn refused(alloc: Global, fault: Fault, files: &[String]) -> NoSource {
     let mut names = Vec::new(alloc);
     for file in files {
         let added = match file.clone() {
@@ -50,30 +50,30 @@ fn refused(alloc: Global, fault: Fault, files: &[String]) -> Stop {
             Err(_) => false,
         };
         if !added {
-            return Stop::Memory;
+            return NoSource::Memory;
         }
     }
-    Stop::Refused(fault, names)
+    NoSource::Refused(fault, names)
 }
 
 /// All bytes of the file at a path.
-fn bytes_of(rt: &HostRuntime, path: &str) -> Result<Vec<u8>, Stop> {
+fn bytes_of(rt: &HostRuntime, path: &str) -> Result<Vec<u8>, NoSource> {
     let file: File = fs::open(rt, path)?;
     let mut bytes = Vec::new(rt.alloc());
     file.take(MOST).read_to_end(&mut bytes)?;
     if bytes.len() as u64 == MOST {
-        return Err(Stop::Long);
+        return Err(NoSource::Long);
     }
     Ok(bytes)
 }
 
 /// Tells what is wrong with the file at a path.
-fn told(rt: &HostRuntime, path: &str, stop: Stop) -> Stop {
+fn told(rt: &HostRuntime, path: &str, stop: NoSource) -> NoSource {
     match &stop {
-        Stop::File => {
+        NoSource::File => {
             let _ = eprintln!(rt; "{path}: can't be read or written");
         }
-        Stop::Long => {
+        NoSource::Long => {
             let _ = eprintln!(rt; "{path}: refused: {MOST} bytes and more");
         }
         _ => {}
@@ -82,7 +82,7 @@ fn told(rt: &HostRuntime, path: &str, stop: Stop) -> Stop {
 }
 
 /// Reads one source.
-fn read_source(rt: &HostRuntime, source: &mut Source, path: &str) -> Result<(), Stop> {
+fn read_source(rt: &HostRuntime, source: &mut Source, path: &str) -> Result<(), NoSource> {
     let bytes = match bytes_of(rt, path) {
         Ok(bytes) => bytes,
         Err(stop) => return Err(told(rt, path, stop)),
@@ -94,7 +94,7 @@ fn read_source(rt: &HostRuntime, source: &mut Source, path: &str) -> Result<(), 
 }
 
 /// Reads all sources.
-fn sources_of(rt: &HostRuntime, job: &Job<'_>) -> Result<Source, Stop> {
+fn sources_of(rt: &HostRuntime, job: &Job<'_>) -> Result<Source, NoSource> {
     let mut source = Source::new(rt.alloc());
     for path in job.sources.as_slice() {
         read_source(rt, &mut source, *path)?;
@@ -103,7 +103,7 @@ fn sources_of(rt: &HostRuntime, job: &Job<'_>) -> Result<Source, Stop> {
 }
 
 /// Writes the source that was made.
-fn write_text(rt: &HostRuntime, path: &str, text: &str) -> Result<(), Stop> {
+fn write_text(rt: &HostRuntime, path: &str, text: &str) -> Result<(), NoSource> {
     let mut out: File = fs::create(rt, path)?;
     put_through(&mut out, text.as_bytes())?;
     Ok(())
@@ -145,7 +145,7 @@ fn tell_tests(rt: &HostRuntime, made: &Made) {
 }
 
 /// Does a job.
-fn perform(rt: &HostRuntime, job: &Job<'_>) -> Result<(), Stop> {
+fn perform(rt: &HostRuntime, job: &Job<'_>) -> Result<(), NoSource> {
     let source = sources_of(rt, job)?;
     let made = match make_source(rt.alloc(), &source, job) {
         Ok(made) => made,
@@ -153,7 +153,7 @@ fn perform(rt: &HostRuntime, job: &Job<'_>) -> Result<(), Stop> {
     };
     tell_tests(rt, &made);
     if job.is_strict && !made.tests.is_empty() {
-        return Err(Stop::Tests);
+        return Err(NoSource::Tests);
     }
     match write_text(rt, job.out, made.text.as_str()) {
         Ok(()) => Ok(()),
@@ -180,13 +180,13 @@ fn tell_fault(rt: &HostRuntime, fault: &Fault, files: &[String]) -> u8 {
 }
 
 /// The status, and what is told.
-fn tell(rt: &HostRuntime, stop: &Stop) -> u8 {
+fn tell(rt: &HostRuntime, stop: &NoSource) -> u8 {
     match stop {
-        Stop::Refused(fault, files) => tell_fault(rt, fault, files.as_slice()),
-        Stop::Tests => 1,
-        Stop::File => 4,
-        Stop::Long => 2,
-        Stop::Memory => {
+        NoSource::Refused(fault, files) => tell_fault(rt, fault, files.as_slice()),
+        NoSource::Tests => 1,
+        NoSource::File => 4,
+        NoSource::Long => 2,
+        NoSource::Memory => {
             let _ = eprintln!(rt; "memory");
             5
         }
@@ -209,7 +209,7 @@ fn usage(rt: &HostRuntime) -> u8 {
 }
 
 /// Does what the words ask for, and gives the exit status.
-fn answer(rt: &HostRuntime, words: &[String]) -> Result<u8, Stop> {
+fn answer(rt: &HostRuntime, words: &[String]) -> Result<u8, NoSource> {
     if let Some((first, others)) = words.split_first()
         && first.as_str() == "annotate"
     {
@@ -224,14 +224,14 @@ fn answer(rt: &HostRuntime, words: &[String]) -> Result<u8, Stop> {
             Ok(0)
         }
         Ok(None) => Ok(usage(rt)),
-        Err(_) => Err(Stop::Memory),
+        Err(_) => Err(NoSource::Memory),
     }
 }
 
 fn main(rt: HostRuntime) -> ExitCode {
     let status = match words_of(&rt) {
         Ok(words) => answer(&rt, words.as_slice()),
-        Err(error) => Err(Stop::from(error)),
+        Err(error) => Err(NoSource::from(error)),
     };
     ExitCode::from(match status {
         Ok(status) => status,

@@ -1,6 +1,6 @@
 //! Which functions call which.
 use fit_code::{Fault, Line, NO_LINE, Naming, Reason};
-use fit_gas::{Code, Item, Linked, Part, Place, Source};
+use fit_gas::{Code, Item, Linked, Part, Source, SymbolPlace};
 use fit_points::fault_of;
 use std::alloc::{AllocError, Global};
 use v8_formats::{Instr, decode};
@@ -19,7 +19,7 @@ fn callee_of(source: &Source, linked: &Linked, item: &Item) -> Result<Option<usi
         } if reference.part == Part::Target && is_call(*word) => match linked.place(
             reference.symbol,
         ) {
-            Place::Function(number) => Ok(Some(number)),
+            SymbolPlace::Function(number) => Ok(Some(number)),
             _ => Err(fault_of(source, *line, Naming::NotDefined, reference.symbol)),
         },
         _ => Ok(None),
@@ -145,7 +145,7 @@ fn entry_of(source: &Source, name: &str) -> Option<usize> {
     for symbol in source.symbols.iter() {
         if symbol.is_global
             && symbol.name.as_str() == name
-            && let Place::Function(number) = symbol.place
+            && let SymbolPlace::Function(number) = symbol.place
         {
             return Some(number);
         }

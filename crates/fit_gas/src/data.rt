@@ -1,5 +1,5 @@
 //! Data: labels, values, strings, room.
-use crate::source::{Datum, Fix, Place, Source};
+use crate::source::{Datum, Fix, Source, SymbolPlace};
 use crate::strings::push_string;
 use crate::text::{expression_of, first_operand, is_name, number_of, unquoted};
 use fit_code::{Fault, Naming, Reason};
@@ -17,7 +17,7 @@ impl Source {
             && let Some(object) = self.objects.get(number)
             && object.bytes.is_empty()
         {
-            return self.define(symbol, Place::Object(number));
+            return self.define(symbol, SymbolPlace::Object(number));
         }
         let align = self.align;
         self.align = 1;
@@ -27,7 +27,7 @@ impl Source {
     /// An object of no bytes yet.
     fn begin(&mut self, symbol: usize, readonly: bool, align: u32) -> Result<(), Fault> {
         let number = self.objects.len();
-        self.define(symbol, Place::Object(number))?;
+        self.define(symbol, SymbolPlace::Object(number))?;
         self.objects.push(Datum {
             symbol,
             readonly,

@@ -11,4 +11,4 @@ mod text;
 
 pub use instructions::with_part;
 pub use linking::{Linked, links_of};
-pub use source::{Code, Datum, Fix, Item, Part, Place, Reference, Source, Symbol};
+pub use source::{Code, Datum, Fix, Item, Part, Reference, Source, Symbol, SymbolPlace};

@@ -1,5 +1,5 @@
 //! What the names of several files stand for.
-use crate::source::{Place, Source};
+use crate::source::{Source, SymbolPlace};
 use fit_code::{Fault, Naming, Reason};
 use std::alloc::Global;
 use std::collections::BTreeMap;
@@ -7,21 +7,24 @@ use std::collections::BTreeMap;
 /// For each symbol of a source where it stands, in whichever file.
 #[derive(Drop)]
 pub struct Linked {
-    places: Vec<Place>,
+    places: Vec<SymbolPlace>,
 }
 
 impl Linked {
     /// Where a symbol stands.
-    pub fn place(&self, symbol: usize) -> Place {
-        self.places.get(symbol).copied().unwrap_or(Place::Nowhere)
+    pub fn place(&self, symbol: usize) -> SymbolPlace {
+        self.places
+            .get(symbol)
+            .copied()
+            .unwrap_or(SymbolPlace::Nowhere)
     }
 }
 
 /// The global names that stand somewhere.
-fn globals(alloc: Global, source: &Source) -> Result<BTreeMap<String, Place>, Fault> {
-    let mut found: BTreeMap<String, Place> = BTreeMap::new(alloc);
+fn globals(alloc: Global, source: &Source) -> Result<BTreeMap<String, SymbolPlace>, Fault> {
+    let mut found: BTreeMap<String, SymbolPlace> = BTreeMap::new(alloc);
     for symbol in source.symbols.iter() {
-        if symbol.is_global && symbol.place != Place::Nowhere {
+        if symbol.is_global && symbol.place != SymbolPlace::Nowhere {
             if found.contains_key(symbol.name.as_str()) {
                 let name = symbol.name.clone()?;
                 return Err(Fault::new(symbol.line, Reason::Named(Naming::DefinedTwice, name)));
@@ -41,10 +44,10 @@ pub fn links_of(alloc: Global, source: &Source) -> Result<Linked, Fault> {
     let mut places = Vec::new(alloc);
     for symbol in source.symbols.iter() {
         let place = match symbol.place {
-            Place::Nowhere => globals
+            SymbolPlace::Nowhere => globals
                 .get(symbol.name.as_str())
                 .copied()
-                .unwrap_or(Place::Nowhere),
+                .unwrap_or(SymbolPlace::Nowhere),
             place => place,
         };
         places.push(place)?;

@@ -72,7 +72,7 @@ pub struct Datum {
 
 /// Where a symbol stands.
 #[derive(Clone, Copy, PartialEq, Eq)]
-pub enum Place {
+pub enum SymbolPlace {
     /// In no file so far.
     Nowhere,
     /// At the start of the function of a number.
@@ -90,7 +90,7 @@ pub struct Symbol {
     /// Whether other files mean the same by it.
     pub is_global: bool,
     pub is_function: bool,
-    pub place: Place,
+    pub place: SymbolPlace,
     /// Where it stood first.
     pub line: Line,
 }
@@ -214,17 +214,17 @@ impl Source {
             name: String::from_str(self.alloc, text)?,
             is_global: false,
             is_function: false,
-            place: Place::Nowhere,
+            place: SymbolPlace::Nowhere,
             line,
         })?;
         Ok(number)
     }
 
     /// Says where a symbol stands.
-    pub(crate) fn define(&mut self, symbol: usize, place: Place) -> Result<(), Fault> {
+    pub(crate) fn define(&mut self, symbol: usize, place: SymbolPlace) -> Result<(), Fault> {
         let line = self.line();
         if let Some(found) = self.symbols.get_mut(symbol) {
-            if found.place != Place::Nowhere {
+            if found.place != SymbolPlace::Nowhere {
                 let name = found.name.clone()?;
                 return Err(Fault::new(line, Reason::Named(Naming::DefinedTwice, name)));
             }
@@ -273,7 +273,7 @@ impl Source {
         };
         if begins {
             let number = self.codes.len();
-            self.define(symbol, Place::Function(number))?;
+            self.define(symbol, SymbolPlace::Function(number))?;
             self.origin = None;
             let line = self.place;
             let items = Vec::new(self.alloc);
@@ -284,7 +284,7 @@ impl Source {
             })?;
             self.code = Some(number);
         } else if let Some(number) = self.code {
-            self.define(symbol, Place::Label(number))?;
+            self.define(symbol, SymbolPlace::Label(number))?;
             self.add_item(&Item::Label(symbol))?;
         }
         Ok(())

@@ -3,7 +3,7 @@ use crate::fields::{is_allowed, signed};
 use crate::layout::object_of;
 use crate::points::{Flow, Maker};
 use fit_code::{Fault, Line, Reason, Step};
-use fit_gas::{Part, Place, Reference, with_part};
+use fit_gas::{Part, Reference, SymbolPlace, with_part};
 use v8_formats::{Instr, Operand, Three, decode};
 use v8_word::{Cond, Reg};
 
@@ -111,7 +111,7 @@ impl Maker<'_> {
     /// The function that a transfer goes to; none where it goes to a label.
     fn callee(&self, reference: Reference) -> Option<usize> {
         match self.linked.place(reference.symbol) {
-            Place::Function(number) => Some(number),
+            SymbolPlace::Function(number) => Some(number),
             _ => None,
         }
     }

@@ -1,6 +1,6 @@
 //! Where the objects of a program lie.
 use fit_code::{Fault, Line, NO_LINE, Naming, Object, Reason, Region};
-use fit_gas::{Datum, Fix, Linked, Place, Source};
+use fit_gas::{Datum, Fix, Linked, Source, SymbolPlace};
 use std::alloc::{AllocError, Global};
 
 /// Where the data of an image begin.
@@ -191,11 +191,11 @@ pub fn object_of(
     line: Line,
 ) -> Result<usize, Fault> {
     match linked.place(symbol) {
-        Place::Object(datum) => Ok(layout.number(datum)),
-        Place::Function(_) | Place::Label(_) => {
+        SymbolPlace::Object(datum) => Ok(layout.number(datum)),
+        SymbolPlace::Function(_) | SymbolPlace::Label(_) => {
             Err(fault_of(source, line, Naming::AddressOfFunction, symbol))
         }
-        Place::Nowhere => Err(fault_of(source, line, Naming::NotDefined, symbol)),
+        SymbolPlace::Nowhere => Err(fault_of(source, line, Naming::NotDefined, symbol)),
     }
 }
 

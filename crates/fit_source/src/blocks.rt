@@ -38,7 +38,7 @@ struct Ended {
 }
 
 /// What a word is in a block.
-enum Word {
+enum Item {
     /// SAVE, which is no step.
     Save,
     Step(Step),
@@ -336,26 +336,26 @@ impl Blocks<'_> {
         address: u32,
         stop: u32,
         instr: &Instr,
-    ) -> Result<Word, Fault> {
+    ) -> Result<Item, Fault> {
         match instr {
             Instr::Save(_) if address == self.function.entry && self.function.frame > 0 => {
-                Ok(Word::Save)
+                Ok(Item::Save)
             }
             Instr::Bicc(branch) if branch.cond != Cond::Never => {
-                Ok(Word::Ends(self.branch(number, address, stop, *branch)?, 2))
+                Ok(Item::Ends(self.branch(number, address, stop, *branch)?, 2))
             }
             Instr::Call(displacement) => {
-                Ok(Word::Call(self.call(address, stop, *displacement, own)?))
+                Ok(Item::Call(self.call(address, stop, *displacement, own)?))
             }
             Instr::Jmpl(fields) if is_ret(fields) => {
-                Ok(Word::Ends(self.returned(address, stop, true)?, 2))
+                Ok(Item::Ends(self.returned(address, stop, true)?, 2))
             }
             Instr::Jmpl(fields) if is_retl(fields) => {
-                Ok(Word::Ends(self.returned(address, stop, false)?, 2))
+                Ok(Item::Ends(self.returned(address, stop, false)?, 2))
             }
-            other if service_of(other) == Some(0) => Ok(Word::Ends(plain(End::Exit), 1)),
+            other if service_of(other) == Some(0) => Ok(Item::Ends(plain(End::Exit), 1)),
             other if is_plain(other) || service_of(other).is_some() => {
-                Ok(Word::Step(self.step(address, *other)))
+                Ok(Item::Step(self.step(address, *other)))
             }
             _ => Err(
                 self.reading.fault(
@@ -407,13 +407,13 @@ impl Blocks<'_> {
             };
             let mut width = 4;
             match self.word(own, number, address, stop, &instr)? {
-                Word::Save => {}
-                Word::Step(step) => steps.push(step)?,
-                Word::Call(step) => {
+                Item::Save => {}
+                Item::Step(step) => steps.push(step)?,
+                Item::Call(step) => {
                     steps.push(step)?;
                     width = 8;
                 }
-                Word::Ends(ended, words) => {
+                Item::Ends(ended, words) => {
                     return self.end_at(address, words, stop, ended, steps);
                 }
             }

@@ -13,7 +13,7 @@ use v8_word::Cond;
 
 /// Which block of which function is told.
 #[derive(Clone, Copy)]
-struct Place<'n> {
+struct BlockPlace<'n> {
     name: &'n str,
     frame: u32,
     framed: bool,
@@ -102,7 +102,7 @@ fn push_branch(out: &mut String, cond: Cond, name: &str, taken: usize) -> Result
 fn push_end(
     out: &mut String,
     told: &mut Told<'_>,
-    place: Place<'_>,
+    place: BlockPlace<'_>,
     block: &Block,
 ) -> Result<(), AllocError> {
     let name = place.name;
@@ -133,7 +133,7 @@ fn push_block(
     out: &mut String,
     told: &mut Told<'_>,
     names: &[String],
-    place: Place<'_>,
+    place: BlockPlace<'_>,
     block: &Block,
     notes: Option<&BlockNotes>,
 ) -> Result<(), AllocError> {
@@ -199,7 +199,7 @@ fn push_function(
 ) -> Result<(), Fault> {
     push_function_head(out, name, function, notes)?;
     for (number, block) in function.blocks.iter().enumerate() {
-        let place = Place {
+        let place = BlockPlace {
             name,
             frame: function.frame,
             framed: function.framed,

@@ -6,7 +6,7 @@ use crate::progress::Lines;
 use crate::sources::{source_in, tell_check, tell_map};
 use crate::words::{Form, Job, read_words};
 use crate::{opened, path_of};
-use sbx_command::Stop;
+use sbx_command::CommandStop;
 use sbx_files::{Counted, FileFault};
 use std::alloc::{AllocError, Global};
 use std::fs::File;
@@ -92,7 +92,7 @@ fn tell<F: Read, O: Write>(
     job: Alone<'_>,
     file: &mut F,
     out: &mut O,
-) -> Result<(), Stop> {
+) -> Result<(), CommandStop> {
     match job {
         Alone::Check(source, form) => {
             tell_check(alloc, form, source, file, out)?;
@@ -103,9 +103,9 @@ fn tell<F: Read, O: Write>(
 }
 
 /// A stop at the file of a path.
-fn at_file<'a>(path: &'a str, stop: Stop) -> Fault<'a> {
+fn at_file<'a>(path: &'a str, stop: CommandStop) -> Fault<'a> {
     match stop {
-        Stop::File => Fault::File(path, FileFault::Failing),
+        CommandStop::File => Fault::File(path, FileFault::Failing),
         stop => Fault::Stop(stop),
     }
 }
@@ -116,7 +116,7 @@ fn perform_alone<'a>(rt: &HostRuntime, job: Alone<'a>) -> Result<(), Fault<'a>> 
     let mut file = opened(rt, source)?;
     let mut out = match BufWriter::new(rt.alloc(), rt.stdout()) {
         Ok(out) => out,
-        Err(error) => return Err(Fault::Stop(Stop::of(&error, Stop::Output))),
+        Err(error) => return Err(Fault::Stop(CommandStop::of(&error, CommandStop::Output))),
     };
     match tell(rt.alloc(), job, &mut file, &mut out) {
         Ok(()) => Ok(()),
@@ -142,7 +142,7 @@ fn perform_on<'a>(
 ) -> Result<Known, Fault<'a>> {
     let mut out = match BufWriter::new(rt.alloc(), rt.stdout()) {
         Ok(out) => out,
-        Err(error) => return Err(Fault::Stop(Stop::of(&error, Stop::Output))),
+        Err(error) => return Err(Fault::Stop(CommandStop::of(&error, CommandStop::Output))),
     };
     let (alloc, mut input) = (rt.alloc(), Counted::new(rt.stdin()));
     let mut lines = Lines::new(rt);
@@ -150,7 +150,9 @@ fn perform_on<'a>(
         alloc, text, job, &mut file, &mut input, &mut out, &mut lines,
     ) {
         Ok(known) => Ok(known),
-        Err(Stop::Input) if input.count() > MOST as u64 => Err(Fault::Input(FileFault::TooLong)),
+        Err(CommandStop::Input) if input.count() > MOST as u64 => Err(Fault::Input(
+            FileFault::TooLong,
+        )),
         Err(stop) => Err(at_file(path_of(job), stop)),
     }
 }
@@ -195,7 +197,7 @@ fn answer_by<'a>(rt: &HostRuntime, words: &'a [String], source: &'a str) -> Opti
 pub fn answer(rt: &HostRuntime, words: &[String]) -> Option<u8> {
     let split = match parted(rt.alloc(), words) {
         Ok(split) => split,
-        Err(error) => return Some(Fault::Stop(Stop::Memory(Want::from(error))).report(rt)),
+        Err(error) => return Some(Fault::Stop(CommandStop::Memory(Want::from(error))).report(rt)),
     };
     match split.source {
         None => answer_alone(rt, split.words.as_slice()),

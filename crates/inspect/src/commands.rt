@@ -9,7 +9,7 @@ ghost use Rattle.want.specs.Wants.{refused};
 
 use crate::reports::{image_report, run_report, why_report};
 use crate::words::Form;
-use sbx_command::{ReadFault, Stop, Windows, image_in, read_whole};
+use sbx_command::{CommandStop, ReadFault, Windows, image_in, read_whole};
 use sbx_image::Image;
 use sbx_put::put_through;
 use sbx_rules::Refusal;
@@ -22,37 +22,37 @@ use want::Want;
 pub const MOST: usize = 16_777_216;
 
 /// All of standard input.
-pub fn input_of<I: Read>(alloc: Global, input: &mut I) -> Result<Vec<u8>, Stop>
+pub fn input_of<I: Read>(alloc: Global, input: &mut I) -> Result<Vec<u8>, CommandStop>
     ensures whole { IfOk result (λ bytes. IfSome (I.remaining input.old) (λ all. bytes.items ≡ all)) }
-    ensures stop { IfErr result (λ stop. (stop ≡ Stop.Memory refused) ⊎ (stop ≡ Stop.Input)) }
+    ensures stop { IfErr result (λ stop. (stop ≡ CommandStop.Memory refused) ⊎ (stop ≡ CommandStop.Input)) }
 {
     match read_whole(alloc, input, MOST) {
         Ok(bytes) => Ok(bytes),
-        Err(ReadFault::Memory(want)) => Err(Stop::Memory(want)),
-        Err(ReadFault::Reader | ReadFault::TooLong) => Err(Stop::Input),
+        Err(ReadFault::Memory(want)) => Err(CommandStop::Memory(want)),
+        Err(ReadFault::Reader | ReadFault::TooLong) => Err(CommandStop::Input),
     }
 }
 
 /// Writes a text, through to the end.
-pub fn put_out<O: Write>(out: &mut O, text: &[u8]) -> Result<(), Stop>
+pub fn put_out<O: Write>(out: &mut O, text: &[u8]) -> Result<(), CommandStop>
     ensures bytes { OnOk result (Appends (O.contents out.old) (O.contents out.new) text.now) }
-    ensures stop { IfErr result (λ stop. stop ≡ Stop.Output) }
+    ensures stop { IfErr result (λ stop. stop ≡ CommandStop.Output) }
 {
     match put_through(out, text) {
         Ok(()) => Ok(()),
-        Err(_) => Err(Stop::Output),
+        Err(_) => Err(CommandStop::Output),
     }
 }
 
 /// Tells what an image declares.
 #[tactic(auto, using(crate::proofs::Telling::wrote_report))]
-fn show<O: Write>(alloc: Global, form: Form, image: &Image, out: &mut O) -> Result<(), Stop>
+fn show<O: Write>(alloc: Global, form: Form, image: &Image, out: &mut O) -> Result<(), CommandStop>
     ensures shown { OnOk result (Wrote (O.contents out.old) (O.contents out.new) (IsImageReport form image.now)) }
-    ensures stop { IfErr result (λ stop. (stop ≡ Stop.Memory refused) ⊎ (stop ≡ Stop.Output)) }
+    ensures stop { IfErr result (λ stop. (stop ≡ CommandStop.Memory refused) ⊎ (stop ≡ CommandStop.Output)) }
 {
     match image_report(alloc, form, image) {
         Ok(text) => put_out(out, text.as_slice()),
-        Err(error) => Err(Stop::Memory(Want::from(error))),
+        Err(error) => Err(CommandStop::Memory(Want::from(error))),
     }
 }
 
@@ -62,7 +62,7 @@ pub fn show_image<F: Read, O: Write>(
     form: Form,
     file: &mut F,
     out: &mut O,
-) -> Result<(), Stop>
+) -> Result<(), CommandStop>
     ensures shown { OnOk result (Shown form (F.remaining file.old) (O.contents out.old) (O.contents out.new)) }
     ensures stop { IfErr result (λ stop. IfSome (F.remaining file.old) (IsTrueOfImage stop)) }
 {
@@ -79,14 +79,14 @@ fn tell_run<O: Write>(
     limit: u64,
     run: &Run,
     out: &mut O,
-) -> Result<(), Stop>
+) -> Result<(), CommandStop>
     ensures told { OnOk result
         (Wrote (O.contents out.old) (O.contents out.new) (IsRunReport form windows limit run.now)) }
-    ensures stop { IfErr result (λ stop. (stop ≡ Stop.Memory refused) ⊎ (stop ≡ Stop.Output)) }
+    ensures stop { IfErr result (λ stop. (stop ≡ CommandStop.Memory refused) ⊎ (stop ≡ CommandStop.Output)) }
 {
     match run_report(alloc, form, windows, limit, run) {
         Ok(text) => put_out(out, text.as_slice()),
-        Err(error) => Err(Stop::Memory(Want::from(error))),
+        Err(error) => Err(CommandStop::Memory(Want::from(error))),
     }
 }
 
@@ -100,10 +100,10 @@ fn run_on<O: Write, P: Progress>(
     input: &[u8],
     out: &mut O,
     progress: &mut P,
-) -> Result<(), Stop>
+) -> Result<(), CommandStop>
     ensures told { OnOk result
         (TellsRun form windows limit image.now input.now (O.contents out.old) (O.contents out.new)) }
-    ensures stop { IfErr result (λ stop. (stop ≡ Stop.Memory refused) ⊎ (stop ≡ Stop.Output)) }
+    ensures stop { IfErr result (λ stop. (stop ≡ CommandStop.Memory refused) ⊎ (stop ≡ CommandStop.Output)) }
 {
     let count = windows.count();
     let run = run_windows(alloc, count, image, input, limit, progress)?;
@@ -120,11 +120,12 @@ fn run_read<I: Read, O: Write, P: Progress>(
     input: &mut I,
     out: &mut O,
     progress: &mut P,
-) -> Result<(), Stop>
+) -> Result<(), CommandStop>
     ensures told { OnOk result
         (IfSome (I.remaining input.old)
         (λ all. TellsRun form windows limit image.now all (O.contents out.old) (O.contents out.new))) }
-    ensures stop { IfErr result (λ stop. (stop ≡ Stop.Memory refused) ⊎ (stop ≡ Stop.Input) ⊎ (stop ≡ Stop.Output)) }
+    ensures stop { IfErr result (λ stop. (stop ≡ CommandStop.Memory refused) ⊎ (stop ≡ CommandStop.Input)
+        ⊎ (stop ≡ CommandStop.Output)) }
 {
     let bytes = input_of(alloc, input)?;
     run_on(
@@ -150,7 +151,7 @@ pub fn run_image<F: Read, I: Read, O: Write, P: Progress>(
     input: &mut I,
     out: &mut O,
     progress: &mut P,
-) -> Result<(), Stop>
+) -> Result<(), CommandStop>
     ensures ran { OnOk result
         (Ran form windows limit (F.remaining file.old) (I.remaining input.old) (O.contents out.old)
         (O.contents out.new)) }
@@ -169,14 +170,14 @@ fn trace_on<O: Write, P: Progress>(
     input: &[u8],
     out: &mut O,
     progress: &mut P,
-) -> Result<(), Stop>
+) -> Result<(), CommandStop>
     ensures told { OnOk result
         (Wrote (O.contents out.old) (O.contents out.new) (IsWatched windows image.now input.now limit)) }
     ensures stop { IfErr result IsOfTrace }
 {
     match watch_windows(alloc, windows.count(), image, input, limit, out, progress) {
         Ok(()) => Ok(()),
-        Err(fault) => Err(Stop::from(fault)),
+        Err(fault) => Err(CommandStop::from(fault)),
     }
 }
 
@@ -189,7 +190,7 @@ fn trace_read<I: Read, O: Write, P: Progress>(
     input: &mut I,
     out: &mut O,
     progress: &mut P,
-) -> Result<(), Stop>
+) -> Result<(), CommandStop>
     ensures told { OnOk result
         (IfSome (I.remaining input.old)
         (λ all. Wrote (O.contents out.old) (O.contents out.new) (IsWatched windows image.now all limit))) }
@@ -217,7 +218,7 @@ pub fn trace_image<F: Read, I: Read, O: Write, P: Progress>(
     input: &mut I,
     out: &mut O,
     progress: &mut P,
-) -> Result<(), Stop>
+) -> Result<(), CommandStop>
     ensures traced { OnOk result
         (Traced windows limit (F.remaining file.old) (I.remaining input.old) (O.contents out.old)
         (O.contents out.new)) }
@@ -235,7 +236,7 @@ pub fn explain_image<F: Read, O: Write>(
     form: Form,
     file: &mut F,
     out: &mut O,
-) -> Result<Option<Refusal>, Stop>
+) -> Result<Option<Refusal>, CommandStop>
     ensures explained { IfOk result
         (λ found. Explained form (F.remaining file.old) found (O.contents out.old) (O.contents out.new)) }
     ensures stop { IfErr result (λ stop. IfSome (F.remaining file.old) (IsTrueOfImage stop)) }
@@ -243,7 +244,7 @@ pub fn explain_image<F: Read, O: Write>(
     let image = image_in(alloc, file)?;
     let (found, text) = match why_report(alloc, form, image) {
         Ok(told) => told,
-        Err(error) => return Err(Stop::Memory(Want::from(error))),
+        Err(error) => return Err(CommandStop::Memory(Want::from(error))),
     };
     put_out(out, text.as_slice())?;
     Ok(found)

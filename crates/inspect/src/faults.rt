@@ -1,5 +1,5 @@
 //! Why nothing is told, and how that is told.
-use sbx_command::Stop;
+use sbx_command::CommandStop;
 use sbx_files::FileFault;
 use sbx_start::{Cause, StartFault};
 use std::io::Write;
@@ -14,7 +14,7 @@ const BYTES: u8 = 2;
 #[derive(Clone, Copy)]
 pub enum Fault<'a> {
     /// The job has stopped.
-    Stop(Stop),
+    Stop(CommandStop),
     /// There is something wrong with the file at a path.
     File(&'a str, FileFault),
     /// The source at a path is another image's.
@@ -57,7 +57,7 @@ impl Fault<'_> {
 fn report_start(rt: &HostRuntime, binary: &str, file: &str, fault: StartFault) -> u8 {
     let StartFault { line, cause } = fault;
     if let Cause::Memory(want) = cause {
-        return Stop::Memory(want).report(&mut rt.stderr()).status;
+        return CommandStop::Memory(want).report(&mut rt.stderr()).status;
     }
     let _ = if line == 0 {
         eprintln!(rt; "inspect: {binary}: {cause}")

@@ -4,7 +4,7 @@ ghost use Rattle.inspect.specs.Machines.{MachineOf};
 use crate::commands::MOST;
 use crate::faults::Fault;
 use crate::opened;
-use sbx_command::{ReadFault, Stop, Windows, read_whole};
+use sbx_command::{CommandStop, ReadFault, Windows, read_whole};
 use sbx_files::FileFault;
 use sbx_machine::machine_windows;
 use sbx_start::{StartFault, read_start};
@@ -15,7 +15,7 @@ use std::io::{BufWriter, Write};
 #[derive(Clone, Copy)]
 pub enum MachineFault {
     /// The job has stopped.
-    Stop(Stop),
+    Stop(CommandStop),
     /// There is something wrong with its start.
     Start(StartFault),
 }
@@ -49,7 +49,7 @@ pub fn tell_machine<O: Write>(
     };
     match machine_windows(alloc, windows, &start, setting.limit, out) {
         Ok(()) => Ok(()),
-        Err(fault) => Err(MachineFault::Stop(Stop::from(fault))),
+        Err(fault) => Err(MachineFault::Stop(CommandStop::from(fault))),
     }
 }
 
@@ -58,7 +58,7 @@ fn bytes_of<'a>(rt: &HostRuntime, path: &'a str) -> Result<Vec<u8>, Fault<'a>> {
     let mut file = opened(rt, path)?;
     match read_whole(rt.alloc(), &mut file, MOST) {
         Ok(bytes) => Ok(bytes),
-        Err(ReadFault::Memory(want)) => Err(Fault::Stop(Stop::Memory(want))),
+        Err(ReadFault::Memory(want)) => Err(Fault::Stop(CommandStop::Memory(want))),
         Err(ReadFault::TooLong) => Err(Fault::File(path, FileFault::TooLong)),
         Err(ReadFault::Reader) => Err(Fault::File(path, FileFault::Failing)),
     }
@@ -82,7 +82,7 @@ pub fn run_machine<'a>(
     let file = bytes_of(rt, path)?;
     let mut out = match BufWriter::new(rt.alloc(), rt.stdout()) {
         Ok(out) => out,
-        Err(error) => return Err(Fault::Stop(Stop::of(&error, Stop::Output))),
+        Err(error) => return Err(Fault::Stop(CommandStop::of(&error, CommandStop::Output))),
     };
     match tell_machine(
         rt.alloc(),

@@ -17,7 +17,7 @@ use commands::{MOST, explain_image, run_image, show_image, trace_image};
 use faults::Fault;
 use machine::run_machine;
 use progress::Lines;
-use sbx_command::{Full, Stop};
+use sbx_command::{CommandStop, Full};
 use sbx_files::{Counted, FileFault, hold_streams, open_file};
 use sbx_tell::Progress;
 use states::state_image;
@@ -36,7 +36,7 @@ fn opened<'a>(rt: &HostRuntime, path: &'a str) -> Result<File, Fault<'a>> {
     match open_file(rt, path) {
         Ok(file) => Ok(file),
         Err(error) => Err(match Full::of(&error) {
-            Some(full) => Fault::Stop(Stop::NoRoom(full)),
+            Some(full) => Fault::Stop(CommandStop::NoRoom(full)),
             None => Fault::File(path, FileFault::of(&error)),
         }),
     }
@@ -50,7 +50,7 @@ fn tell<F: Read, I: Read, O: Write, P: Progress>(
     input: &mut I,
     out: &mut O,
     progress: &mut P,
-) -> Result<(), Stop> {
+) -> Result<(), CommandStop> {
     match *job {
         Job::Image { form, .. } => show_image(alloc, form, file, out),
         Job::Run {
@@ -83,7 +83,7 @@ fn perform_on<'a>(
 ) -> Result<(), Fault<'a>> {
     let mut out = match BufWriter::new(rt.alloc(), rt.stdout()) {
         Ok(out) => out,
-        Err(error) => return Err(Fault::Stop(Stop::of(&error, Stop::Output))),
+        Err(error) => return Err(Fault::Stop(CommandStop::of(&error, CommandStop::Output))),
     };
     let (alloc, mut input) = (rt.alloc(), Counted::new(rt.stdin()));
     match tell(
@@ -95,8 +95,10 @@ fn perform_on<'a>(
         &mut Lines::new(rt),
     ) {
         Ok(()) => Ok(()),
-        Err(Stop::File) => Err(Fault::File(path, FileFault::Failing)),
-        Err(Stop::Input) if input.count() > MOST as u64 => Err(Fault::Input(FileFault::TooLong)),
+        Err(CommandStop::File) => Err(Fault::File(path, FileFault::Failing)),
+        Err(CommandStop::Input) if input.count() > MOST as u64 => Err(Fault::Input(
+            FileFault::TooLong,
+        )),
         Err(stop) => Err(Fault::Stop(stop)),
     }
 }
@@ -159,7 +161,7 @@ fn main(rt: HostRuntime) -> ExitCode {
     let status = match words_of(&rt) {
         Ok(words) => status_of(&rt, words.as_slice()),
         Err(error) => match Full::of(&error) {
-            Some(full) => Fault::Stop(Stop::NoRoom(full)).report(&rt),
+            Some(full) => Fault::Stop(CommandStop::NoRoom(full)).report(&rt),
             None => {
                 let _ = eprint!(rt; "{USAGE}");
                 OTHER_WORDS

@@ -3,7 +3,7 @@ use crate::commands::{input_of, put_out};
 use crate::sources::digest_of;
 use crate::words::Job;
 use sbx_asm::assemble;
-use sbx_command::{Stop, Windows, image_in};
+use sbx_command::{CommandStop, Windows, image_in};
 use sbx_declare::push_image;
 use sbx_explain::push_why;
 use sbx_image::Image;
@@ -23,10 +23,10 @@ pub enum Known {
 }
 
 /// Want of memory, as a stop.
-fn stopped<T: Drop>(done: Result<T, AllocError>) -> Result<T, Stop> {
+fn stopped<T: Drop>(done: Result<T, AllocError>) -> Result<T, CommandStop> {
     match done {
         Ok(value) => Ok(value),
-        Err(error) => Err(Stop::Memory(Want::from(error))),
+        Err(error) => Err(CommandStop::Memory(Want::from(error))),
     }
 }
 
@@ -36,7 +36,7 @@ fn put_renamed<O: Write>(
     names: &Names<'_>,
     out: &mut O,
     text: &str,
-) -> Result<(), Stop> {
+) -> Result<(), CommandStop> {
     let mut renamed = String::new(alloc);
     stopped(push_renamed(&mut renamed, names, text.as_bytes(), Told::Addresses))?;
     put_out(out, renamed.as_bytes())
@@ -48,7 +48,7 @@ fn show<O: Write>(
     names: &Names<'_>,
     image: &Image,
     out: &mut O,
-) -> Result<(), Stop> {
+) -> Result<(), CommandStop> {
     let mut text = String::new(alloc);
     stopped(push_image(&mut text, image))?;
     put_renamed(alloc, names, out, text.as_str())
@@ -64,15 +64,15 @@ fn trace<I: Read, O: Write, P: Progress>(
     input: &mut I,
     out: &mut O,
     progress: &mut P,
-) -> Result<(), Stop> {
+) -> Result<(), CommandStop> {
     let bytes = input_of(alloc, input)?;
     let mut named = NamedWriter::new(alloc, names, out);
     let (count, bytes) = (windows.count(), bytes.as_slice());
     match watch_windows(alloc, count, image, bytes, limit, &mut named, progress) {
         Ok(()) => Ok(()),
         Err(fault) => Err(match named.want() {
-            Some(want) => Stop::Memory(want),
-            None => Stop::from(fault),
+            Some(want) => CommandStop::Memory(want),
+            None => CommandStop::from(fault),
         }),
     }
 }
@@ -83,7 +83,7 @@ fn explain<O: Write>(
     names: &Names<'_>,
     image: Image,
     out: &mut O,
-) -> Result<(), Stop> {
+) -> Result<(), CommandStop> {
     let mut text = String::new(alloc);
     stopped(push_why(alloc, &mut text, image))?;
     put_renamed(alloc, names, out, text.as_str())
@@ -98,7 +98,7 @@ fn tell_named<I: Read, O: Write, P: Progress>(
     input: &mut I,
     out: &mut O,
     progress: &mut P,
-) -> Result<(), Stop> {
+) -> Result<(), CommandStop> {
     match *job {
         Job::Trace { windows, limit, .. } => {
             trace(alloc, names, windows, limit, &image, input, out, progress)
@@ -116,7 +116,7 @@ fn names_of_source<'s>(
     alloc: Global,
     text: &'s [u8],
     image: &Image,
-) -> Result<Result<Names<'s>, Known>, Stop> {
+) -> Result<Result<Names<'s>, Known>, CommandStop> {
     let meant = assemble(alloc, text)?;
     if digest_of(alloc, &meant)?.as_bytes() != digest_of(alloc, image)?.as_bytes() {
         return Ok(Err(Known::Foreign));
@@ -129,7 +129,7 @@ fn names_for<'s>(
     alloc: Global,
     text: &'s [u8],
     image: &Image,
-) -> Result<Result<Names<'s>, Known>, Stop> {
+) -> Result<Result<Names<'s>, Known>, CommandStop> {
     match stopped(read_map(alloc, text))? {
         MapText::Other => names_of_source(alloc, text, image),
         MapText::Broken(line) => Ok(Err(Known::Broken(line))),
@@ -153,7 +153,7 @@ pub fn tell_by_source<F: Read, I: Read, O: Write, P: Progress>(
     input: &mut I,
     out: &mut O,
     progress: &mut P,
-) -> Result<Known, Stop> {
+) -> Result<Known, CommandStop> {
     let image = image_in(alloc, file)?;
     match names_for(alloc, text, &image)? {
         Ok(names) => {

@@ -6,7 +6,7 @@ ghost use Rattle.inspect.specs.Sources.{CheckTold, IsCheckReport};
 use crate::commands::{MOST, put_out};
 use crate::words::Form;
 use sbx_asm::assemble;
-use sbx_command::{ReadFault, Stop, read_whole};
+use sbx_command::{CommandStop, ReadFault, read_whole};
 use sbx_image::{Image, write};
 use sbx_named::{Check, Verdict, check_source, push_map};
 use sbx_objects::check_line;
@@ -16,13 +16,13 @@ use std::io::{Read, Write};
 use want::Want;
 
 /// The bytes of a source, or of its map.
-pub fn source_in<F: Read>(alloc: Global, file: &mut F) -> Result<Vec<u8>, Stop>
+pub fn source_in<F: Read>(alloc: Global, file: &mut F) -> Result<Vec<u8>, CommandStop>
     ensures { IfOk result (λ bytes. IfSome (F.remaining file.old) (λ all. bytes.items ≡ all)) }
 {
     match read_whole(alloc, file, MOST) {
         Ok(bytes) => Ok(bytes),
-        Err(ReadFault::Memory(want)) => Err(Stop::Memory(want)),
-        Err(ReadFault::Reader | ReadFault::TooLong) => Err(Stop::File),
+        Err(ReadFault::Memory(want)) => Err(CommandStop::Memory(want)),
+        Err(ReadFault::Reader | ReadFault::TooLong) => Err(CommandStop::File),
     }
 }
 
@@ -59,7 +59,7 @@ pub fn tell_check<F: Read, O: Write>(
     name: &str,
     file: &mut F,
     out: &mut O,
-) -> Result<Verdict, Stop>
+) -> Result<Verdict, CommandStop>
     ensures { IfOk result
         (λ verdict. IfSome (F.remaining file.old)
         (λ source. Wrote (O.contents out.old) (O.contents out.new) (CheckTold form source verdict))) }
@@ -67,38 +67,42 @@ pub fn tell_check<F: Read, O: Write>(
     let source = source_in(alloc, file)?;
     let (verdict, report) = match report_of(alloc, form, name, source.as_slice()) {
         Ok(told) => told,
-        Err(error) => return Err(Stop::Memory(Want::from(error))),
+        Err(error) => return Err(CommandStop::Memory(Want::from(error))),
     };
     put_out(out, report.as_slice())?;
     Ok(verdict)
 }
 
 /// The bytes of an image.
-fn bytes_of(alloc: Global, image: &Image) -> Result<Vec<u8>, Stop> {
+fn bytes_of(alloc: Global, image: &Image) -> Result<Vec<u8>, CommandStop> {
     match write(image, alloc) {
         Ok(bytes) => Ok(bytes),
-        Err(error) => Err(Stop::Memory(Want::from(error))),
+        Err(error) => Err(CommandStop::Memory(Want::from(error))),
     }
 }
 
 /// What an image is known by: the SHA-256 of its bytes, in hexadecimal digits.
-pub fn digest_of(alloc: Global, image: &Image) -> Result<String, Stop> {
+pub fn digest_of(alloc: Global, image: &Image) -> Result<String, CommandStop> {
     let bytes = bytes_of(alloc, image)?;
     let digest = Sha256::digest(bytes.as_slice());
     match hex::encode(alloc, digest.as_slice()) {
         Ok(text) => Ok(text),
-        Err(error) => Err(Stop::Memory(Want::from(error))),
+        Err(error) => Err(CommandStop::Memory(Want::from(error))),
     }
 }
 
 /// Tells where the lines and the labels of a source stand, if it means an image.
-pub fn tell_map<F: Read, O: Write>(alloc: Global, file: &mut F, out: &mut O) -> Result<(), Stop> {
+pub fn tell_map<F: Read, O: Write>(
+    alloc: Global,
+    file: &mut F,
+    out: &mut O,
+) -> Result<(), CommandStop> {
     let source = source_in(alloc, file)?;
     let image = assemble(alloc, source.as_slice())?;
     let digest = digest_of(alloc, &image)?;
     let mut text = String::new(alloc);
     match push_map(alloc, &mut text, source.as_slice(), digest.as_str()) {
         Ok(()) => put_out(out, text.as_bytes()),
-        Err(error) => Err(Stop::Memory(Want::from(error))),
+        Err(error) => Err(CommandStop::Memory(Want::from(error))),
     }
 }

@@ -6,7 +6,7 @@ ghost use Rattle.sbx_image_states.specs.Told.{IsStated};
 ghost use Rattle.inspect.specs.States.{StatesOf};
 
 use crate::commands::input_of;
-use sbx_command::{Stop, Windows, image_in};
+use sbx_command::{CommandStop, Windows, image_in};
 use sbx_image::Image;
 use sbx_image_states::state_windows;
 use std::alloc::Global;
@@ -20,14 +20,14 @@ fn states_on<O: Write>(
     image: &Image,
     input: &[u8],
     out: &mut O,
-) -> Result<(), Stop>
+) -> Result<(), CommandStop>
     ensures told { OnOk result
         (Wrote (O.contents out.old) (O.contents out.new) (IsStated windows image.now input.now limit)) }
     ensures stop { IfErr result IsOfTrace }
 {
     match state_windows(alloc, windows.count(), image, input, limit, out) {
         Ok(()) => Ok(()),
-        Err(fault) => Err(Stop::from(fault)),
+        Err(fault) => Err(CommandStop::from(fault)),
     }
 }
 
@@ -40,7 +40,7 @@ fn states_read<I: Read, O: Write>(
     image: &Image,
     input: &mut I,
     out: &mut O,
-) -> Result<(), Stop>
+) -> Result<(), CommandStop>
     ensures told { OnOk result
         (IfSome (I.remaining input.old)
         (λ all. Wrote (O.contents out.old) (O.contents out.new) (IsStated windows image.now all limit))) }
@@ -59,7 +59,7 @@ pub fn state_image<F: Read, I: Read, O: Write>(
     file: &mut F,
     input: &mut I,
     out: &mut O,
-) -> Result<(), Stop>
+) -> Result<(), CommandStop>
     ensures told { OnOk result
         (StatesOf windows limit (F.remaining file.old) (I.remaining input.old) (O.contents out.old)
         (O.contents out.new)) }

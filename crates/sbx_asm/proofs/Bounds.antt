@@ -9,9 +9,9 @@ use Rattle.std.proofs.lemmas.Int.{ints}
 use Rattle.sbx_text.specs.declared.Token.{Token}
 use Rattle.sbx_text.specs.declared.fault.TextFault.{TextFault}
 use Rattle.sbx_text.specs.Tokens.{tokens_of}
-use Rattle.v8_syntax.specs.declared.word.Word.{Word}
-use Rattle.v8_syntax.specs.declared.word.Word.TheVariants as words
-use Rattle.v8_syntax.specs.Statements.{word_of, words_of}
+use Rattle.v8_syntax.specs.declared.word.StatementToken.{StatementToken}
+use Rattle.v8_syntax.specs.declared.word.StatementToken.TheVariants as words
+use Rattle.v8_syntax.specs.Statements.{statement_token, statement_tokens}
 use Rattle.sbx_parts.specs.declared.fault.ImageFault.TheVariants as fault
 use Rattle.sbx_parts.specs.declared.parts.Range.{Range}
 use Rattle.sbx_parts.specs.declared.services.Services.{Services}
@@ -44,7 +44,7 @@ IsLow _ = Unit {0}
 abbrev AreLow : List Operand → Type 0
 AreLow os = AllByRecursion IsLow os
 
-operand_low : (ws : List Word) → AreSmall ws → IsLow (operand_of ws)
+operand_low : (ws : List StatementToken) → AreSmall ws → IsLow (operand_of ws)
 unfolding operand_of
 operand_low (words.Register r ∷ []) h = h.0
 operand_low (words.Number n ∷ []) h = tt
@@ -55,23 +55,23 @@ operand_low (words.Name k i j ∷ words.Sign b ∷ words.Number n ∷ []) h =
     cond_both (b == 43) _ _ IsLow (λ _. tt) (λ _. cond_both (b == 45) _ operands.Other IsLow (λ _. tt) (λ _. tt))
 operand_low _ h = tt
 
-parts_small : (w : Word) (parts : List (List Word)) → IsSmall w → AllByRecursion AreSmall parts → AllByRecursion AreSmall (onto_first w parts)
+parts_small : (w : StatementToken) (parts : List (List StatementToken)) → IsSmall w → AllByRecursion AreSmall parts → AllByRecursion AreSmall (onto_first w parts)
 parts_small w [] h k = ((h, tt), tt)
 parts_small w (p ∷ ps) h k = ((h, k.0), k.1)
 
-split_small : (ws : List Word) → AreSmall ws → AllByRecursion AreSmall (slice_split is_comma ws)
+split_small : (ws : List StatementToken) → AreSmall ws → AllByRecursion AreSmall (slice_split is_comma ws)
 split_small [] h = (tt, tt)
 split_small (w ∷ ws) h =
     cond_both (is_comma w) ([] ∷ slice_split is_comma ws) (onto_first w (slice_split is_comma ws)) (AllByRecursion AreSmall) (λ _. (tt, split_small ws h.1))
     (λ _. parts_small w (slice_split is_comma ws) h.0 (split_small ws h.1))
 
-all_low : (parts : List (List Word)) → AllByRecursion AreSmall parts → AreLow (map operand_of parts)
+all_low : (parts : List (List StatementToken)) → AllByRecursion AreSmall parts → AreLow (map operand_of parts)
 all_low [] h = tt
 all_low (p ∷ ps) h = (operand_low p h.0, all_low ps h.1)
 
 operands_low : (line : List ℕ) (ts : List Token) → AreLow (operands_of line ts)
 operands_low line [] = tt
-operands_low line (t ∷ ts) = all_low (slice_split is_comma (words_of line (t ∷ ts))) (split_small (words_of line (t ∷ ts)) (words_are_small line (t ∷ ts)))
+operands_low line (t ∷ ts) = all_low (slice_split is_comma (statement_tokens line (t ∷ ts))) (split_small (statement_tokens line (t ∷ ts)) (words_are_small line (t ∷ ts)))
 
 -- ---- numbers
 
@@ -210,22 +210,22 @@ ItemKeeps i = SaidKeeps i.said
 abbrev pub Keep : List Item → Type 0
 Keep is = AllByRecursion ItemKeeps is
 
-told_keeps : (k : Keyword) (ws : List Word) (o : Option Directive) → KeepsSome o → SaidKeeps (Ok (option_map_or statements.Directive o (statements.Malformed k (called k ws))))
+told_keeps : (k : Keyword) (ws : List StatementToken) (o : Option Directive) → KeepsSome o → SaidKeeps (Ok (option_map_or statements.Directive o (statements.Malformed k (called k ws))))
 told_keeps k ws (Some d) h = h
 told_keeps k ws None h = tt
 
 named_keeps : (line : List ℕ) (o : Option Keyword) (rest : List Token) → SaidKeeps (Ok (option_map_or (λ k. told line k rest) o statements.Instruction))
-named_keeps line (Some k) rest = told_keeps k (words_of line rest) _ (directive_keeps line k (operands_of line rest) (operands_low line rest))
+named_keeps line (Some k) rest = told_keeps k (statement_tokens line rest) _ (directive_keeps line k (operands_of line rest) (operands_low line rest))
 named_keeps line None rest = tt
 
-begun_keeps : (line : List ℕ) (w : Word) (rest : List Token) → SaidKeeps (Ok (begun line w rest))
+begun_keeps : (line : List ℕ) (w : StatementToken) (rest : List Token) → SaidKeeps (Ok (begun line w rest))
 begun_keeps line (words.Name k start stop) rest = named_keeps line (keyword_named _) rest
 begun_keeps line _ rest = tt
 
 statement_keeps : (line : List ℕ) (ts : List Token) → SaidKeeps (Ok (statement_of line ts))
 unfolding statement_of
 statement_keeps line [] = tt
-statement_keeps line (first ∷ rest) = begun_keeps line (word_of line first) rest
+statement_keeps line (first ∷ rest) = begun_keeps line (statement_token line first) rest
 
 read_keeps : (number : ℕ) (line : List ℕ) (r : Result (List Token) TextFault) → ItemKeeps (read_line number line r)
 read_keeps number line (Ok ts) = statement_keeps line (drop (2 * label_count line ts) ts)

@@ -14,8 +14,8 @@ use Rattle.v8_forms.specs.declared.part.Range.TheVariants as ranges
 use Rattle.v8_syntax.specs.declared.expression.Expression.{Expression}
 use Rattle.v8_syntax.specs.declared.fault.SyntaxFault.{SyntaxFault}
 use Rattle.v8_syntax.specs.declared.fault.SyntaxFault.TheVariants as syntax
-use Rattle.v8_syntax.specs.declared.word.Word.{Word}
-use Rattle.v8_syntax.specs.Statements.{◌>>=◌, words_of, name_first, word_in, set_instructions, is_symbolic, set_operands, set, count_of, statement_length}
+use Rattle.v8_syntax.specs.declared.word.StatementToken.{StatementToken}
+use Rattle.v8_syntax.specs.Statements.{◌>>=◌, statement_tokens, name_first, word_in, set_instructions, is_symbolic, set_operands, set, count_of, statement_length}
 use Rattle.sbx_text.specs.declared.Token.{Token}
 use Rattle.sbx_parts.specs.declared.fault.ImageFault.{ImageFault}
 use Rattle.sbx_parts.specs.declared.fault.ImageFault.TheVariants as fault
@@ -24,7 +24,7 @@ use Rattle.sbx_parts.specs.declared.order.Next.TheVariants.{Exactly, Above}
 use Rattle.sbx_parts.specs.declared.parts.Block.{Block}
 use Rattle.sbx_parts.specs.declared.parts.Function.{Function}
 use Rattle.sbx_parts.specs.declared.parts.Kind.{Kind}
-use Rattle.sbx_parts.specs.Rules.{between, each as keep_each, admits, is_depth, Place, ranges_keep, block_keeps, function_keeps, code_start}
+use Rattle.sbx_parts.specs.Rules.{between, each as keep_each, admits, is_depth, FunctionsSoFar, ranges_keep, block_keeps, function_keeps, code_start}
 use Rattle.sbx_directives.specs.declared.directive.Directive.TheVariants as directives
 use Rattle.sbx_directives.specs.declared.directive.Keyword.TheVariants as keywords
 use Rattle.sbx_directives.specs.declared.directive.Statement.TheVariants as statements
@@ -62,7 +62,7 @@ made_some : (symbolic : Bool) (rd : ℕ) (r : Result ℕ SyntaxFault) → IfOk (
 made_some symbolic rd (Ok w) = set_some symbolic w rd
 made_some symbolic rd (Err f) = tt
 
-set_made : (o : Option ((Expression × ℕ) × List Word)) →
+set_made : (o : Option ((Expression × ℕ) × List StatementToken)) →
     IfOk (option_map_or (λ x. word_in ranges.Whole x.0.0 >>= λ w. Ok (set_instructions (is_symbolic x.0.0.base) w x.0.1)) o (Err syntax.Shape)) Some_of
 set_made (Some x) = made_some (is_symbolic x.0.0.base) x.0.1 (word_in ranges.Whole x.0.0)
 set_made None = tt
@@ -74,9 +74,9 @@ counted (Err _) h = omega arith
 
 statement_some : (line : List ℕ) (tokens : List Token) → 1 ≤ statement_length line tokens
 unfolding set
-statement_some line tokens = by (name_first line (words_of line tokens))
+statement_some line tokens = by (name_first line (statement_tokens line tokens))
   where
-    by : (o : Option (List ℕ × List Word)) → 1 ≤ option_map_or (λ x. if bytes_eq x.0 (codes "set") then count_of (set (λ _. None) line x.1) else 1) o 1
+    by : (o : Option (List ℕ × List StatementToken)) → 1 ≤ option_map_or (λ x. if bytes_eq x.0 (codes "set") then count_of (set (λ _. None) line x.1) else 1) o 1
     by None = omega arith
     by (Some x) =
         cond_both (bytes_eq x.0 (codes "set")) (count_of (set (λ _. None) line x.1)) 1 (λ n. 1 ≤ n)
@@ -469,7 +469,7 @@ module _ (values : Values) where
     keeps : function_keeps version end (next, block_count before) function ≡ Ok (Above last, block_count (behind (i ∷ before) (up_to ends_function after)))
     low : last < code_address (behind (i ∷ before) (up_to ends_function after))
 
-  abbrev stands : Place → Result Place ImageFault
+  abbrev stands : FunctionsSoFar → Result FunctionsSoFar ImageFault
   stands place = Ok place
 
   pair_same : (last n m : ℕ) → n ≡ m → stands (Above last, n) ≡ stands (Above last, m)
@@ -502,7 +502,7 @@ module _ (values : Values) where
       each_first (block_keeps end) (Exactly entry) (block_with entry (up_to ends_block own)) (each block_at (i ∷ before) own) (Above entry) (Above later.last) first later.keep in
       let total : block_count before + length f.blocks ≡ block_count (behind (i ∷ before) own) = omega (arith, all, count) in
       let most : length f.blocks ≤ 4096 - block_count before = omega (arith, all, count, few) in
-      let state : Place = (Above later.last, block_count (behind (i ∷ before) own)) in
+      let state : FunctionsSoFar = (Above later.last, block_count (behind (i ∷ before) own)) in
       record {
         function = f;
         is = it.is;
@@ -528,7 +528,7 @@ module _ (values : Values) where
   FunctionsFollow : List Item → List Item → Type 0
   FunctionsFollow before after = (version end a n : ℕ) → each (faults_at values) before after ≡ [] → Keep after → EndsAt end before after → Says version after → in_function before ≡ true
       → a < code_address (behind before (up_to ends_function after)) → n ≡ block_count (behind before (up_to ends_function after))
-      → (place : Place) × (keep_each (function_keeps version end) (Above a, n) (each function_at before after) ≡ Ok place)
+      → (place : FunctionsSoFar) × (keep_each (function_keeps version end) (Above a, n) (each function_at before after) ≡ Ok place)
 
   room_for : (before : List Item) (i : Item) (s : Said) → line_rules values before (record i { said = s }) s ≡ [] →
       starts_function (record i { said = s }) ≡ true → (count starts_function before + 1 ≤ 256) × (block_count before + 1 ≤ 4096)
@@ -549,8 +549,8 @@ module _ (values : Values) where
   -- one more function, and those behind it
   one_function : (version end : ℕ) (next : Next) (before : List Item) (i : Item) (after : List Item) → Kept version end next before i after
       → ((a n : ℕ) → a < code_address (behind (i ∷ before) (up_to ends_function after)) → n ≡ block_count (behind (i ∷ before) (up_to ends_function after)) →
-      (place : Place) × (keep_each (function_keeps version end) (Above a, n) (each function_at (i ∷ before) after) ≡ Ok place))
-      → (place : Place) × (keep_each (function_keeps version end) (next, block_count before) (each function_at before (i ∷ after)) ≡ Ok place)
+      (place : FunctionsSoFar) × (keep_each (function_keeps version end) (Above a, n) (each function_at (i ∷ before) after) ≡ Ok place))
+      → (place : FunctionsSoFar) × (keep_each (function_keeps version end) (next, block_count before) (each function_at before (i ∷ after)) ≡ Ok place)
   one_function version end next before i after it more =
       let total : ℕ = block_count (behind (i ∷ before) (up_to ends_function after)) in
       let rest = more it.last total it.low refl in (
@@ -571,7 +571,7 @@ module _ (values : Values) where
       rest = clean_rest values before i after clean
 
       by : FunctionsFollow (i ∷ before) after → (t : Bool) → starts_function i ≡ t →
-          (place : Place) × (keep_each (function_keeps version end) (Above a, n) (each function_at before (i ∷ after)) ≡ Ok place)
+          (place : FunctionsSoFar) × (keep_each (function_keeps version end) (Above a, n) (each function_at before (i ∷ after)) ≡ Ok place)
       by more true e =
           let ending : ends_function i ≡ true = ends_by_start i e in
           let none : up_to ends_function (i ∷ after) ≡ [] = λ j. if ending j then [] else i ∷ up_to ends_function after in
@@ -580,7 +580,7 @@ module _ (values : Values) where
           let begins : begins_block before i ≡ true = λ j. e j || (is_block i && in_function before) in
           let here = admitted end a before there (not_last end before i after ends clean begins) in
           let it = function_kept version end (Above a) before i after e keep.0 keep.1 clean ends (says_more version i after says) here (room_for before i i.said mine e).1 in
-          subst (λ (m : ℕ). (place : Place) × (keep_each (function_keeps version end) (Above a, m) (each function_at before (i ∷ after)) ≡ Ok place)) (sym blocks)
+          subst (λ (m : ℕ). (place : FunctionsSoFar) × (keep_each (function_keeps version end) (Above a, m) (each function_at before (i ∷ after)) ≡ Ok place)) (sym blocks)
           (one_function version end (Above a) before i after it (λ b m l k. more version end b m rest keep.1 ends (says_more version i after says) (goes_in before i e) l k))
       by more false e =
           let quiet : ends_function i ≡ false = no_end before i i.said mine e in
@@ -603,7 +603,7 @@ module _ (values : Values) where
 
   pub functions_kept : (after before : List Item) (version end : ℕ) → each (faults_at values) before after ≡ [] → Keep after → EndsAt end before after →
       Says version after → in_function before ≡ false → code_offset before ≡ 0 → block_count before ≡ 0
-      → (place : Place) × (keep_each (function_keeps version end) (Exactly code_start, 0) (each function_at before after) ≡ Ok place)
+      → (place : FunctionsSoFar) × (keep_each (function_keeps version end) (Exactly code_start, 0) (each function_at before after) ≡ Ok place)
   unfolding FunctionsFollow
   functions_kept [] before version end clean keep ends says outside first none = ((Exactly code_start, 0), each_none (function_keeps version end) (Exactly code_start, 0))
   functions_kept (i ∷ after) before version end clean keep ends says outside first none = by (functions_kept after (i ∷ before) version end) (starts_function i) refl
@@ -616,12 +616,12 @@ module _ (values : Values) where
 
       by : (each (faults_at values) (i ∷ before) after ≡ [] → Keep after → EndsAt end (i ∷ before) after → Says version after →
           in_function (i ∷ before) ≡ false → code_offset (i ∷ before) ≡ 0 → block_count (i ∷ before) ≡ 0
-          → (place : Place) × (keep_each (function_keeps version end) (Exactly code_start, 0) (each function_at (i ∷ before) after) ≡ Ok place))
-          → (t : Bool) → starts_function i ≡ t → (place : Place) × (keep_each (function_keeps version end) (Exactly code_start, 0) (each function_at before (i ∷ after)) ≡ Ok place)
+          → (place : FunctionsSoFar) × (keep_each (function_keeps version end) (Exactly code_start, 0) (each function_at (i ∷ before) after) ≡ Ok place))
+          → (t : Bool) → starts_function i ≡ t → (place : FunctionsSoFar) × (keep_each (function_keeps version end) (Exactly code_start, 0) (each function_at before (i ∷ after)) ≡ Ok place)
       by more true e =
           let here : admits end (Exactly code_start) (code_address before) ≡ true = eq-eqb _ _ (omega (arith, first)) in
           let it = function_kept version end (Exactly code_start) before i after e keep.0 keep.1 clean ends (says_more version i after says) here (omega (arith, none)) in
-          subst (λ (m : ℕ). (place : Place) × (keep_each (function_keeps version end) (Exactly code_start, m) (each function_at before (i ∷ after)) ≡ Ok place)) none
+          subst (λ (m : ℕ). (place : FunctionsSoFar) × (keep_each (function_keeps version end) (Exactly code_start, m) (each function_at before (i ∷ after)) ≡ Ok place)) none
           (one_function version end (Exactly code_start) before i after it
           (λ b m l k. functions_follow after (i ∷ before) version end b m rest keep.1 ends (says_more version i after says) (goes_in before i e) l k))
       by more false e =

@@ -7,9 +7,9 @@ use Rattle.std.specs.Option.{option_map_or}
 use Rattle.std.proofs.lemmas.Bool.{cond_both, leb-true}
 use Rattle.std.proofs.lemmas.Int.{ints}
 use Rattle.sbx_text.specs.declared.Token.{Token}
-use Rattle.v8_syntax.specs.declared.word.Word.{Word}
-use Rattle.v8_syntax.specs.declared.word.Word.TheVariants as words
-use Rattle.v8_syntax.specs.Statements.{word_of, words_of}
+use Rattle.v8_syntax.specs.declared.word.StatementToken.{StatementToken}
+use Rattle.v8_syntax.specs.declared.word.StatementToken.TheVariants as words
+use Rattle.v8_syntax.specs.Statements.{statement_token, statement_tokens}
 use Rattle.sbx_image.specs.Services.{Services}
 use Rattle.sbx_image.specs.Rules.{is_coefficient}
 use Rattle.sbx_image.specs.Spelling.{IsTypedRange, IsTypedCell, IsTypedTerm}
@@ -143,19 +143,19 @@ abbrev pub SaidFits : Said → Type 0
 SaidFits (Ok s) = StatementFits s
 SaidFits (Err f) = Unit {0}
 
-told_fits : (k : Keyword) (ws : List Word) (o : Option Directive) → FitSome o → StatementFits (option_map_or statements.Directive o (statements.Malformed k (called k ws)))
+told_fits : (k : Keyword) (ws : List StatementToken) (o : Option Directive) → FitSome o → StatementFits (option_map_or statements.Directive o (statements.Malformed k (called k ws)))
 told_fits k ws (Some d) h = h
 told_fits k ws None h = tt
 
 named_fits : (line : List ℕ) (o : Option Keyword) (rest : List Token) → StatementFits (option_map_or (λ k. told line k rest) o statements.Instruction)
-named_fits line (Some k) rest = told_fits k (words_of line rest) _ (directive_fits line k (operands_of line rest))
+named_fits line (Some k) rest = told_fits k (statement_tokens line rest) _ (directive_fits line k (operands_of line rest))
 named_fits line None rest = tt
 
-begun_fits : (line : List ℕ) (w : Word) (rest : List Token) → StatementFits (begun line w rest)
+begun_fits : (line : List ℕ) (w : StatementToken) (rest : List Token) → StatementFits (begun line w rest)
 begun_fits line (words.Name k start stop) rest = named_fits line (keyword_named _) rest
 begun_fits line _ rest = tt
 
 pub statement_fits : (line : List ℕ) (ts : List Token) → StatementFits (statement_of line ts)
 unfolding statement_of
 statement_fits line [] = tt
-statement_fits line (first ∷ rest) = begun_fits line (word_of line first) rest
+statement_fits line (first ∷ rest) = begun_fits line (statement_token line first) rest

@@ -18,13 +18,13 @@ use Rattle.v8_forms.specs.Forms.{Form, forms}
 use Rattle.v8_forms.specs.Text.{filled}
 use Rattle.v8_syntax.specs.declared.fault.SyntaxFault.{SyntaxFault}
 use Rattle.v8_syntax.specs.declared.fault.SyntaxFault.TheVariants.{Shape, UnknownMnemonic}
-use Rattle.v8_syntax.specs.declared.word.Word.{Word}
-use Rattle.v8_syntax.specs.declared.word.Word.TheVariants as words
+use Rattle.v8_syntax.specs.declared.word.StatementToken.{StatementToken}
+use Rattle.v8_syntax.specs.declared.word.StatementToken.TheVariants as words
 use Rattle.v8_syntax.specs.declared.word.NameKind.{NameKind}
 use Rattle.v8_syntax.specs.declared.expression.Base.TheVariants as bases
 use Rattle.v8_syntax.specs.declared.expression.Expression.{Expression}
-use Rattle.v8_syntax.specs.Statements.{beside, groups, small_number, register_named, specials, word_at, word_of, words_of, bytes_between, ◌>>=◌, Reading}
-use Rattle.v8_syntax.specs.Statements.{after_sign, after, number_first, register_first, end, plain, less, moved, named_expression, expression, word_in}
+use Rattle.v8_syntax.specs.Statements.{beside, groups, small_number, register_named, specials, token_at, statement_token, statement_tokens, bytes_between, ◌>>=◌, Reading}
+use Rattle.v8_syntax.specs.Statements.{after_sign, read_behind, number_first, register_first, end, plain, less, moved, named_expression, expression, word_in}
 use Rattle.v8_syntax.specs.Statements.{operands_of, sethi, or, set_instructions, is_symbolic, set_operands, set, named, of_condition, first_of, named_meaning}
 use Rattle.v8_syntax.specs.Statements.{name_first, source_meaning}
 use Rattle.sbx_asm.proofs.Wholes.{whatever}
@@ -88,11 +88,11 @@ named_small name =
 
 -- ---- words of a line
 
-abbrev pub IsSmall : Word → Type 0
+abbrev pub IsSmall : StatementToken → Type 0
 IsSmall (words.Register r) = IsRegister r
 IsSmall _ = Unit {0}
 
-abbrev pub AreSmall : List Word → Type 0
+abbrev pub AreSmall : List StatementToken → Type 0
 AreSmall ws = AllByRecursion IsSmall ws
 
 percent_is_small : (r : Option ℕ) (s : Option Special) → Named r → IsSmall (unwrap_or (option_or (option_map words.Register r) (option_map words.Special s)) words.Unknown)
@@ -100,7 +100,7 @@ percent_is_small (Some r) s h = h
 percent_is_small None (Some s) h = tt
 percent_is_small None None h = tt
 
-word_is_small : (line : List ℕ) (start stop : ℕ) (kind : Kind) → IsSmall (word_at line start stop kind)
+word_is_small : (line : List ℕ) (start stop : ℕ) (kind : Kind) → IsSmall (token_at line start stop kind)
 word_is_small line start stop kinds.Name = tt
 word_is_small line start stop kinds.Percent =
     let name : List ℕ = drop 1 (bytes_between line start stop) in
@@ -108,60 +108,61 @@ word_is_small line start stop kinds.Percent =
 word_is_small line start stop (kinds.Number n) = tt
 word_is_small line start stop kinds.Sign = tt
 
-pub words_are_small : (line : List ℕ) (ts : List Token) → AreSmall (words_of line ts)
-unfolding word_of
+pub words_are_small : (line : List ℕ) (ts : List Token) → AreSmall (statement_tokens line ts)
+unfolding statement_token
 words_are_small line [] = tt
 words_are_small line (t ∷ ts) = (word_is_small line t.start t.stop t.kind, words_are_small line ts)
 
 -- ---- what is read of them, and the words after it
 
-abbrev Left : {A : Type 0} → Option (A × List Word) → Type 0
+abbrev Left : {A : Type 0} → Option (A × List StatementToken) → Type 0
 Left o = IfSome o (λ x. AreSmall x.1)
 
-sign_small : (b : ℕ) (ws : List Word) → AreSmall ws → IfSome (after_sign b ws) AreSmall
+sign_small : (b : ℕ) (ws : List StatementToken) → AreSmall ws → IfSome (after_sign b ws) AreSmall
 sign_small b [] h = tt
 sign_small b (words.Sign c ∷ rest) h = cond_both (eqb c b) (Some rest) None (λ o. IfSome o AreSmall) (λ _. h.1) (λ _. tt)
 sign_small b (w ∷ rest) h = tt
 
-after_all : {A : Type 0} (Q : A × List Word → Type 0) (b : ℕ) (p : Reading A) (ws : List Word) → AreSmall ws → ((rest : List Word) → AreSmall rest → IfSome (p rest) Q) → IfSome (after b p ws) Q
+after_all : {A : Type 0} (Q : A × List StatementToken → Type 0) (b : ℕ) (p : Reading A) (ws : List StatementToken) → AreSmall ws →
+    ((rest : List StatementToken) → AreSmall rest → IfSome (p rest) Q) → IfSome (read_behind b p ws) Q
 after_all Q b p ws h go = then_all AreSmall Q (after_sign b ws) p (sign_small b ws h) go
 
-number_small : (ws : List Word) → AreSmall ws → Left (number_first ws)
+number_small : (ws : List StatementToken) → AreSmall ws → Left (number_first ws)
 number_small [] h = tt
 number_small (words.Number n ∷ rest) h = h.1
 number_small (w ∷ rest) h = tt
 
-register_small : (ws : List Word) → AreSmall ws → IfSome (register_first ws) (λ x. IsRegister x.0)
+register_small : (ws : List StatementToken) → AreSmall ws → IfSome (register_first ws) (λ x. IsRegister x.0)
 register_small [] h = tt
 register_small (words.Register r ∷ rest) h = h.0
 register_small (w ∷ rest) h = tt
 
-signed_small : (b : ℕ) (f : ℕ → Expression) (ws : List Word) → AreSmall ws → Left (option_map (λ x. (f x.0, x.1)) (after b number_first ws))
-signed_small b f ws h = map_all (λ x. AreSmall x.1) (λ x. AreSmall x.1) _ (after b number_first ws) (after_all (λ x. AreSmall x.1) b number_first ws h number_small) (λ x k. k)
+signed_small : (b : ℕ) (f : ℕ → Expression) (ws : List StatementToken) → AreSmall ws → Left (option_map (λ x. (f x.0, x.1)) (read_behind b number_first ws))
+signed_small b f ws h = map_all (λ x. AreSmall x.1) (λ x. AreSmall x.1) _ (read_behind b number_first ws) (after_all (λ x. AreSmall x.1) b number_first ws h number_small) (λ x k. k)
 
-named_expression_small : (kind : NameKind) (value : Option ℕ) (ws : List Word) → AreSmall ws → Left (named_expression kind value ws)
+named_expression_small : (kind : NameKind) (value : Option ℕ) (ws : List StatementToken) → AreSmall ws → Left (named_expression kind value ws)
 named_expression_small kind value ws h =
-    or_all {A = Expression × List Word} (λ x. AreSmall x.1) _ _
-    (or_all {A = Expression × List Word} (λ x. AreSmall x.1) _ _ (signed_small 43 (plain (moved kind value)) ws h) (signed_small 45 (less (moved kind value)) ws h)) h
+    or_all {A = Expression × List StatementToken} (λ x. AreSmall x.1) _ _
+    (or_all {A = Expression × List StatementToken} (λ x. AreSmall x.1) _ _ (signed_small 43 (plain (moved kind value)) ws h) (signed_small 45 (less (moved kind value)) ws h)) h
 
-abbrev InRegister : Option ((Expression × ℕ) × List Word) → Type 0
+abbrev InRegister : Option ((Expression × ℕ) × List StatementToken) → Type 0
 InRegister o = IfSome o (λ x. IsRegister x.0.1)
 
 module _ (values : List ℕ → Option ℕ) (line : List ℕ) where
-  expression_small : (ws : List Word) → AreSmall ws → Left (expression values line ws)
+  expression_small : (ws : List StatementToken) → AreSmall ws → Left (expression values line ws)
   unfolding expression
   expression_small (words.Number n ∷ ws) h = h.1
   expression_small (words.Name kind i j ∷ ws) h = named_expression_small kind (values (bytes_between line i j)) ws h.1
   expression_small (words.Sign c ∷ ws) h = signed_small 45 (less bases.Number) (words.Sign c ∷ ws) h
   expression_small _ h = tt
 
-  set_operands_small : (ws : List Word) → AreSmall ws → InRegister (set_operands values line ws)
+  set_operands_small : (ws : List StatementToken) → AreSmall ws → InRegister (set_operands values line ws)
   unfolding set_operands
   set_operands_small ws h =
-      then_all {B = (Expression × ℕ) × List Word} (λ x. AreSmall x.1) (λ z. IsRegister z.0.1) (expression values line ws) _ (expression_small ws h)
-      (λ x k. then_all {B = (Expression × ℕ) × List Word} (λ y. IsRegister y.0) (λ z. IsRegister z.0.1) (after 44 register_first x.1) _
+      then_all {B = (Expression × ℕ) × List StatementToken} (λ x. AreSmall x.1) (λ z. IsRegister z.0.1) (expression values line ws) _ (expression_small ws h)
+      (λ x k. then_all {B = (Expression × ℕ) × List StatementToken} (λ y. IsRegister y.0) (λ z. IsRegister z.0.1) (read_behind 44 register_first x.1) _
       (after_all (λ y. IsRegister y.0) 44 register_first x.1 k register_small)
-      (λ y r. map_all {B = (Expression × ℕ) × List Word} (λ _. Unit {0}) (λ z. IsRegister z.0.1) _ (end y.1) (whatever _) (λ _ _. r)))
+      (λ y r. map_all {B = (Expression × ℕ) × List StatementToken} (λ _. Unit {0}) (λ z. IsRegister z.0.1) _ (end y.1) (whatever _) (λ _ _. r)))
 
 -- ---- instructions
 
@@ -199,33 +200,33 @@ filled_word f condition n = omega arith
 -- ---- statements
 
 module _ (values : List ℕ → Option ℕ) (line : List ℕ) where
-  set_means : (ws : List Word) → AreSmall ws → Means (set values line ws)
+  set_means : (ws : List StatementToken) → AreSmall ws → Means (set values line ws)
   unfolding set
   set_means ws h =
       either_all (λ x. IsRegister x.0.1) Means (set_operands values line ws) _ _ (set_operands_small values line ws h)
       (λ x r. step_all (λ _. Unit {0}) AreSpelled (word_in ranges.Whole x.0.0) _ (unknown _) (λ w _. set_spelled (is_symbolic x.0.0.base) w x.0.1 r)) tt
 
   module _ (here : ℕ) where
-    condition_word : (others : SyntaxFault → Result ℕ SyntaxFault) → ((g : SyntaxFault) → IfOk (others g) IsWord) → (fault : SyntaxFault) (f : Form) (ws : List Word) (o : Option ℕ)
+    condition_word : (others : SyntaxFault → Result ℕ SyntaxFault) → ((g : SyntaxFault) → IfOk (others g) IsWord) → (fault : SyntaxFault) (f : Form) (ws : List StatementToken) (o : Option ℕ)
         → IfOk (of_condition values here line others fault f ws o) IsWord
     condition_word others each fault f ws (Some condition) =
         either_all (λ _. Unit {0}) Reads (operands_of values here line f.parts ws) _ _ (whatever _)
         (λ r _. step_all (λ _. Unit {0}) IsWord r.0 _ (unknown r.0) (λ n _. filled_word f condition n)) (each Shape)
     condition_word others each fault f ws None = each fault
 
-    first_word : (fault : SyntaxFault) (fs : List Form) (name : List ℕ) (ws : List Word) → IfOk (first_of values here line fault fs name ws) IsWord
+    first_word : (fault : SyntaxFault) (fs : List Form) (name : List ℕ) (ws : List StatementToken) → IfOk (first_of values here line fault fs name ws) IsWord
     first_word fault [] name ws = tt
     first_word fault (f ∷ fs) name ws = condition_word _ (λ g. first_word g fs name ws) fault f ws (named f name)
 
-    named_means : (name : List ℕ) (ws : List Word) → AreSmall ws → Means (named_meaning values here line name ws)
+    named_means : (name : List ℕ) (ws : List StatementToken) → AreSmall ws → Means (named_meaning values here line name ws)
     unfolding named_meaning
     named_means name ws h =
         cond_both (bytes_eq name (codes "set")) (set values line ws) _ Means (λ _. set_means ws h)
         (λ _. step_all IsWord AreSpelled (first_of values here line UnknownMnemonic forms name ws) _ (first_word UnknownMnemonic forms name ws) (λ w k. meaning_spelled w k))
 
-    statement_means : (ws : List Word) → AreSmall ws → Means (option_map_or (λ x. named_meaning values here line x.0 x.1) (name_first line ws) (Err UnknownMnemonic))
+    statement_means : (ws : List StatementToken) → AreSmall ws → Means (option_map_or (λ x. named_meaning values here line x.0 x.1) (name_first line ws) (Err UnknownMnemonic))
     statement_means (words.Name kind i j ∷ ws) h = named_means (bytes_between line i j) ws h.1
     statement_means _ h = tt
 
 pub source_spelled : (values : List ℕ → Option ℕ) (here : ℕ) (line : List ℕ) (ts : List Token) → IfOk (source_meaning values here line ts) AreSpelled
-source_spelled values here line ts = statement_means values line here (words_of line ts) (words_are_small line ts)
+source_spelled values here line ts = statement_means values line here (statement_tokens line ts) (words_are_small line ts)

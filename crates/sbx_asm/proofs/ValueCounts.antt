@@ -9,9 +9,9 @@ use Rattle.std.proofs.lemmas.List.{length-append}
 use Rattle.sbx_text.specs.declared.Token.{Token}
 use Rattle.sbx_text.specs.declared.fault.TextFault.{TextFault}
 use Rattle.sbx_text.specs.Tokens.{tokens_of}
-use Rattle.v8_syntax.specs.declared.word.Word.{Word}
-use Rattle.v8_syntax.specs.declared.word.Word.TheVariants as words
-use Rattle.v8_syntax.specs.Statements.{word_of, words_of}
+use Rattle.v8_syntax.specs.declared.word.StatementToken.{StatementToken}
+use Rattle.v8_syntax.specs.declared.word.StatementToken.TheVariants as words
+use Rattle.v8_syntax.specs.Statements.{statement_token, statement_tokens}
 use Rattle.sbx_directives.specs.declared.directive.Width.{Width}
 use Rattle.sbx_directives.specs.declared.directive.Width.TheVariants as widths
 use Rattle.sbx_directives.specs.declared.directive.Keyword.{Keyword}
@@ -83,7 +83,7 @@ abbrev pub ItemCounts : Item → Type 0
 ItemCounts i = SaysCount i.bytes i.tokens i.said
 
 told_counts : (line : List ℕ) (first : Token) (rest : List Token) (k : Keyword) (o : Option Directive) → CountsSome (operands_of line rest) o
-    → SaysCount line (first ∷ rest) (Ok (option_map_or statements.Directive o (statements.Malformed k (called k (words_of line rest)))))
+    → SaysCount line (first ∷ rest) (Ok (option_map_or statements.Directive o (statements.Malformed k (called k (statement_tokens line rest)))))
 told_counts line first rest k (Some d) h = h
 told_counts line first rest k None h = tt
 
@@ -91,14 +91,14 @@ named_counts : (line : List ℕ) (first : Token) (o : Option Keyword) (rest : Li
 named_counts line first (Some k) rest = told_counts line first rest k _ (directive_counts line k (operands_of line rest))
 named_counts line first None rest = tt
 
-begun_counts : (line : List ℕ) (w : Word) (first : Token) (rest : List Token) → SaysCount line (first ∷ rest) (Ok (begun line w rest))
+begun_counts : (line : List ℕ) (w : StatementToken) (first : Token) (rest : List Token) → SaysCount line (first ∷ rest) (Ok (begun line w rest))
 begun_counts line (words.Name k start stop) first rest = named_counts line first (keyword_named _) rest
 begun_counts line _ first rest = tt
 
 statement_counts : (line : List ℕ) (ts : List Token) → SaysCount line ts (Ok (statement_of line ts))
 unfolding statement_of
 statement_counts line [] = tt
-statement_counts line (first ∷ rest) = begun_counts line (word_of line first) first rest
+statement_counts line (first ∷ rest) = begun_counts line (statement_token line first) first rest
 
 read_counts : (number : ℕ) (line : List ℕ) (r : Result (List Token) TextFault) → ItemCounts (read_line number line r)
 read_counts number line (Ok ts) = statement_counts line (drop (2 * label_count line ts) ts)

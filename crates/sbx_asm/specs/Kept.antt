@@ -7,7 +7,7 @@ use Rattle.sbx_image.specs.Region.{Region}
 use Rattle.sbx_asm.specs.declared.data.Data.{Data}
 use Rattle.sbx_asm.specs.declared.table.Table.{Table}
 use Rattle.sbx_asm.specs.declared.notes.Notes.{Notes}
-use Rattle.sbx_asm.specs.declared.place.Place.{Place}
+use Rattle.sbx_asm.specs.declared.place.LocationCounter.{LocationCounter}
 use Rattle.sbx_asm.specs.declared.context.Locations.{Locations}
 use Rattle.sbx_asm.specs.declared.context.Context.{Context}
 use Rattle.sbx_asm.specs.declared.survey.Survey.{Survey}
@@ -23,7 +23,7 @@ abbrev pub worth : Table → Values
 worth t name = get_by (λ k. bytes_eq name k.now) t.entries
 
 -- the place of a line behind some others, the nearest first
-abbrev pub place_at : List Item → Place
+abbrev pub place_at : List Item → LocationCounter
 place_at before =
     record {
       in_code = in_code before;

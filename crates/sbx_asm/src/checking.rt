@@ -20,7 +20,7 @@ const LINES: usize = 1_000_000;
 
 /// The fault that is told so far, and the words of the lines so far.
 #[derive(Drop)]
-pub struct Checked {
+pub struct CheckedLines {
     pub fault: Option<AsmFault>,
     pub words: Vec<u32>,
 }
@@ -72,7 +72,7 @@ fn is_idle_block(table: &Table<'_>, context: Context, line: &Line<'_>, behind: &
     context.begins_block(line) && !any_acts(table, behind)
 }
 
-impl Checked {
+impl CheckedLines {
     /// One more line, in front of others, and whether it acts.
     fn add_line(
         &mut self,
@@ -111,11 +111,11 @@ pub fn check(
     table: &Table<'_>,
     told_before: Option<AsmFault>,
     lines: &[Line<'_>],
-) -> Result<Checked, AllocError>
+) -> Result<CheckedLines, AllocError>
     ensures { IfOk result (λ c. (c.fault ≡ fold told told_before (each (faults_at (worth table.now)) [] lines.now))
         × (c.words.items ≡ each (words_at (worth table.now)) [] lines.now)) }
 {
-    let mut checked = Checked {
+    let mut checked = CheckedLines {
         fault: told_before,
         words: Vec::new(alloc),
     };

@@ -8,7 +8,7 @@ ghost use Rattle.sbx_asm.specs.Rules.{Values, acts, takes_annotations, takes_ran
 ghost use Rattle.sbx_asm.specs.Kept.{locations_of, context_at};
 
 use crate::kinds::{ends_block, ends_function, is_block, is_data, is_region, starts_function};
-use crate::place::Place;
+use crate::place::LocationCounter;
 use crate::reading::Line;
 use sbx_directives::{Directive, Statement};
 
@@ -68,7 +68,7 @@ pub struct BlockContext {
 /// What the rules of a line ask of the lines before it.
 #[derive(Clone, Copy)]
 pub struct Context {
-    pub place: Place,
+    pub place: LocationCounter,
     pub totals: Totals,
     pub function: FunctionContext,
     pub block: BlockContext,
@@ -281,7 +281,7 @@ impl Context {
         ensures { (values : Values) → result ≡ context_at values [] }
     {
         Context {
-            place: Place::start(),
+            place: LocationCounter::start(),
             totals: Totals::none(),
             function: FunctionContext::new(false),
             block: BlockContext::new(false),

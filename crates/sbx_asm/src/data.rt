@@ -5,7 +5,7 @@ ghost use Rattle.sbx_asm.specs.Items.{Item};
 ghost use Rattle.sbx_asm.specs.Images.{filled, region_with, regions_of};
 
 use crate::operands::push_line_values;
-use crate::place::{Place, padding};
+use crate::place::{LocationCounter, padding};
 use crate::reading::Line;
 use crate::table::Table;
 use sbx_directives::{Directive, Statement};
@@ -57,7 +57,7 @@ impl Data {
         &mut self,
         alloc: Global,
         table: &Table<'_>,
-        place: Place,
+        place: LocationCounter,
         line: &Line<'_>,
     ) -> Result<(), AllocError>
         ensures { IfOk result (λ _. (before after : List Item) → place ≡ place_at before →
@@ -96,7 +96,7 @@ pub fn regions_of(
         writable: true,
         bytes: Vec::new(alloc),
     };
-    let mut place = Place::start();
+    let mut place = LocationCounter::start();
     for line in lines {
         data.add_line(alloc, table, place, line)?;
         place = place.after(line);

@@ -7,7 +7,7 @@ ghost use Rattle.sbx_asm.specs.Images.{block_with, block_at, function_at};
 
 use crate::annotations::{block_with, signature_of};
 use crate::own::{up_to_block, up_to_function};
-use crate::place::Place;
+use crate::place::LocationCounter;
 use crate::reading::Line;
 use sbx_directives::{Directive, Statement};
 use sbx_image::{Block, Function, Items};
@@ -32,7 +32,7 @@ fn push_named_block(
     blocks: &mut Vec<Block>,
     alloc: Global,
     line: &Line<'_>,
-    place: Place,
+    place: LocationCounter,
     after: &[Line<'_>],
 ) -> Result<(), AllocError>
     ensures { IfOk result (λ _. (before : List Item) → place ≡ place_at before →
@@ -49,7 +49,7 @@ fn push_named_block(
 fn blocks_of(
     alloc: Global,
     first: &Line<'_>,
-    place: Place,
+    place: LocationCounter,
     own: &[Line<'_>],
 ) -> Result<Items<Block>, AllocError>
     ensures { IfOk result (λ blocks. (before : List Item) → place ≡ place_at before →
@@ -71,7 +71,7 @@ fn push_function(
     functions: &mut Vec<Function>,
     alloc: Global,
     line: &Line<'_>,
-    place: Place,
+    place: LocationCounter,
     after: &[Line<'_>],
 ) -> Result<(), AllocError>
     ensures { IfOk result (λ _. (before : List Item) → place ≡ place_at before →
@@ -112,7 +112,7 @@ pub fn functions_of(alloc: Global, lines: &[Line<'_>]) -> Result<Items<Function>
     ensures { IfOk result (λ functions. functions ≡ each function_at [] lines.now) }
 {
     let mut functions = Vec::new(alloc);
-    let mut here = Place::start();
+    let mut here = LocationCounter::start();
     for (at, line) in lines.iter().enumerate() {
         push_function(&mut functions, alloc, line, here, &lines[at + 1..])?;
         here = here.after(line);

@@ -1,7 +1,7 @@
 //! The ways to drive a board of eight windows, and what each tells.
 ghost use Rattle.std.specs.Prelude.{◌≡◌, ℕ, [], IfOk, vec_len};
 ghost use Rattle.v8_board.specs.Seen.{State};
-ghost use Rattle.v8_board.specs.Runs.{IsRun, after};
+ghost use Rattle.v8_board.specs.Runs.{IsRun, state_after};
 ghost use Rattle.sbx_raw.specs.Runs.{IsRaw};
 ghost use Rattle.sbx_raw.specs.declared.raw.Raw.{Raw};
 ghost use Rattle.sbx_bench.specs.declared.tally.Tally.{Tally};
@@ -67,7 +67,7 @@ fn register(board: &Board<8, SlicePort<'_>>) -> Told
 }
 
 fn step(mut board: Board<8, SlicePort<'_>>, turns: u64) -> Result<Told, RunFault>
-    ensures { IfOk result (λ told. told ≡ register_of (after 8 turns board.entry.state)) }
+    ensures { IfOk result (λ told. told ≡ register_of (state_after 8 turns board.entry.state)) }
 {
     for _ in 0..turns {
         match board.step() {

@@ -13,7 +13,7 @@ ghost use Rattle.sbx_check.specs.Faults.{AreTold, found_behind};
 use crate::alone::{cause_alone, is_told, with_label};
 use sbx_asm::{AsmFault, Cause, assemble};
 use sbx_image::Image;
-use sbx_places::{Line, Place, Survey, lines_in, survey_lines};
+use sbx_places::{Line, LocationCounter, Survey, lines_in, survey_lines};
 use std::alloc::{AllocError, Global};
 
 /// The faults of a source that means no image.
@@ -72,7 +72,7 @@ pub fn faults_behind(
         found.items ≡ found_behind behind lines.now) }
 {
     let mut found = Vec::new(alloc);
-    let mut place = Place::start();
+    let mut place = LocationCounter::start();
     for line in lines {
         push_found(&mut found, survey, behind, place.next_word, line)?;
         place = place.after(line);

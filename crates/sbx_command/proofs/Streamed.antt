@@ -14,8 +14,8 @@ use Rattle.sbx_stream.specs.RunFault.{RunFault}
 use Rattle.sbx_stream.specs.RunFault.TheVariants as runs
 use Rattle.sbx_stream.specs.Streams.{IsAnswerWritten, IsFront, IsStreamed}
 use Rattle.sbx_command.specs.Laws.{KnownInputsAreAnswered}
-use Rattle.sbx_stops.specs.declared.stops.Stop.{Stop}
-use Rattle.sbx_stops.specs.declared.stops.Stop.TheVariants.{Source, Image, Refused, File, Input, Output, Memory, NoRoom}
+use Rattle.sbx_stops.specs.declared.stops.CommandStop.{CommandStop}
+use Rattle.sbx_stops.specs.declared.stops.CommandStop.TheVariants.{Source, Image, Refused, File, Input, Output, Memory, NoRoom}
 use Rattle.sbx_stops.specs.Stops.{IsEarly, stop_of_run}
 use Rattle.sbx_command.specs.Streaming.{HasFront, HasNothing, Leaves, LeavesOn, Left, OfAccepted, RanOn, RunGives, status_of_word}
 use Rattle.sbx_put.proofs.Written.{kept_after}
@@ -69,10 +69,10 @@ fault_leaves parts (runs.Memory want) read met written front =
     let (rest, status, path, behaves, says) = front [] (none_beyond met) in
     says
 
-pub faulted : (windows : ℕ) (parts : Parts) (a b c d : Option (List ℕ)) (fault : RunFault) (stop : Stop) → RunGives windows parts a b c d (Err fault)
+pub faulted : (windows : ℕ) (parts : Parts) (a b c d : Option (List ℕ)) (fault : RunFault) (stop : CommandStop) → RunGives windows parts a b c d (Err fault)
     → stop ≡ stop_of_run fault → Streamed a b c d (LeavesOn parts stop)
 faulted windows parts a b c d fault stop (read, met, written, so, bytes, got, all, put) is =
-    subst (λ (s : Stop). Streamed a b c d (LeavesOn parts s)) (sym is) (read, met, written, fault_leaves parts fault read met written so, bytes, got, all, put)
+    subst (λ (s : CommandStop). Streamed a b c d (LeavesOn parts s)) (sym is) (read, met, written, fault_leaves parts fault read met written so, bytes, got, all, put)
 
 -- ---- of the file
 
@@ -80,7 +80,7 @@ of_accepted : (P : Parts → Type 0) (file : Option (List ℕ)) (parts : Parts) 
 of_accepted P None parts read so = tt
 of_accepted P (Some bytes) parts read so = (parts, read.0, read.1, so)
 
-leaves_of : (file : Option (List ℕ)) (parts : Parts) (stop : Stop) (read : List ℕ) (met : Bool) (written : List ℕ) → IfSome file (λ bytes. (reading bytes ≡ Ok parts) × Checked parts)
+leaves_of : (file : Option (List ℕ)) (parts : Parts) (stop : CommandStop) (read : List ℕ) (met : Bool) (written : List ℕ) → IfSome file (λ bytes. (reading bytes ≡ Ok parts) × Checked parts)
     → LeavesOn parts stop read met written → Leaves file stop read met written
 leaves_of file parts Input read met written accepted so = of_accepted (λ parts. (met ≡ false) × HasFront parts read met written) file parts accepted so
 leaves_of file parts Output read met written accepted so = of_accepted (λ parts. HasFront parts read met written) file parts accepted so
@@ -91,7 +91,7 @@ leaves_of file parts (Refused refusal) read met written accepted so = absurd so
 leaves_of file parts File read met written accepted so = absurd so
 leaves_of file parts (NoRoom full) read met written accepted so = absurd so
 
-pub left_of : (file a b c d : Option (List ℕ)) (parts : Parts) (stop : Stop) → IfSome file (λ bytes. (reading bytes ≡ Ok parts) × Checked parts)
+pub left_of : (file a b c d : Option (List ℕ)) (parts : Parts) (stop : CommandStop) → IfSome file (λ bytes. (reading bytes ≡ Ok parts) × Checked parts)
     → Streamed a b c d (LeavesOn parts stop) → Left file a b c d stop
 left_of file a b c d parts stop accepted (read, met, written, so, bytes, got, all, put) =
     (read, met, written, leaves_of file parts stop read met written accepted so, bytes, got, all, put)
@@ -101,7 +101,7 @@ left_of file a b c d parts stop accepted (read, met, written, so, bytes, got, al
 nothing : HasNothing [] false []
 nothing = (refl, refl, refl)
 
-early_leaves : (file : Option (List ℕ)) (stop : Stop) → IsEarly stop → Leaves file stop [] false []
+early_leaves : (file : Option (List ℕ)) (stop : CommandStop) → IsEarly stop → Leaves file stop [] false []
 early_leaves file Input early = absurd early
 early_leaves file Output early = absurd early
 early_leaves file (Memory want) early = nothing
@@ -111,7 +111,7 @@ early_leaves file (Image fault) early = nothing
 early_leaves file (Refused refusal) early = nothing
 early_leaves file File early = nothing
 
-pub early_left : (file reader writer : Option (List ℕ)) (stop : Stop) → IsEarly stop → Left file reader reader writer writer stop
+pub early_left : (file reader writer : Option (List ℕ)) (stop : CommandStop) → IsEarly stop → Left file reader reader writer writer stop
 early_left file reader writer stop early =
     ([], false, [], early_leaves file stop early, no_bytes, Consumes-nil reader, (λ yes. search rules), Appends-nil writer)
 

@@ -11,8 +11,9 @@ use Rattle.sbx_rules.specs.Verdicts.{Checked}
 use Rattle.sbx_stream.specs.Finished.{Finished}
 use Rattle.sbx_stream.specs.RunFault.{RunFault}
 use Rattle.sbx_stream.specs.Streams.{IsAnswerWritten, IsFront, IsStreamed}
-use Rattle.sbx_stops.specs.declared.stops.Stop.{Stop}
-use Rattle.sbx_stops.specs.declared.stops.Stop.TheVariants.{Source, Image, Refused, File, Input, Output, Memory, NoRoom}
+use Rattle.sbx_stops.specs.declared.stops.CommandStop.{CommandStop}
+use Rattle.sbx_stops.specs.declared.stops.CommandStop.TheVariants.{Source, Image, Refused, File, Input, Output, Memory}
+use Rattle.sbx_stops.specs.declared.stops.CommandStop.TheVariants.{NoRoom}
 
 -- 0 where the exit word is 0, else 1
 abbrev pub status_of_word : ℕ → ℕ
@@ -71,7 +72,7 @@ HasNothing read met written = (read ≡ []) × (met ≡ false) × (written ≡ [
 
 -- What a stop of a run says of it. Only a run's own streams stop it: the input before its end was met, or the output.
 -- Want of memory comes before anything is read or written.
-abbrev pub LeavesOn : Parts → Stop → List ℕ → Bool → List ℕ → Type 0
+abbrev pub LeavesOn : Parts → CommandStop → List ℕ → Bool → List ℕ → Type 0
 LeavesOn parts Input read met written = (met ≡ false) × HasFront parts read met written
 LeavesOn parts Output read met written = HasFront parts read met written
 LeavesOn parts (Memory want) read met written = HasNothing read met written
@@ -87,7 +88,7 @@ OfAccepted P file = IfSome file (λ bytes. (parts : Parts) × (reading bytes ≡
 
 -- What a stop leaves. The input and the output are told of an accepted image alone; where any other stop is told,
 -- nothing was read or written.
-abbrev pub Leaves : Option (List ℕ) → Stop → List ℕ → Bool → List ℕ → Type 0
+abbrev pub Leaves : Option (List ℕ) → CommandStop → List ℕ → Bool → List ℕ → Type 0
 Leaves file Input read met written = OfAccepted (λ parts. (met ≡ false) × HasFront parts read met written) file
 Leaves file Output read met written = OfAccepted (λ parts. HasFront parts read met written) file
 Leaves file (Memory want) read met written = HasNothing read met written
@@ -98,6 +99,7 @@ Leaves file File read met written = HasNothing read met written
 Leaves file (NoRoom full) read met written = ⊥
 
 -- of what was read of the input, and written to the output
-abbrev pub Left : Option (List ℕ) → Option (List ℕ) → Option (List ℕ) → Option (List ℕ) → Option (List ℕ) → Stop →
+abbrev pub Left : Option (List ℕ) → Option (List ℕ) → Option (List ℕ) → Option (List ℕ) → Option (List ℕ) →
+    CommandStop →
     Type 0
 Left file reader reader_now writer writer_now stop = Streamed reader reader_now writer writer_now (Leaves file stop)

@@ -9,8 +9,9 @@ use Rattle.sbx_image.specs.Parts.{Parts}
 use Rattle.sbx_image.specs.Reading.{reading}
 use Rattle.sbx_jobs.specs.declared.jobs.Job.{Job}
 use Rattle.sbx_jobs.specs.declared.jobs.Job.TheVariants.{Asm, Verify, Run, List as Listing, Trace}
-use Rattle.sbx_stops.specs.declared.stops.Stop.{Stop}
-use Rattle.sbx_stops.specs.declared.stops.Stop.TheVariants.{Source, Image, Refused, File, Input, Output, Memory, NoRoom}
+use Rattle.sbx_stops.specs.declared.stops.CommandStop.{CommandStop}
+use Rattle.sbx_stops.specs.declared.stops.CommandStop.TheVariants.{Source, Image, Refused, File, Input, Output, Memory}
+use Rattle.sbx_stops.specs.declared.stops.CommandStop.TheVariants.{NoRoom}
 use Rattle.sbx_filing.specs.Files.{Assembled, BeginsListing, BeginsObject, BeginsVerdict, FrontLeft, IsAccepted}
 use Rattle.sbx_filing.specs.Files.{IsImage, IsSource, Listed}
 use Rattle.sbx_command.specs.Streaming.{Left, Ran}
@@ -25,7 +26,7 @@ Deserves (Listing image) bytes = IsImage bytes
 Deserves (Trace image windows limit) bytes = IsImage bytes
 
 -- what a stop tells of the bytes that a job reads
-abbrev pub IsTold : Job → Stop → List ℕ → Type 0
+abbrev pub IsTold : Job → CommandStop → List ℕ → Type 0
 IsTold (Asm source object) stop bytes = IsTrueOfSource stop bytes
 IsTold (Verify image) stop bytes = IsTrueOf stop bytes
 IsTold (Run image windows) stop bytes = IsTrueOf stop bytes
@@ -50,7 +51,7 @@ BeginsTraceOf windows limit bytes input written = (parts : Parts) × (reading by
 
 -- What a stop of a trace leaves. Before the run nothing was put out; the input is told of an image alone; in the run
 -- the first bytes of the trace were put out.
-abbrev pub TraceLeaves : ℕ → ℕ → List ℕ → List ℕ → Stop → List ℕ → Type 0
+abbrev pub TraceLeaves : ℕ → ℕ → List ℕ → List ℕ → CommandStop → List ℕ → Type 0
 TraceLeaves windows limit bytes input Input written = IsImage bytes × (written ≡ [])
 TraceLeaves windows limit bytes input Output written = BeginsTraceOf windows limit bytes input written
 TraceLeaves windows limit bytes input (Memory want) written =
@@ -62,7 +63,8 @@ TraceLeaves windows limit bytes input File written = written ≡ []
 TraceLeaves windows limit bytes input (NoRoom full) written = ⊥
 
 -- the same where the bytes of the file and of the input are known
-abbrev pub TraceLeft : ℕ → ℕ → Option (List ℕ) → Option (List ℕ) → Option (List ℕ) → Option (List ℕ) → Stop → Type 0
+abbrev pub TraceLeft : ℕ → ℕ → Option (List ℕ) → Option (List ℕ) → Option (List ℕ) → Option (List ℕ) → CommandStop →
+    Type 0
 TraceLeft windows limit file input old new stop =
     IfSome file (λ bytes. IfSome input (λ all. Wrote old new (TraceLeaves windows limit bytes all stop)))
 
@@ -92,7 +94,7 @@ Gave (Trace image windows limit) file input input_now old new status = Traced wi
 
 -- what a stop of a job leaves
 abbrev pub LeftBy : Job → Option (List ℕ) → Option (List ℕ) → Option (List ℕ) → Option (List ℕ) → Option (List ℕ) →
-    Stop → Type 0
+    CommandStop → Type 0
 LeftBy (Asm source object) file input input_now old new stop = FrontLeft BeginsObject file old new stop
 LeftBy (Verify image) file input input_now old new stop = FrontLeft BeginsVerdict file old new stop
 LeftBy (Run image windows) file input input_now old new stop = Left file input input_now old new stop
@@ -101,7 +103,7 @@ LeftBy (Trace image windows limit) file input input_now old new stop = TraceLeft
 
 -- The stops of a job that come before it takes any input or puts anything out. A run and a trace take both while they
 -- go on; the other jobs take no input, and put out what is whole.
-abbrev pub IsBefore : Job → Stop → Type 0
+abbrev pub IsBefore : Job → CommandStop → Type 0
 IsBefore (Asm source object) stop = IsOfOutput stop → ⊥
 IsBefore (Verify image) stop = IsOfOutput stop → ⊥
 IsBefore (Run image windows) stop = IsOfFile stop
@@ -111,9 +113,9 @@ IsBefore (Trace image windows limit) stop = IsOfFile stop
 -- A status is that of a stop, which tells what is so of the bytes of the file, and leaves what such a stop leaves.
 -- Where it refuses the bytes, they don't deserve the job; what a stop before all input and output leaves as it was is
 -- as it was.
-abbrev pub StopsFor : Job → Option (List ℕ) → Type 0 → (Stop → Type 0) → ℕ → Type 0
+abbrev pub StopsFor : Job → Option (List ℕ) → Type 0 → (CommandStop → Type 0) → ℕ → Type 0
 StopsFor job file Untouched LeftAt status =
-    (stop : Stop) × (status ≡ status_of stop) × IfSome file (IsTold job stop)
+    (stop : CommandStop) × (status ≡ status_of stop) × IfSome file (IsTold job stop)
     × (IsRefusal stop → IfSome file (λ bytes. Deserves job bytes → ⊥)) × (IsBefore job stop → Untouched) × LeftAt stop
 
 -- ---- the same in closed words, which a proof opens by `unfolding`

@@ -7,7 +7,7 @@ use crate::running::run_file;
 use crate::tracing::trace_file;
 use sbx_filing::{assemble_file, list_file, verify_file};
 use sbx_jobs::Job;
-use sbx_stops::{Ended, Stop};
+use sbx_stops::{CommandStop, Ended};
 use std::alloc::Global;
 use std::io::{Read, Write};
 
@@ -18,7 +18,7 @@ fn perform<F: Read, I: Read, O: Write>(
     file: &mut F,
     input: &mut I,
     out: &mut O,
-) -> Result<u8, Stop>
+) -> Result<u8, CommandStop>
     ensures range { IfOk result (λ status. status < 2) }
     ensures done { IfOk result (λ status. IfSome (F.remaining file.old) (Deserves job.now)) }
     ensures ran { IfOk result (Gave job.now (F.remaining file.old) (I.remaining input.old) (I.remaining input.new)

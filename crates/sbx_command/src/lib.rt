@@ -10,4 +10,4 @@ mod tracing;
 pub use commands::{command, exit_status};
 pub use sbx_filing::{ReadFault, image_in, read_whole};
 pub use sbx_jobs::{Job, Windows, turns, window_count};
-pub use sbx_stops::{Ended, Full, Stop};
+pub use sbx_stops::{CommandStop, Ended, Full};

@@ -8,7 +8,7 @@ ghost use Rattle.sbx_filing.specs.Files.{IsAccepted};
 use crate::streaming::stream_windows;
 use sbx_filing::accepted_in;
 use sbx_jobs::Windows;
-use sbx_stops::Stop;
+use sbx_stops::CommandStop;
 use sbx_stream::Accepted;
 use std::alloc::Global;
 use std::io::{Read, Write};
@@ -27,7 +27,7 @@ fn run_through<I: Read, O: Write>(
     accepted: &Accepted,
     input: &mut I,
     out: &mut O,
-) -> Result<u8, Stop>
+) -> Result<u8, CommandStop>
     ensures range { IfOk result (λ status. status < 2) }
     ensures ran { IfOk result (λ status. RanOn windows accepted.now (I.remaining input.old) (I.remaining input.new)
         (O.contents out.old) (O.contents out.new) status) }
@@ -37,7 +37,7 @@ fn run_through<I: Read, O: Write>(
     let finished = stream_windows(alloc, windows, accepted, input, out)?;
     match out.flush() {
         Ok(()) => Ok(status_of_word(finished.status)),
-        Err(_) => Err(Stop::Output),
+        Err(_) => Err(CommandStop::Output),
     }
 }
 
@@ -50,7 +50,7 @@ pub fn run_file<F: Read, I: Read, O: Write>(
     file: &mut F,
     input: &mut I,
     out: &mut O,
-) -> Result<u8, Stop>
+) -> Result<u8, CommandStop>
     ensures range { IfOk result (λ status. status < 2) }
     ensures accepted { IfOk result (λ _. IfSome (F.remaining file.old) IsAccepted) }
     ensures ran { IfOk result (Ran windows (F.remaining file.old) (I.remaining input.old) (I.remaining input.new)

@@ -9,20 +9,20 @@ use sbx_counts::on_windows;
 use sbx_filing::{MOST, ReadFault, image_in, read_whole};
 use sbx_image::Image;
 use sbx_jobs::Windows;
-use sbx_stops::Stop;
+use sbx_stops::CommandStop;
 use sbx_stream::{Outcome, RunFault, trace};
 use std::alloc::Global;
 use std::io::{Read, Write};
 
 /// All of standard input.
-fn input_of<I: Read>(alloc: Global, input: &mut I) -> Result<Vec<u8>, Stop>
+fn input_of<I: Read>(alloc: Global, input: &mut I) -> Result<Vec<u8>, CommandStop>
     ensures whole { IfOk result (λ bytes. IfSome (I.remaining input.old) (λ all. bytes.items ≡ all)) }
-    ensures stop { IfErr result (λ stop. (stop ≡ Stop.Memory refused) ⊎ (stop ≡ Stop.Input)) }
+    ensures stop { IfErr result (λ stop. (stop ≡ CommandStop.Memory refused) ⊎ (stop ≡ CommandStop.Input)) }
 {
     match read_whole(alloc, input, MOST) {
         Ok(bytes) => Ok(bytes),
-        Err(ReadFault::Memory(want)) => Err(Stop::Memory(want)),
-        Err(ReadFault::Reader | ReadFault::TooLong) => Err(Stop::Input),
+        Err(ReadFault::Memory(want)) => Err(CommandStop::Memory(want)),
+        Err(ReadFault::Reader | ReadFault::TooLong) => Err(CommandStop::Input),
     }
 }
 
@@ -69,7 +69,7 @@ fn trace_image<I: Read, O: Write>(
     image: &Image,
     input: &mut I,
     out: &mut O,
-) -> Result<(), Stop>
+) -> Result<(), CommandStop>
     ensures traced { OnOk result (OfSpelled image.now (λ file. Traced windows limit file (I.remaining input.old)
         (O.contents out.old) (O.contents out.new))) }
     ensures stop { IfErr result IsOfTrace }
@@ -80,7 +80,7 @@ fn trace_image<I: Read, O: Write>(
     let bytes = input_of(alloc, input)?;
     match trace_windows(alloc, windows, image, bytes.as_slice(), limit, out) {
         Ok(_outcome) => Ok(()),
-        Err(fault) => Err(Stop::from(fault)),
+        Err(fault) => Err(CommandStop::from(fault)),
     }
 }
 
@@ -93,7 +93,7 @@ pub fn trace_file<F: Read, I: Read, O: Write>(
     file: &mut F,
     input: &mut I,
     out: &mut O,
-) -> Result<(), Stop>
+) -> Result<(), CommandStop>
     ensures image { OnOk result (IfSome (F.remaining file.old) IsImage) }
     ensures traced { OnOk result (Traced windows limit (F.remaining file.old) (I.remaining input.old)
         (O.contents out.old) (O.contents out.new)) }

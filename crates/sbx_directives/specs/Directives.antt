@@ -6,8 +6,8 @@ use Rattle.std.specs.Str.{bytes_eq}
 use Rattle.std.specs.List.{list_any, list_all, slice_split}
 use Rattle.std.specs.Option.{option_map_or}
 use Rattle.sbx_text.specs.declared.Token.{Token}
-use Rattle.v8_syntax.specs.declared.word.Word.{Word}
-use Rattle.v8_syntax.specs.Statements.{beside, bytes_between, word_of, words_of}
+use Rattle.v8_syntax.specs.declared.word.StatementToken.{StatementToken}
+use Rattle.v8_syntax.specs.Statements.{beside, bytes_between, statement_token, statement_tokens}
 use Rattle.sbx_image.specs.{Kind.Kind, Range.Range, Rules.is_coefficient, Services.Services}
 use Rattle.sbx_directives.specs.declared.directive.{Name.Name, Width.Width, Keyword.Keyword, Directive.Directive}
 use Rattle.sbx_directives.specs.declared.directive.{Statement.Statement}
@@ -18,12 +18,13 @@ abbrev pub text_of : List ℕ → Name → List ℕ
 text_of line x = bytes_between line x.start x.stop
 
 -- How many labels come first, each a name and `:`. The name of the k-th is the token 2 k.
-unfoldable pub labels_first : List Word → ℕ
-labels_first (Word.Name k start stop ∷ Word.Sign b ∷ ws) = if b == 58 then suc (labels_first ws) else 0
+unfoldable pub labels_first : List StatementToken → ℕ
+labels_first (StatementToken.Name k start stop ∷ StatementToken.Sign b ∷ ws) =
+    if b == 58 then suc (labels_first ws) else 0
 labels_first _ = 0
 
 abbrev pub label_count : List ℕ → List Token → ℕ
-label_count line tokens = labels_first (words_of line tokens)
+label_count line tokens = labels_first (statement_tokens line tokens)
 
 infixl 10 ◌>>=◌
 abbrev pub ◌>>=◌ : {A B : Type 0} → Option A → (A → Option B) → Option B
@@ -31,31 +32,33 @@ abbrev pub ◌>>=◌ : {A B : Type 0} → Option A → (A → Option B) → Opti
 None >>= f = None
 
 -- an operand by its words
-unfoldable pub operand_of : List Word → Operand
-operand_of (Word.Number n ∷ []) = Operand.Number (pos n)
-operand_of (Word.Register r ∷ []) = Operand.Register r
-operand_of (Word.Name k i j ∷ []) = Operand.Name (record { start = i; stop = j })
-operand_of (Word.Sign b ∷ Word.Number n ∷ []) = if b == 45 then Operand.Number (neg_ℤ (pos n)) else Operand.Other
-operand_of (Word.Name k i j ∷ Word.Number n ∷ []) = Operand.Counted (record { start = i; stop = j }) n
-operand_of (Word.Name k i j ∷ Word.Sign b ∷ Word.Number n ∷ []) =
+unfoldable pub operand_of : List StatementToken → Operand
+operand_of (StatementToken.Number n ∷ []) = Operand.Number (pos n)
+operand_of (StatementToken.Register r ∷ []) = Operand.Register r
+operand_of (StatementToken.Name k i j ∷ []) = Operand.Name (record { start = i; stop = j })
+operand_of (StatementToken.Sign b ∷ StatementToken.Number n ∷ []) =
+    if b == 45 then Operand.Number (neg_ℤ (pos n)) else Operand.Other
+operand_of (StatementToken.Name k i j ∷ StatementToken.Number n ∷ []) =
+    Operand.Counted (record { start = i; stop = j }) n
+operand_of (StatementToken.Name k i j ∷ StatementToken.Sign b ∷ StatementToken.Number n ∷ []) =
     if b == 43 then Operand.Sum (record { start = i; stop = j }) n
     else (if b == 45 then Operand.Difference (record { start = i; stop = j }) n
     else Operand.Other)
 operand_of _ = Operand.Other
 
-abbrev pub is_comma : Word → Bool
-is_comma (Word.Sign b) = b == 44
+abbrev pub is_comma : StatementToken → Bool
+is_comma (StatementToken.Sign b) = b == 44
 is_comma _ = false
 
 -- what some tokens have between their commas; none where there is no token
 abbrev pub operands_of : List ℕ → List Token → List Operand
 operands_of line [] = []
-operands_of line tokens = map operand_of (slice_split is_comma (words_of line tokens))
+operands_of line tokens = map operand_of (slice_split is_comma (statement_tokens line tokens))
 
 -- what stands behind a first token, which may be a comma: an operand at least
 abbrev pub behind : List ℕ → List Token → List Operand
 behind line [] = []
-behind line (t ∷ ts) = map operand_of (slice_split is_comma (words_of line ts))
+behind line (t ∷ ts) = map operand_of (slice_split is_comma (statement_tokens line ts))
 
 abbrev pub is_between : ℤ → ℤ → ℤ → Bool
 is_between low high z = int_le low z && int_le z high
@@ -187,23 +190,23 @@ directive_of line _ _ = None
 
 -- what a function or a block is called, whatever else stands there: the first word behind the keyword, where it is a
 -- name
-unfoldable pub called : Keyword → List Word → Option Name
-called Keyword.Function (Word.Name k i j ∷ ws) = Some (record { start = i; stop = j })
-called Keyword.Block (Word.Name k i j ∷ ws) = Some (record { start = i; stop = j })
+unfoldable pub called : Keyword → List StatementToken → Option Name
+called Keyword.Function (StatementToken.Name k i j ∷ ws) = Some (record { start = i; stop = j })
+called Keyword.Block (StatementToken.Name k i j ∷ ws) = Some (record { start = i; stop = j })
 called _ _ = None
 
 abbrev pub told : List ℕ → Keyword → List Token → Statement
 told line k rest =
     option_map_or Statement.Directive (directive_of line k (operands_of line rest))
-    (Statement.Malformed k (called k (words_of line rest)))
+    (Statement.Malformed k (called k (statement_tokens line rest)))
 
 -- a name that is no directive's begins an instruction
-abbrev pub begun : List ℕ → Word → List Token → Statement
-begun line (Word.Name k start stop) rest =
+abbrev pub begun : List ℕ → StatementToken → List Token → Statement
+begun line (StatementToken.Name k start stop) rest =
     option_map_or (λ k. told line k rest) (keyword_named (bytes_between line start stop)) Statement.Instruction
 begun line _ rest = Statement.Instruction
 
 -- What the tokens behind the labels of a line ask for.
 unfoldable pub statement_of : List ℕ → List Token → Statement
 statement_of line [] = Statement.Nothing
-statement_of line (first ∷ rest) = begun line (word_of line first) rest
+statement_of line (first ∷ rest) = begun line (statement_token line first) rest

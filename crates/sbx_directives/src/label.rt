@@ -1,22 +1,22 @@
 // The labels of a line.
 ghost use Rattle.std.specs.Prelude.{◌≡◌, ◌+◌, ◌*◌, ◌≤◌, suc, MatchOption, IfSome, length};
-ghost use Rattle.v8_syntax.specs.Statements.{words_of};
+ghost use Rattle.v8_syntax.specs.Statements.{statement_tokens};
 ghost use Rattle.sbx_directives.specs.Directives.{labels_first, label_count};
 
 use sbx_text::Token;
-use v8_syntax::{Word, after_sign, word_of};
+use v8_syntax::{StatementToken, after_sign, statement_token};
 
 /// What follows the label that some tokens begin with.
 #[tactic(auto, unfolding(crate::specs::Directives::labels_first), using(crate::proofs::Labels::no_colon, crate::proofs::Labels::colon, crate::proofs::Labels::tokens_fewer))]
 fn behind_label<'t>(line: &[u8], tokens: &'t [Token]) -> Option<&'t [Token]>
-    ensures value { MatchOption result (labels_first (words_of line.now tokens.now) ≡ 0)
-        (λ rest. labels_first (words_of line.now tokens.now) ≡ suc (labels_first (words_of line.now rest.now))) }
+    ensures value { MatchOption result (labels_first (statement_tokens line.now tokens.now) ≡ 0)
+        (λ rest. labels_first (statement_tokens line.now tokens.now) ≡ suc (labels_first (statement_tokens line.now rest.now))) }
     ensures room { IfSome result (λ rest. 2 + length rest.now ≡ length tokens.now) }
 {
     let (first, after) = tokens.split_first()?;
     let rest = after_sign(b':', line, after)?;
-    match word_of(line, first) {
-        Word::Name(..) => Some(rest),
+    match statement_token(line, first) {
+        StatementToken::Name(..) => Some(rest),
         _ => None,
     }
 }

@@ -1,12 +1,12 @@
 // What stands between the commas of a directive.
 ghost use Rattle.std.specs.Prelude.{◌≡◌, ◌≢◌, ℕ, ◌<◌, ◌≤◌, MatchOption, IfSome, not, List, [], ◌∷◌, length, drop};
 ghost use Rattle.std.specs.List.{prefix_len};
-ghost use Rattle.v8_syntax.specs.Statements.{word_of, words_of};
+ghost use Rattle.v8_syntax.specs.Statements.{statement_token, statement_tokens};
 ghost use Rattle.sbx_directives.specs.Directives.{operand_of, is_comma, behind, operands_of};
 
 use crate::directive::Name;
 use sbx_text::Token;
-use v8_syntax::{Word, front, word_of};
+use v8_syntax::{StatementToken, front, statement_token};
 use v8_word::Reg;
 
 /// An operand by its shape.
@@ -26,24 +26,26 @@ pub enum Operand {
 }
 
 #[tactic(auto, unfolding(crate::specs::Directives::operand_of))]
-fn of_one(word: Word) -> Operand
+fn of_one(word: StatementToken) -> Operand
     ensures { result ≡ operand_of (word ∷ []) }
 {
     match word {
-        Word::Number(number) => Operand::Number(i128::from(number)),
-        Word::Register(register) => Operand::Register(register),
-        Word::Name(_, start, stop) => Operand::Name(Name { start, stop }),
+        StatementToken::Number(number) => Operand::Number(i128::from(number)),
+        StatementToken::Register(register) => Operand::Register(register),
+        StatementToken::Name(_, start, stop) => Operand::Name(Name { start, stop }),
         _ => Operand::Other,
     }
 }
 
 #[tactic(auto, unfolding(crate::specs::Directives::operand_of))]
-fn of_two(first: Word, second: Word) -> Operand
+fn of_two(first: StatementToken, second: StatementToken) -> Operand
     ensures { result ≡ operand_of (first ∷ second ∷ []) }
 {
     match (first, second) {
-        (Word::Sign(b'-'), Word::Number(number)) => Operand::Number(-i128::from(number)),
-        (Word::Name(_, start, stop), Word::Number(number)) => {
+        (StatementToken::Sign(b'-'), StatementToken::Number(number)) => Operand::Number(-i128::from(
+            number,
+        )),
+        (StatementToken::Name(_, start, stop), StatementToken::Number(number)) => {
             Operand::Counted(Name { start, stop }, number)
         }
         _ => Operand::Other,
@@ -51,16 +53,20 @@ fn of_two(first: Word, second: Word) -> Operand
 }
 
 #[tactic(auto, unfolding(crate::specs::Directives::operand_of))]
-fn of_three(first: Word, second: Word, third: Word) -> Operand
+fn of_three(first: StatementToken, second: StatementToken, third: StatementToken) -> Operand
     ensures { result ≡ operand_of (first ∷ second ∷ third ∷ []) }
 {
     match (first, second, third) {
-        (Word::Name(_, start, stop), Word::Sign(b'+'), Word::Number(number)) => {
-            Operand::Sum(Name { start, stop }, number)
-        }
-        (Word::Name(_, start, stop), Word::Sign(b'-'), Word::Number(number)) => {
-            Operand::Difference(Name { start, stop }, number)
-        }
+        (
+            StatementToken::Name(_, start, stop),
+            StatementToken::Sign(b'+'),
+            StatementToken::Number(number),
+        ) => { Operand::Sum(Name { start, stop }, number) }
+        (
+            StatementToken::Name(_, start, stop),
+            StatementToken::Sign(b'-'),
+            StatementToken::Number(number),
+        ) => { Operand::Difference(Name { start, stop }, number) }
         _ => Operand::Other,
     }
 }
@@ -68,7 +74,7 @@ fn of_three(first: Word, second: Word, third: Word) -> Operand
 /// The operand that some tokens are.
 #[tactic(auto, unfolding(crate::specs::Directives::operand_of))]
 fn operand_of(line: &[u8], tokens: &[Token]) -> Operand
-    ensures { result ≡ operand_of (words_of line.now tokens.now) }
+    ensures { result ≡ operand_of (statement_tokens line.now tokens.now) }
 {
     let Some((first, rest)) = front(line, tokens) else {
         return Operand::Other;
@@ -85,20 +91,20 @@ fn operand_of(line: &[u8], tokens: &[Token]) -> Operand
     }
 }
 
-fn is_comma(word: Word) -> bool
+fn is_comma(word: StatementToken) -> bool
     ensures { result ≡ is_comma word }
 {
-    matches!(word, Word::Sign(b','))
+    matches!(word, StatementToken::Sign(b','))
 }
 
 /// How many tokens stand before the next comma, or the end.
 fn group_len(line: &[u8], tokens: &[Token]) -> usize
-    ensures value { result ≡ prefix_len (λ t. not (is_comma (word_of line.now t))) tokens.now }
+    ensures value { result ≡ prefix_len (λ t. not (is_comma (statement_token line.now t))) tokens.now }
     ensures bound { result ≤ length tokens.now }
 {
     tokens
         .iter()
-        .take_while(|token| !is_comma(word_of(line, token)))
+        .take_while(|token| !is_comma(statement_token(line, token)))
         .count()
 }
 

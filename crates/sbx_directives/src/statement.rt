@@ -1,7 +1,7 @@
 // What stands behind the labels of a line.
 ghost use Rattle.std.specs.Prelude.{◌≡◌, ◌≤◌, if◌then◌else◌, [], ◌∷◌, drop};
 ghost use Rattle.std.specs.List.{list_any, list_all};
-ghost use Rattle.v8_syntax.specs.Statements.{words_of};
+ghost use Rattle.v8_syntax.specs.Statements.{statement_tokens};
 ghost use Rattle.sbx_directives.specs.declared.directive.Keyword.TheVariants as keywords;
 ghost use Rattle.sbx_directives.specs.Directives.{behind, names, frames_of, right_of, is_service, named_services};
 ghost use Rattle.sbx_directives.specs.Directives.{services_of, is_expression, value_count, directive_of, called, told};
@@ -13,7 +13,9 @@ use crate::number::{coefficient, integer_in, location, natural_in, plain_name, r
 use crate::operand::{Operand, next_operand, none, one, operands};
 use sbx_image::{Cell, Kind, Services, Term};
 use sbx_text::Token;
-use v8_syntax::{Word, after_first, beside, bytes_between, front, is_same, word_of};
+use v8_syntax::{
+    StatementToken, after_first, beside, bytes_between, front, is_same, statement_token,
+};
 
 /// Whether an operand is the name that is wanted.
 fn names(wanted: &[u8], line: &[u8], operand: &Operand) -> bool
@@ -246,11 +248,11 @@ fn directive_of(line: &[u8], keyword: Keyword, tokens: &[Token]) -> Option<Direc
 /// name.
 #[tactic(auto, unfolding(crate::specs::Directives::called))]
 fn called(line: &[u8], keyword: Keyword, tokens: &[Token]) -> Option<Name>
-    ensures { result ≡ called keyword (words_of line.now tokens.now) }
+    ensures { result ≡ called keyword (statement_tokens line.now tokens.now) }
 {
     match keyword {
         Keyword::Function | Keyword::Block => match front(line, tokens) {
-            Some((Word::Name(_, start, stop), _)) => Some(Name { start, stop }),
+            Some((StatementToken::Name(_, start, stop), _)) => Some(Name { start, stop }),
             _ => None,
         },
         _ => None,
@@ -276,8 +278,10 @@ pub fn read_statement(line: &[u8], tokens: &[Token]) -> Statement
     let Some((first, _)) = tokens.split_first() else {
         return Statement::Nothing;
     };
-    match word_of(line, first) {
-        Word::Name(_, start, stop) => match keyword_named(bytes_between(line, start, stop)) {
+    match statement_token(line, first) {
+        StatementToken::Name(_, start, stop) => match keyword_named(bytes_between(
+            line, start, stop,
+        )) {
             Some(keyword) => told(line, keyword, tokens),
             None => Statement::Instruction,
         },

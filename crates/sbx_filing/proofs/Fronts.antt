@@ -10,12 +10,12 @@ use Rattle.sbx_asm.specs.Images.{source_image}
 use Rattle.sbx_rules.specs.Verdicts.{Checked}
 use Rattle.sbx_listing.specs.Listing.{listing}
 use Rattle.sbx_put.specs.Fronts.{WroteSome}
-use Rattle.sbx_stops.specs.declared.stops.Stop.{Stop}
-use Rattle.sbx_stops.specs.declared.stops.Stop.TheVariants.{Source, Image, Refused, File, Input, Output, Memory, NoRoom}
+use Rattle.sbx_stops.specs.declared.stops.CommandStop.{CommandStop}
+use Rattle.sbx_stops.specs.declared.stops.CommandStop.TheVariants.{Source, Image, Refused, File, Input, Output, Memory, NoRoom}
 use Rattle.sbx_stops.specs.Stops.{IsEarly, IsOfOutput}
 use Rattle.sbx_filing.specs.Files.{BeginsListing, BeginsObject, BeginsVerdict, FrontLeaves, FrontLeft, Listed}
 
-nothing_left : (IsFront : List ℕ → Type 0) (stop : Stop) → IsEarly stop → FrontLeaves IsFront stop []
+nothing_left : (IsFront : List ℕ → Type 0) (stop : CommandStop) → IsEarly stop → FrontLeaves IsFront stop []
 nothing_left IsFront (Source fault) early = refl
 nothing_left IsFront (Image fault) early = refl
 nothing_left IsFront (Refused refusal) early = refl
@@ -26,11 +26,11 @@ nothing_left IsFront (Memory want) early = refl
 nothing_left IsFront (NoRoom full) early = absurd early
 
 -- before the output nothing was put out
-pub left_early : (IsFrontOf : List ℕ → List ℕ → Type 0) (file old : Option (List ℕ)) (stop : Stop) → IsEarly stop → FrontLeft IsFrontOf file old old stop
+pub left_early : (IsFrontOf : List ℕ → List ℕ → Type 0) (file old : Option (List ℕ)) (stop : CommandStop) → IsEarly stop → FrontLeft IsFrontOf file old old stop
 left_early IsFrontOf None old stop early = tt
 left_early IsFrontOf (Some bytes) old stop early = ([], nothing_left (IsFrontOf bytes) stop early, Appends-nil old)
 
-front_left : (IsFront : List ℕ → Type 0) (stop : Stop) (written : List ℕ) → IsOfOutput stop → IsFront written → FrontLeaves IsFront stop written
+front_left : (IsFront : List ℕ → Type 0) (stop : CommandStop) (written : List ℕ) → IsOfOutput stop → IsFront written → FrontLeaves IsFront stop written
 front_left IsFront (Source fault) written own front = absurd own
 front_left IsFront (Image fault) written own front = absurd own
 front_left IsFront (Refused refusal) written own front = absurd own
@@ -41,13 +41,13 @@ front_left IsFront (Memory want) written own front = absurd own
 front_left IsFront (NoRoom full) written own front = front
 
 -- the output's own stop leaves the first bytes of the object
-object_begun : (file old new : Option (List ℕ)) (stop : Stop) (parts : Parts) (object : List ℕ) → IfSome file (λ bytes. source_image bytes ≡ Ok parts)
+object_begun : (file old new : Option (List ℕ)) (stop : CommandStop) (parts : Parts) (object : List ℕ) → IfSome file (λ bytes. source_image bytes ≡ Ok parts)
     → object ≡ spelling parts → IsOfOutput stop → WroteSome old new object → FrontLeft BeginsObject file old new stop
 object_begun None old new stop parts object means spelled own written = tt
 object_begun (Some bytes) old new stop parts object means spelled own (front, rest, is, put) =
     (front, front_left (BeginsObject bytes) stop front own (parts, means, (rest, sym spelled ∙ is)), put)
 
-pub object_left : (file old new : Option (List ℕ)) (parts : Parts) (object : List ℕ) (r : Result (Unit {0}) Stop) → IfSome file (λ bytes. source_image bytes ≡ Ok parts)
+pub object_left : (file old new : Option (List ℕ)) (parts : Parts) (object : List ℕ) (r : Result (Unit {0}) CommandStop) → IfSome file (λ bytes. source_image bytes ≡ Ok parts)
     → object ≡ spelling parts → IfErr r IsOfOutput → OnErr r (WroteSome old new object) → IfErr r (FrontLeft BeginsObject file old new)
 object_left file old new parts object (Ok u) means spelled own written = tt
 object_left file old new parts object (Err stop) means spelled own written = object_begun file old new stop parts object means spelled own written

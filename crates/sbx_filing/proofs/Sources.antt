@@ -5,8 +5,8 @@ use Rattle.sbx_image.specs.Parts.{Parts}
 use Rattle.sbx_image.specs.Spelling.{spelling}
 use Rattle.sbx_asm.specs.declared.fault.AsmFault.{AsmFault}
 use Rattle.sbx_asm.specs.Images.{source_image}
-use Rattle.sbx_stops.specs.declared.stops.Stop.{Stop}
-use Rattle.sbx_stops.specs.declared.stops.Stop.TheVariants.{Source, Image, Refused, File, Input, Output, Memory, NoRoom}
+use Rattle.sbx_stops.specs.declared.stops.CommandStop.{CommandStop}
+use Rattle.sbx_stops.specs.declared.stops.CommandStop.TheVariants.{Source, Image, Refused, File, Input, Output, Memory, NoRoom}
 use Rattle.sbx_stops.specs.Stops.{IsTrueOfSource, IsRefusal}
 use Rattle.sbx_filing.specs.Files.{IsSource, Assembled, FitsItsFields}
 
@@ -15,7 +15,7 @@ faulty_is_no_source bytes fault faulty source =
     let read : source_image bytes ≡ Ok source.0 = source.1 in
     search rules
 
-pub source_stops : (stop : Stop) (bytes : List ℕ) → IsRefusal stop → IsTrueOfSource stop bytes → IsSource bytes → ⊥
+pub source_stops : (stop : CommandStop) (bytes : List ℕ) → IsRefusal stop → IsTrueOfSource stop bytes → IsSource bytes → ⊥
 source_stops (Source fault) bytes refuses told source = faulty_is_no_source bytes fault told source
 source_stops (Image fault) bytes refuses told source = told
 source_stops (Refused refusal) bytes refuses told source = told

@@ -8,8 +8,9 @@ use Rattle.sbx_image.specs.Reading.{reading}
 use Rattle.sbx_image.specs.Spelling.{IsTyped, spelling}
 use Rattle.sbx_asm.specs.Images.{source_image}
 use Rattle.sbx_rules.specs.Verdicts.{Checked}
-use Rattle.sbx_stops.specs.declared.stops.Stop.{Stop}
-use Rattle.sbx_stops.specs.declared.stops.Stop.TheVariants.{Source, Image, Refused, File, Input, Output, Memory, NoRoom}
+use Rattle.sbx_stops.specs.declared.stops.CommandStop.{CommandStop}
+use Rattle.sbx_stops.specs.declared.stops.CommandStop.TheVariants.{Source, Image, Refused, File, Input, Output, Memory}
+use Rattle.sbx_stops.specs.declared.stops.CommandStop.TheVariants.{NoRoom}
 use Rattle.v8_map.specs.declared.TheConstants.{CODE_START}
 
 -- the bytes spell an image
@@ -56,7 +57,7 @@ BeginsListing bytes written = (parts : Parts) × (reading bytes ≡ Ok parts)
     × Begins written (listing CODE_START parts.words)
 
 -- What a stop of such a job leaves: the output's own the first bytes, any other none.
-abbrev pub FrontLeaves : (List ℕ → Type 0) → Stop → List ℕ → Type 0
+abbrev pub FrontLeaves : (List ℕ → Type 0) → CommandStop → List ℕ → Type 0
 FrontLeaves IsFront Output written = IsFront written
 FrontLeaves IsFront (NoRoom full) written = IsFront written
 FrontLeaves IsFront (Source fault) written = written ≡ []
@@ -67,5 +68,6 @@ FrontLeaves IsFront Input written = written ≡ []
 FrontLeaves IsFront (Memory want) written = written ≡ []
 
 -- the same where the bytes of the file are known
-abbrev pub FrontLeft : (List ℕ → List ℕ → Type 0) → Option (List ℕ) → Option (List ℕ) → Option (List ℕ) → Stop → Type 0
+abbrev pub FrontLeft : (List ℕ → List ℕ → Type 0) → Option (List ℕ) → Option (List ℕ) → Option (List ℕ) → CommandStop →
+    Type 0
 FrontLeft IsFrontOf file old new stop = IfSome file (λ bytes. Wrote old new (FrontLeaves (IsFrontOf bytes) stop))

@@ -11,7 +11,7 @@ use crate::reading::{MOST, ReadFault, read_whole};
 use sbx_asm::assemble;
 use sbx_image::{Image, write};
 use sbx_put::put_through;
-use sbx_stops::Stop;
+use sbx_stops::CommandStop;
 use std::alloc::Global;
 use std::io::{Read, Write};
 use want::Want;
@@ -24,28 +24,28 @@ fn tells_fields(image: &Image)
 }
 
 /// The image that the source in a file means.
-fn source_in<F: Read>(alloc: Global, file: &mut F) -> Result<Image, Stop>
+fn source_in<F: Read>(alloc: Global, file: &mut F) -> Result<Image, CommandStop>
     ensures image { IfOk result (λ image. IfSome (F.remaining file.old) (λ bytes. source_image bytes ≡ Ok image)) }
     ensures stop { IfErr result (λ stop. IfSome (F.remaining file.old) (IsTrueOfSource stop)) }
     ensures early { IfErr result IsEarly }
 {
     let source = match read_whole(alloc, file, MOST) {
         Ok(source) => source,
-        Err(ReadFault::Memory(want)) => return Err(Stop::Memory(want)),
-        Err(ReadFault::Reader | ReadFault::TooLong) => return Err(Stop::File),
+        Err(ReadFault::Memory(want)) => return Err(CommandStop::Memory(want)),
+        Err(ReadFault::Reader | ReadFault::TooLong) => return Err(CommandStop::File),
     };
     Ok(assemble(alloc, source.as_slice())?)
 }
 
 /// Writes all bytes of an object, through to the end. A writer in memory may have no room.
-fn store<O: Write>(out: &mut O, bytes: &[u8]) -> Result<(), Stop>
+fn store<O: Write>(out: &mut O, bytes: &[u8]) -> Result<(), CommandStop>
     ensures bytes { OnOk result (Appends (O.contents out.old) (O.contents out.new) bytes.now) }
     ensures part { OnErr result (WroteSome (O.contents out.old) (O.contents out.new) bytes.now) }
     ensures stop { IfErr result IsOfOutput }
 {
     match put_through(out, bytes) {
         Ok(()) => Ok(()),
-        Err(error) => Err(Stop::of(&error, Stop::Output)),
+        Err(error) => Err(CommandStop::of(&error, CommandStop::Output)),
     }
 }
 
@@ -55,7 +55,7 @@ pub fn assemble_file<F: Read, O: Write>(
     alloc: Global,
     file: &mut F,
     out: &mut O,
-) -> Result<(), Stop>
+) -> Result<(), CommandStop>
     ensures source { OnOk result (IfSome (F.remaining file.old) IsSource) }
     ensures assembled { OnOk result (Assembled (F.remaining file.old) (O.contents out.old) (O.contents out.new)) }
     ensures stop { IfErr result (λ stop. IfSome (F.remaining file.old) (IsTrueOfSource stop)) }
@@ -67,6 +67,6 @@ pub fn assemble_file<F: Read, O: Write>(
     tells_fields(&image);
     match write(&image, alloc) {
         Ok(bytes) => store(out, bytes.as_slice()),
-        Err(error) => Err(Stop::Memory(Want::from(error))),
+        Err(error) => Err(CommandStop::Memory(Want::from(error))),
     }
 }

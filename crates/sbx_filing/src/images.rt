@@ -5,7 +5,7 @@ ghost use Rattle.sbx_stops.specs.Stops.{IsEarly, IsTrueOfImage};
 
 use sbx_image::Image;
 use sbx_reader::ImageReader;
-use sbx_stops::Stop;
+use sbx_stops::CommandStop;
 use std::alloc::Global;
 use std::io::Read;
 
@@ -13,7 +13,7 @@ use std::io::Read;
 const PIECE: usize = 4_096;
 
 /// Feeds a reader all bytes that a file has left, piece by piece. It reads no further than the piece with a fault.
-fn feed_all<F: Read>(reader: &mut ImageReader, file: &mut F) -> Result<(), Stop>
+fn feed_all<F: Read>(reader: &mut ImageReader, file: &mut F) -> Result<(), CommandStop>
     requires { reader.now ≡ Ok [] }
     ensures fed { OnOk result (IfSome (F.remaining file.old) (λ bytes. reader.new ≡ Ok bytes)) }
     ensures stop { IfErr result (λ stop. IfSome (F.remaining file.old) (IsTrueOfImage stop)) }
@@ -24,15 +24,15 @@ fn feed_all<F: Read>(reader: &mut ImageReader, file: &mut F) -> Result<(), Stop>
         match file.read(&mut piece) {
             Ok(0) => return Ok(()),
             Ok(count) => reader.feed(&piece[..count])?,
-            Err(_) => return Err(Stop::File),
+            Err(_) => return Err(CommandStop::File),
         }
     }
-    Err(Stop::File)
+    Err(CommandStop::File)
 }
 
 /// The image that the bytes of a file spell. A fault is told by the piece that brings the last byte of the first bad
 /// field, and nothing behind that piece is read.
-pub fn image_in<F: Read>(alloc: Global, file: &mut F) -> Result<Image, Stop>
+pub fn image_in<F: Read>(alloc: Global, file: &mut F) -> Result<Image, CommandStop>
     ensures image { IfOk result (λ image. IfSome (F.remaining file.old) (λ bytes. reading bytes ≡ Ok image)) }
     ensures stop { IfErr result (λ stop. IfSome (F.remaining file.old) (IsTrueOfImage stop)) }
     ensures early { IfErr result IsEarly }

@@ -5,13 +5,17 @@ ghost use Rattle.sbx_filing.specs.Files.{BeginsListing, FrontLeft, IsImage, List
 
 use crate::images::image_in;
 use sbx_listing::put_listing;
-use sbx_stops::Stop;
+use sbx_stops::CommandStop;
 use std::alloc::Global;
 use std::io::{Read, Write};
 
 /// Lists the code of the image of a file.
 #[tactic(auto, using(crate::proofs::Fronts::listed_on, crate::proofs::Fronts::listing_begun))]
-pub fn list_file<F: Read, O: Write>(alloc: Global, file: &mut F, out: &mut O) -> Result<(), Stop>
+pub fn list_file<F: Read, O: Write>(
+    alloc: Global,
+    file: &mut F,
+    out: &mut O,
+) -> Result<(), CommandStop>
     ensures image { OnOk result (IfSome (F.remaining file.old) IsImage) }
     ensures listed { OnOk result (Listed (F.remaining file.old) (O.contents out.old) (O.contents out.new)) }
     ensures stop { IfErr result (λ stop. IfSome (F.remaining file.old) (IsTrueOfImage stop)) }
@@ -23,6 +27,6 @@ pub fn list_file<F: Read, O: Write>(alloc: Global, file: &mut F, out: &mut O) ->
     let _count = image.word_count();
     match put_listing(image.words(), out) {
         Ok(()) => Ok(()),
-        Err(_) => Err(Stop::Output),
+        Err(_) => Err(CommandStop::Output),
     }
 }

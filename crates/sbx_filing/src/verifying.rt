@@ -8,14 +8,14 @@ ghost use Rattle.sbx_filing.specs.Files.{BeginsVerdict, FrontLeft, IsAccepted};
 
 use crate::images::image_in;
 use sbx_put::put_through;
-use sbx_stops::Stop;
+use sbx_stops::CommandStop;
 use sbx_verify::{Accepted, Cause, verify};
 use std::alloc::Global;
 use std::io::{Read, Write};
 
 /// The image of a file, where it breaks no rule.
 #[tactic(auto, using(crate::proofs::Accepting::broken))]
-pub fn accepted_in<F: Read>(alloc: Global, file: &mut F) -> Result<Accepted, Stop>
+pub fn accepted_in<F: Read>(alloc: Global, file: &mut F) -> Result<Accepted, CommandStop>
     ensures accepted { IfOk result (λ accepted. IfSome (F.remaining file.old)
         (λ bytes. (reading bytes ≡ Ok accepted) × Checked accepted)) }
     ensures stop { IfErr result (λ stop. IfSome (F.remaining file.old) (IsTrueOf stop)) }
@@ -25,15 +25,19 @@ pub fn accepted_in<F: Read>(alloc: Global, file: &mut F) -> Result<Accepted, Sto
     match verify(alloc, image) {
         Ok(accepted) => Ok(accepted),
         Err((_image, refusal)) => match refusal.cause {
-            Cause::NoMemory(want) => Err(Stop::Memory(want)),
-            _ => Err(Stop::Refused(refusal)),
+            Cause::NoMemory(want) => Err(CommandStop::Memory(want)),
+            _ => Err(CommandStop::Refused(refusal)),
         },
     }
 }
 
 /// Verifies the image of a file, and says so where it is accepted.
 #[tactic(auto, using(crate::proofs::Fronts::verdict_begun))]
-pub fn verify_file<F: Read, O: Write>(alloc: Global, file: &mut F, out: &mut O) -> Result<(), Stop>
+pub fn verify_file<F: Read, O: Write>(
+    alloc: Global,
+    file: &mut F,
+    out: &mut O,
+) -> Result<(), CommandStop>
     ensures accepted { OnOk result (IfSome (F.remaining file.old) IsAccepted) }
     ensures stop { IfErr result (λ stop. IfSome (F.remaining file.old) (IsTrueOf stop)) }
     ensures line { OnOk result (Appends (O.contents out.old) (O.contents out.new) (codes "accepted\n")) }
@@ -44,6 +48,6 @@ pub fn verify_file<F: Read, O: Write>(alloc: Global, file: &mut F, out: &mut O) 
     let _accepted = accepted_in(alloc, file)?;
     match put_through(out, b"accepted\n") {
         Ok(()) => Ok(()),
-        Err(_) => Err(Stop::Output),
+        Err(_) => Err(CommandStop::Output),
     }
 }

@@ -20,7 +20,7 @@ use Rattle.sbx_paced.proofs.Stepping.{short_lacks}
 use Rattle.sbx_paced.proofs.Ends.{few, front, whole, within}
 use Rattle.sbx_paced.proofs.Onward.{bytes_after, end_known, no_bytes, one_byte}
 use Rattle.sbx_flow.specs.Flows.{Flows, IsCutOff, IsFlowed, StopsSo, StreamsOn}
-use Rattle.sbx_flow.specs.declared.flow.Stop.TheVariants.{Ended, Fault}
+use Rattle.sbx_flow.specs.declared.flow.RunEnd.TheVariants.{Ended, Fault}
 use Rattle.sbx_flow.specs.declared.flow.Flowed.{Flowed}
 
 -- nothing read, nothing written

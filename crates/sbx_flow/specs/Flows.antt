@@ -10,8 +10,8 @@ use Rattle.sbx_raw.specs.declared.fault.RunFault.TheVariants.{Memory, Reader, Wr
 use Rattle.sbx_paced.specs.Going.{IsAllOf, IsUnderWay, beyond}
 use Rattle.sbx_paced.specs.declared.course.Course.{Course}
 use Rattle.sbx_flow.specs.declared.flow.Flowed.{Flowed}
-use Rattle.sbx_flow.specs.declared.flow.Stop.{Stop}
-use Rattle.sbx_flow.specs.declared.flow.Stop.TheVariants.{Ended, Fault}
+use Rattle.sbx_flow.specs.declared.flow.RunEnd.{RunEnd}
+use Rattle.sbx_flow.specs.declared.flow.RunEnd.TheVariants.{Ended, Fault}
 
 -- ---- what is promised
 
@@ -56,7 +56,7 @@ StreamsOn met old reader writer now_met new reader_now writer_now =
 
 -- or they stop: at an exit word all is as it was; where a fault ended the run what was written are the first bytes of
 -- its output
-abbrev pub StopsSo : Stop → Bool → Course → Option (List ℕ) → Option (List ℕ) → Course → Option (List ℕ) →
+abbrev pub StopsSo : RunEnd → Bool → Course → Option (List ℕ) → Option (List ℕ) → Course → Option (List ℕ) →
     Option (List ℕ) → Type 0
 StopsSo (Ended word) met old reader writer new reader_now writer_now =
     (new.engine.exit ≡ Some word) × StreamsOn met old reader writer met new reader_now writer_now

@@ -26,7 +26,7 @@ pub struct Flowed {
 
 /// Why a run goes no further.
 #[derive(Clone, Copy)]
-enum Stop {
+enum RunEnd {
     /// It has ended with this exit word.
     Ended(u32),
     /// Memory or a stream failed.
@@ -47,7 +47,12 @@ fn tells_byte(byte: u8)
 
 /// Makes the step of a get with the next byte of a reader, and tells whether the end is known then. An input that has
 /// ended isn't asked again.
-fn get<R: Read>(course: &mut Course, after: Tally, met: bool, reader: &mut R) -> Result<bool, Stop>
+fn get<R: Read>(
+    course: &mut Course,
+    after: Tally,
+    met: bool,
+    reader: &mut R,
+) -> Result<bool, RunEnd>
     requires { AsksWithin Byte (2 ^ 62) course.old after }
     ensures goes { (out : Option (List ℕ)) →
         IfOk result (λ now_met. StreamsOn met course.old (R.remaining reader.old) out now_met course.new
@@ -72,12 +77,17 @@ fn get<R: Read>(course: &mut Course, after: Tally, met: bool, reader: &mut R) ->
             course.take_end(after);
             Ok(true)
         }
-        Err(fault) => Err(Stop::Fault(fault)),
+        Err(fault) => Err(RunEnd::Fault(fault)),
     }
 }
 
 /// Makes the step of a put, whose byte goes to a writer. Of the input's end is known what was.
-fn put<W: Write>(course: &mut Course, after: Tally, met: bool, writer: &mut W) -> Result<bool, Stop>
+fn put<W: Write>(
+    course: &mut Course,
+    after: Tally,
+    met: bool,
+    writer: &mut W,
+) -> Result<bool, RunEnd>
     requires { AsksWithin Room (2 ^ 62) course.old after }
     ensures goes { (input : Option (List ℕ)) →
         IfOk result (λ now_met. StreamsOn met course.old input (W.contents writer.old) now_met course.new input
@@ -91,7 +101,7 @@ fn put<W: Write>(course: &mut Course, after: Tally, met: bool, writer: &mut W) -
     let byte = course.give_byte(after);
     match write_byte(writer, byte) {
         Ok(()) => Ok(met),
-        Err(fault) => Err(Stop::Fault(fault)),
+        Err(fault) => Err(RunEnd::Fault(fault)),
     }
 }
 
@@ -103,7 +113,7 @@ fn exchange<R: Read, W: Write>(
     met: bool,
     reader: &mut R,
     writer: &mut W,
-) -> Result<bool, Stop>
+) -> Result<bool, RunEnd>
     requires halts { HaltsSo (2 ^ 62) course.old halt }
     requires few { course.old.tally.traffic.turns < 2 ^ 40 }
     requires found { halt ≢ Halt.Lost }
@@ -119,8 +129,8 @@ fn exchange<R: Read, W: Write>(
     match halt {
         Halt::Byte(after) => get(course, after, met, reader),
         Halt::Room(after) => put(course, after, met, writer),
-        Halt::Ended(word) => Err(Stop::Ended(word)),
-        Halt::Refused(want) => Err(Stop::Fault(RunFault::Memory(want))),
+        Halt::Ended(word) => Err(RunEnd::Ended(word)),
+        Halt::Refused(want) => Err(RunEnd::Fault(RunFault::Memory(want))),
         Halt::Short => unreachable!(),
         Halt::Lost => unreachable!(),
     }
@@ -162,13 +172,13 @@ pub fn run_over<R: Read, W: Write>(
         let halt = course.advance(MOST);
         match exchange(&mut course, halt, met, reader, writer) {
             Ok(now_met) => met = now_met,
-            Err(Stop::Ended(status)) => {
+            Err(RunEnd::Ended(status)) => {
                 return Ok(Flowed {
                     status,
                     counts: course.tally().traffic,
                 });
             }
-            Err(Stop::Fault(fault)) => return Err(fault),
+            Err(RunEnd::Fault(fault)) => return Err(fault),
         }
     }
     unreachable!()

@@ -13,7 +13,7 @@ use Rattle.sbx_image.specs.Range.{Range}
 use Rattle.sbx_image.specs.Term.{Term}
 use Rattle.sbx_image.specs.Next.{Next}
 use Rattle.sbx_image.specs.Next.TheVariants.{Exactly}
-use Rattle.sbx_image.specs.Rules.{Place, block_keeps, cell_keeps, code_start, each, function_keeps, in_order, is_coefficient, parts_keep, range_keeps, term_keeps}
+use Rattle.sbx_image.specs.Rules.{FunctionsSoFar, block_keeps, cell_keeps, code_start, each, function_keeps, in_order, is_coefficient, parts_keep, range_keeps, term_keeps}
 use Rattle.sbx_image.proofs.Fields.{bind_ok, is_between}
 use Rattle.sbx_image.proofs.Limits.{block_kept, cell_kept, each_all, function_kept, location_kept, parts_kept, range_kept, term_kept}
 use Rattle.sbx_form.specs.declared.terms.FormTerm.{FormTerm}
@@ -109,7 +109,7 @@ record KeptPromises (f : Function) : Type 0 where
   params : AllByRecursion IsSome f.params
   blocks : AllByRecursion KeptAnnotations f.blocks
 
-promises : (version end : ℕ) (place : Place) (f : Function) (after : Place) → function_keeps version end place f ≡ Ok after → KeptPromises f
+promises : (version end : ℕ) (place : FunctionsSoFar) (f : Function) (after : FunctionsSoFar) → function_keeps version end place f ≡ Ok after → KeptPromises f
 promises version end place f after e =
     let k = function_kept version end place f after e in
     record {

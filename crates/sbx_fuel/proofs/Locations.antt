@@ -123,23 +123,23 @@ after_called results d h k q =
 
 -- ---- words
 
-after : (frame : ℕ) (op : Operation) (d : Known) → HasOnlyLocations d → HasOnlyLocations (transferred frame op d)
+locations_after : (frame : ℕ) (op : Operation) (d : Known) → HasOnlyLocations d → HasOnlyLocations (transferred frame op d)
 unfolding transferred
-after frame (Compute op f) d h =
+locations_after frame (Compute op f) d h =
     let r = written f.rd (result_of op (register_entry d f.rs1) (operand_entry d f.operand2)) d h in
     product_set op _ (codes_set (sets_codes op) (relation_of op f) _ r)
-after frame (Divide op f) d h =
+locations_after frame (Divide op f) d h =
     codes_set (division_sets_codes op) None _ (written f.rd (quotient_of d.y (register_entry d f.rs1) (operand_entry d f.operand2)) d h)
-after frame (TaggedTrap op f) d h = written f.rd (tagged_of op (register_entry d f.rs1) (operand_entry d f.operand2)) d h
-after frame (SetHigh f) d h = written f.rd (Some (constant_entry (high_word f))) d h
-after frame (ReadY rd) d h = written rd (entry_of_y d.y) d h
-after frame (WriteY f) d h = h
-after frame (Transfer t m) d h = moved (frame_word_of frame m) t m.rd d h
-after frame (Save f) d h = after_save d
-after frame (Restore f) d h = written f.rd (result_of ops.Add (register_entry d f.rs1) (operand_entry d f.operand2)) (restored d) (after_restore d h)
-after frame (Call displacement) d h = written 15 None d h
-after frame (TrapOnCondition t) d h = services (service_of t) d h
-after frame _ d h = h
+locations_after frame (TaggedTrap op f) d h = written f.rd (tagged_of op (register_entry d f.rs1) (operand_entry d f.operand2)) d h
+locations_after frame (SetHigh f) d h = written f.rd (Some (constant_entry (high_word f))) d h
+locations_after frame (ReadY rd) d h = written rd (entry_of_y d.y) d h
+locations_after frame (WriteY f) d h = h
+locations_after frame (Transfer t m) d h = moved (frame_word_of frame m) t m.rd d h
+locations_after frame (Save f) d h = after_save d
+locations_after frame (Restore f) d h = written f.rd (result_of ops.Add (register_entry d f.rs1) (operand_entry d f.operand2)) (restored d) (after_restore d h)
+locations_after frame (Call displacement) d h = written 15 None d h
+locations_after frame (TrapOnCondition t) d h = services (service_of t) d h
+locations_after frame _ d h = h
 
 -- ---- branches
 
@@ -196,7 +196,7 @@ back_from parts None d h = h
 back_from parts (Some g) d h = after_called (function_at parts g).results d h
 
 word_done : (parts : Parts) (f b i : ℕ) (d : Known) → HasOnlyLocations d → HasOnlyLocations (after_word parts f b i d)
-word_done parts f b i d h = back_from parts (callee_before parts f b i) _ (after (function_at parts f).frame (op_at parts f b i) d h)
+word_done parts f b i d h = back_from parts (callee_before parts f b i) _ (locations_after (function_at parts f).frame (op_at parts f b i) d h)
 
 pub states_have_locations : (parts : Parts) (f b i : ℕ) → HasOnlyLocations (state_at parts f b i)
 unfolding state_at

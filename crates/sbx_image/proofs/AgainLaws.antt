@@ -24,7 +24,7 @@ use Rattle.sbx_parts.specs.declared.parts.Block.{Block}
 use Rattle.sbx_parts.specs.declared.parts.Function.{Function}
 use Rattle.sbx_parts.specs.declared.parts.Parts.{Parts}
 use Rattle.sbx_parts.specs.declared.services.Services.{Services}
-use Rattle.sbx_parts.specs.Rules.{◌>>=◌, between, is_known, is_version, is_data_length, is_length_behind, is_one_region, region_keeps, each, Place, code_start}
+use Rattle.sbx_parts.specs.Rules.{◌>>=◌, between, is_known, is_version, is_data_length, is_length_behind, is_one_region, region_keeps, each, FunctionsSoFar, code_start}
 use Rattle.sbx_parts.specs.Rules.{range_keeps, location_keeps, cell_keeps, term_keeps, block_keeps, function_keeps, parts_keep}
 use Rattle.sbx_image.specs.Reading.{number_at, number_in, items_at, range_at, location_at, cell_at, term_at, block_head_at, block_at, kind_at, counts_at}
 use Rattle.sbx_image.specs.Reading.{bounds_at, function_head_at, function_at, services_at, data_length_at, data_count_at, header_at, shape_at, shapes_at}
@@ -166,7 +166,7 @@ depth_reads true n rest keeps =
     (both_are (leb 0 n) (leb n 256) (le-leb 0 n (omega arith)) keeps)
 depth_reads false n rest keeps = ap (λ (m : ℕ). Ok (m, rest)) (zero_again n keeps)
 
-function_head_reads : (version end : ℕ) (place : Place) (h : FunctionHead) (bytes rest : List ℕ) → bytes ≡ head_text version h ++ rest → h.entry < 2 ^ 32 →
+function_head_reads : (version end : ℕ) (place : FunctionsSoFar) (h : FunctionHead) (bytes rest : List ℕ) → bytes ≡ head_text version h ++ rest → h.entry < 2 ^ 32 →
     HeadKeeps version end place h → function_head_at version end place bytes ≡ Ok (h, rest)
 unfolding function_head_at
 function_head_reads version end place h bytes rest b entry k =
@@ -189,7 +189,7 @@ function_head_reads version end place h bytes rest b entry k =
     (then_is _ _ _ _ (depth_reads (version == 3) h.depth r4 k.depth)
     (then_is _ _ _ _ (number_in_reads w16 (2 ^ 16) wide16 1 (4096 - place.1) fault.Limit h.blocks r4 rest refl (omega arith) k.blocks) refl)))))
 
-function_reads : (version end : ℕ) (place : Place) (f : Function) (state : Place) (rest : List ℕ) → IsTypedFunction f →
+function_reads : (version end : ℕ) (place : FunctionsSoFar) (f : Function) (state : FunctionsSoFar) (rest : List ℕ) → IsTypedFunction f →
     function_keeps version end place f ≡ Ok state → function_at version end (place, function_text version f ++ rest) ≡ Ok (f, (state, rest))
 unfolding function_at function_head_text function_text
 function_reads version end place f state rest typed e =
@@ -230,7 +230,7 @@ function_reads version end place f state rest typed e =
     (results ++ (blocks ++ rest)) typed.params k.params)
     (then_is _ _ _ _ (items_read range_at (λ _ y. y) (λ _ r. range_keeps r) range_text IsTypedRange (λ _ r _ y t g. range_reads r y t g) f.results tt tt (blocks ++ rest) typed.results k.results)
     (then_is _ _ _ _ (items_read (block_at end) (λ s y. (s, y)) (block_keeps end) block_text IsTypedBlock (block_reads end) f.blocks (Exactly f.entry) k.next rest typed.blocks k.blocks)
-    (ap (λ (s : Place). Ok (f, (s, rest))) same))))
+    (ap (λ (s : FunctionsSoFar). Ok (f, (s, rest))) same))))
 
 -- ---- the whole
 

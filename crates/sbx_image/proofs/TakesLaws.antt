@@ -25,7 +25,7 @@ use Rattle.sbx_parts.specs.declared.parts.Block.{Block}
 use Rattle.sbx_parts.specs.declared.parts.Function.{Function}
 use Rattle.sbx_parts.specs.declared.parts.Parts.{Parts}
 use Rattle.sbx_parts.specs.declared.services.Services.{Services}
-use Rattle.sbx_parts.specs.Rules.{◌>>=◌, between, each, Place, code_start, admits, is_fuel, is_coefficient, is_known, is_version, is_depth, is_data}
+use Rattle.sbx_parts.specs.Rules.{◌>>=◌, between, each, FunctionsSoFar, code_start, admits, is_fuel, is_coefficient, is_known, is_version, is_depth, is_data}
 use Rattle.sbx_parts.specs.Rules.{is_data_length, in_order, region_keeps, range_keeps, location_keeps, cell_keeps, term_keeps, block_keeps, function_keeps}
 use Rattle.sbx_parts.specs.Rules.{parts_keep}
 use Rattle.sbx_image.specs.Reading.{number_at, number_in, items_at, range_at, location_at, cell_at, term_at, block_head_at, block_at, kind_at, counts_at}
@@ -173,7 +173,7 @@ head_text version h =
     to_be_bytes w8 (kind_code h.kind) ++ to_be_bytes w8 h.params ++ to_be_bytes w8 h.results ++ to_be_bytes w8 0 ++ to_be_bytes w32 h.entry
     ++ to_be_bytes w32 h.frame ++ to_be_bytes w32 h.stack_room ++ to_be_bytes w64 h.budget ++ depth_code (version == 3) h.depth ++ to_be_bytes w16 h.blocks
 
-pub record HeadKeeps (version end : ℕ) (place : Place) (h : FunctionHead) : Type 0 where
+pub record HeadKeeps (version end : ℕ) (place : FunctionsSoFar) (h : FunctionHead) : Type 0 where
   pub params : between 0 6 h.params ≡ true
   pub results : between 0 6 h.results ≡ true
   pub entry : admits end place.0 h.entry ≡ true
@@ -249,7 +249,7 @@ depth_takes true bytes x fits e =
 depth_takes false bytes x fits e =
     subst (λ (y : ℕ × List ℕ). Takes bytes [] y.1 × ((y.0 == 0) ≡ true)) (ok_is (0, bytes) x e) (record { parts = refl; rest_fits = fits }, refl)
 
-pub function_head_takes : (version end : ℕ) (place : Place) (bytes : List ℕ) (x : FunctionHead × List ℕ) → IsBytes bytes → function_head_at version end place bytes ≡ Ok x
+pub function_head_takes : (version end : ℕ) (place : FunctionsSoFar) (bytes : List ℕ) (x : FunctionHead × List ℕ) → IsBytes bytes → function_head_at version end place bytes ≡ Ok x
     → Takes bytes (head_text version x.0) x.1 × HeadKeeps version end place x.0
 unfolding function_head_at
 function_head_takes version end place bytes x fits e =
@@ -302,14 +302,14 @@ head_counted : (h : FunctionHead) (params results blocks : ℕ) → params ≡ h
     → h ≡ record { kind = h.kind; params = params; results = results; entry = h.entry; frame = h.frame; stack_room = h.stack_room; budget = h.budget; depth = h.depth; blocks = blocks }
 head_counted h params results blocks p r b = rw (p, r, b) refl
 
-function_keeps_by : (version end : ℕ) (place : Place) (f : Function) (next : Next) → HeadKeeps version end place (head_of f)
+function_keeps_by : (version end : ℕ) (place : FunctionsSoFar) (f : Function) (next : Next) → HeadKeeps version end place (head_of f)
     → each (λ _ r. range_keeps r) tt f.params ≡ Ok tt → each (λ _ r. range_keeps r) tt f.results ≡ Ok tt → each (block_keeps end) (Exactly f.entry) f.blocks ≡ Ok next
     → function_keeps version end place f ≡ Ok (next, place.1 + length f.blocks)
 unfolding function_keeps
 function_keeps_by version end place f next k params results blocks =
     rw (k.params, k.results, k.entry, k.frame, k.stack_room, k.budget, k.depth, k.blocks, params, results, blocks) refl
 
-function_takes : (version end : ℕ) (place : Place) (bytes : List ℕ) (x : Function × (Place × List ℕ)) → IsBytes bytes →
+function_takes : (version end : ℕ) (place : FunctionsSoFar) (bytes : List ℕ) (x : Function × (FunctionsSoFar × List ℕ)) → IsBytes bytes →
     function_at version end (place, bytes) ≡ Ok x → Takes bytes (function_text version x.0) x.1.1 × (function_keeps version end place x.0 ≡ Ok x.1.0)
 unfolding function_at function_head_text function_text
 function_takes version end place bytes x fits e =
@@ -341,7 +341,7 @@ function_takes version end place bytes x fits e =
     (λ (g : FunctionHead). Takes bytes
     (head_text version g ++ flat_map range_text params.0.0 ++ flat_map range_text results.0.0 ++ flat_map block_text blocks.0.0) blocks.0.1.1) same lists in
     let k : HeadKeeps version end place counted = subst (HeadKeeps version end place) same h.1 in
-    let made : Function × (Place × List ℕ) = (
+    let made : Function × (FunctionsSoFar × List ℕ) = (
       record {
         kind = head.0.0.kind;
         params = params.0.0;
@@ -356,7 +356,7 @@ function_takes version end place bytes x fits e =
       },
       ((blocks.0.1.0, place.1 + head.0.0.blocks), blocks.0.1.1),
     ) in
-    subst (λ (y : Function × (Place × List ℕ)). Takes bytes (function_text version y.0) y.1.1 × (function_keeps version end place y.0 ≡ Ok y.1.0)) (ok_is made x blocks.2)
+    subst (λ (y : Function × (FunctionsSoFar × List ℕ)). Takes bytes (function_text version y.0) y.1.1 × (function_keeps version end place y.0 ≡ Ok y.1.0)) (ok_is made x blocks.2)
     (whole, function_keeps_by version end place made.0 blocks.0.1.0 k p.2 r.2 b.2 ∙ ap (λ (n : ℕ). Ok (blocks.0.1.0, place.1 + n)) b.1)
 
 -- ---- the whole
@@ -476,7 +476,8 @@ header_counted : (h : Header) (words data_count functions : ℕ) → words ≡ h
     → h ≡ record { version = h.version; services = h.services; words = words; data_count = data_count; stack_pages = h.stack_pages; functions = functions }
 header_counted h words data_count functions w d f = rw (w, d, f) refl
 
-parts_keep_by : (p : Parts) (pages : ℕ) (next : Place) → is_version p.version ≡ true → is_known p.services.0 ≡ true → between 1 65536 (length p.words) ≡ true → is_data p.version p.regions ≡ true
+parts_keep_by : (p : Parts) (pages : ℕ) (next : FunctionsSoFar) → is_version p.version ≡ true → is_known p.services.0 ≡ true →
+    between 1 65536 (length p.words) ≡ true → is_data p.version p.regions ≡ true
     → between 1 16 p.stack_pages ≡ true → between 1 256 (length p.functions) ≡ true → each region_keeps 0 p.regions ≡ Ok pages
     → each (function_keeps p.version (code_start + 4 * length p.words)) (Exactly code_start, 0) p.functions ≡ Ok next
     → parts_keep p ≡ Ok tt

@@ -25,7 +25,7 @@ use Rattle.sbx_parts.specs.declared.parts.Region.{Region}
 use Rattle.sbx_parts.specs.declared.services.Services.{Services}
 use Rattle.sbx_parts.specs.Regions.{pages_for}
 use Rattle.sbx_parts.specs.Rules.{◌>>=◌, wants, between, code_start, admits, is_fuel, is_coefficient, is_known}
-use Rattle.sbx_parts.specs.Rules.{is_version, is_data_length, is_length_behind, in_order, Place}
+use Rattle.sbx_parts.specs.Rules.{is_version, is_data_length, is_length_behind, in_order, FunctionsSoFar}
 
 -- What a function returned, seen by view, is what reading gives, unless memory ran out.
 abbrev pub Gives : {X Y : Type 0} → (X → Y) → Result X ImageFault → Result Y ImageFault → Type 0
@@ -137,7 +137,7 @@ abbrev pub depth_at : ℕ → List ℕ → Result (ℕ × List ℕ) ImageFault
 depth_at version bytes = if version == 3 then number_in w16 0 256 fault.Limit bytes else Ok (0, bytes)
 
 -- The functions before it have so many blocks.
-unfoldable pub function_head_at : ℕ → ℕ → Place → List ℕ → Result (FunctionHead × List ℕ) ImageFault
+unfoldable pub function_head_at : ℕ → ℕ → FunctionsSoFar → List ℕ → Result (FunctionHead × List ℕ) ImageFault
 function_head_at version end place bytes = do
   counts ← counts_at bytes
   entry ← number_at w32 counts.1
@@ -161,7 +161,7 @@ function_head_at version end place bytes = do
     blocks.1,
   )
 
-unfoldable pub function_at : ℕ → ℕ → Place × List ℕ → Result (Function × (Place × List ℕ)) ImageFault
+unfoldable pub function_at : ℕ → ℕ → FunctionsSoFar × List ℕ → Result (Function × (FunctionsSoFar × List ℕ)) ImageFault
 function_at version end cursor = do
   head ← function_head_at version end cursor.0 cursor.1
   params ← items_at range_at head.0.params head.1

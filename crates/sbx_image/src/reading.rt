@@ -2,7 +2,7 @@
 ghost use Rattle.std.specs.Prelude.{◌≡◌, ℕ, ◌+◌, ◌≤◌, List, IfOk};
 ghost use Rattle.std.specs.Int.{w8, w16, w32, w64};
 ghost use Rattle.sbx_parts.specs.declared.order.Next.{Next};
-ghost use Rattle.sbx_parts.specs.Rules.{Place};
+ghost use Rattle.sbx_parts.specs.Rules.{FunctionsSoFar};
 ghost use Rattle.sbx_image.specs.Reading.{Gives, number_at, bytes_at, items_at, range_at, location_at, cell_at};
 ghost use Rattle.sbx_image.specs.Reading.{term_at, block_head_at, block_at, kind_at, counts_at, bounds_at, depth_at};
 ghost use Rattle.sbx_image.specs.Reading.{function_head_at, function_at, services_at, data_length_at, data_count_at};
@@ -199,7 +199,7 @@ impl Readable for Function {
 
     type State = (Next, u16);
 
-    ghost Cursor = { Place × List ℕ };
+    ghost Cursor = { FunctionsSoFar × List ℕ };
 
     ghost at = { λ place bytes. (place, bytes) };
 

@@ -5,7 +5,7 @@ use Rattle.std.specs.List.{AllByRecursion}
 use Rattle.sbx_image.specs.Next.TheVariants.{Exactly}
 use Rattle.sbx_image.specs.Function.{Function}
 use Rattle.sbx_image.specs.Parts.{Parts}
-use Rattle.sbx_image.specs.Rules.{Place, code_start, function_keeps, parts_keep}
+use Rattle.sbx_image.specs.Rules.{FunctionsSoFar, code_start, function_keeps, parts_keep}
 use Rattle.sbx_image.proofs.Fields.{is_between}
 use Rattle.sbx_image.proofs.Limits.{each_all, function_kept, parts_kept}
 use Rattle.sbx_image.specs.Order.{function_at, or_function}
@@ -16,7 +16,7 @@ pub record IsLimited (f : Function) : Type 0 where
   pub budget : f.budget ≤ 1099511627775
   pub blocks : length f.blocks ≤ 4096
 
-limited : (version end : ℕ) (place : Place) (f : Function) (state : Place) → function_keeps version end place f ≡ Ok state → IsLimited f
+limited : (version end : ℕ) (place : FunctionsSoFar) (f : Function) (state : FunctionsSoFar) → function_keeps version end place f ≡ Ok state → IsLimited f
 limited version end place f state e =
     let k = function_kept version end place f state e in
     record {

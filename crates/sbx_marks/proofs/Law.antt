@@ -4,8 +4,8 @@ use Rattle.v8_core.specs.Ram.{entry_of}
 use Rattle.v8_core.specs.Walked.{root_of}
 use Rattle.v8_core.specs.Accesses.{World}
 use Rattle.v8_loaded.specs.Board.{Device, board}
-use Rattle.v8_loaded.specs.Turns.{after}
-use Rattle.v8_board.specs.Runs.{after as board_after}
+use Rattle.v8_loaded.specs.Turns.{world_after}
+use Rattle.v8_board.specs.Runs.{state_after as board_after}
 use Rattle.v8_board.specs.Seen.{State, ending_of}
 use Rattle.v8_board.specs.Start.{IsPlaced}
 use Rattle.v8_marks.specs.Marks.{entry_at}
@@ -27,10 +27,10 @@ start_entry n parts old new other after_it one two e less =
 
 -- a run's end is the state after so many turns, before which it was going and after which it has ended
 end_is : (n : ℕ) (parts : Parts) (input : List ℕ) (end : State n) (r : Ran n parts input end) (count : ℕ) → count ≤ budget parts →
-    ((j : ℕ) → j < count → ending_of n (after board n r.start.mmu j r.start.world) ≡ None) →
-    (ending_of n (after board n r.start.mmu count r.start.world) ≡ None → ⊥) → end.world ≡ after board n r.start.mmu count r.start.world
+    ((j : ℕ) → j < count → ending_of n (world_after board n r.start.mmu j r.start.world) ≡ None) →
+    (ending_of n (world_after board n r.start.mmu count r.start.world) ≡ None → ⊥) → end.world ≡ world_after board n r.start.mmu count r.start.world
 end_is n parts input end r count within going over =
-    let world_at : (j : ℕ) → j ≤ count → (board_after n j r.start).world ≡ after board n r.start.mmu j r.start.world =
+    let world_at : (j : ℕ) → j ≤ count → (board_after n j r.start).world ≡ world_after board n r.start.mmu j r.start.world =
     λ (j : ℕ) (most : j ≤ count). ap (λ (s : State n). s.world) (board_is n r.start.mmu r.start.world r.start.counts j (λ i less. going i (omega arith))) in
     ap (λ (s : State n). s.world)
     (same_end n (budget parts) count r.start end (board_after n count r.start) r.run

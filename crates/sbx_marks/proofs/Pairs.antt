@@ -11,7 +11,7 @@ use Rattle.v8_core.specs.Walked.{root_of}
 use Rattle.v8_core.specs.MmuRegs.{MmuRegs}
 use Rattle.v8_core.specs.Accesses.{World}
 use Rattle.v8_loaded.specs.Board.{Device, board}
-use Rattle.v8_loaded.specs.Turns.{after}
+use Rattle.v8_loaded.specs.Turns.{world_after}
 use Rattle.v8_loaded.specs.Users.{AsksFor}
 use Rattle.v8_marks.specs.Marks.{entry_at, reached}
 use Rattle.v8_marks.specs.Handlers.{after_handler}
@@ -69,22 +69,22 @@ turns_few _ = omega arith
 
 -- ---- turns after turns
 
-after_more : (n : ℕ) (mmu : MmuRegs) (a b : ℕ) (x : World n Device) → after board n mmu (a + b) x ≡ after board n mmu b (after board n mmu a x)
-after_more n mmu a zero x = let e : a + 0 ≡ a = omega arith in ap (λ k. after board n mmu k x) e
+after_more : (n : ℕ) (mmu : MmuRegs) (a b : ℕ) (x : World n Device) → world_after board n mmu (a + b) x ≡ world_after board n mmu b (world_after board n mmu a x)
+after_more n mmu a zero x = let e : a + 0 ≡ a = omega arith in ap (λ k. world_after board n mmu k x) e
 after_more n mmu a (suc b) x =
     let e : a + suc b ≡ suc (a + b) = omega arith in
-    ap (λ k. after board n mmu k x) e ∙ ap (λ (w : World n Device). after board n mmu 1 w) (after_more n mmu a b x)
+    ap (λ k. world_after board n mmu k x) e ∙ ap (λ (w : World n Device). world_after board n mmu 1 w) (after_more n mmu a b x)
 
-going_more : (n : ℕ) (mmu : MmuRegs) (a b : ℕ) (x : World n Device) → ((j : ℕ) → j < a → ending_of n (after board n mmu j x) ≡ None) →
-    ((j : ℕ) → j < b → ending_of n (after board n mmu j (after board n mmu a x)) ≡ None) →
-    (j : ℕ) → j < a + b → ending_of n (after board n mmu j x) ≡ None
+going_more : (n : ℕ) (mmu : MmuRegs) (a b : ℕ) (x : World n Device) → ((j : ℕ) → j < a → ending_of n (world_after board n mmu j x) ≡ None) →
+    ((j : ℕ) → j < b → ending_of n (world_after board n mmu j (world_after board n mmu a x)) ≡ None) →
+    (j : ℕ) → j < a + b → ending_of n (world_after board n mmu j x) ≡ None
 going_more n mmu a b x first second j less =
     let split : (j < a) ⊎ (a ≤ j) = search arith in
     elim split [
       | inl before ↦ first j before
       | inr from ↦
           let sum : a + (j - a) ≡ j = omega arith in
-          ap (λ k. ending_of n (after board n mmu k x)) (sym sum) ∙ ap (ending_of n) (after_more n mmu a (j - a) x) ∙ second (j - a) (omega arith)
+          ap (λ k. ending_of n (world_after board n mmu k x)) (sym sum) ∙ ap (ending_of n) (after_more n mmu a (j - a) x) ∙ second (j - a) (omega arith)
     ]
 
 not_over : (e : Ending) (o : Option Ending) → o ≡ Some e → o ≡ None → ⊥
@@ -117,7 +117,7 @@ module _ (n : ℕ) (parts : Parts) (formed : IsFormed parts) (checked : Checked 
     few : count ≤ weight_at parts (place_of parts s)
     first : Advances n parts mmu x (with_earlier a s) r count overflows underflows windows
     second : Advances n parts two y (with_earlier b t) r count overflows underflows windows
-    same : SameEntries (after board n mmu count x).memory.ram (after board n two count y).memory.ram
+    same : SameEntries (world_after board n mmu count x).memory.ram (world_after board n two count y).memory.ram
 
   -- two boards side by side
   record Paired (w : ℕ) (x y : World n Device) (s t : State) (r : ℕ) : Type 0 where
@@ -281,14 +281,14 @@ module _ (n : ℕ) (parts : Parts) (formed : IsFormed parts) (checked : Checked 
   pub record Both (w : ℕ) (x y : World n Device) : Type 0 where
     pub count : ℕ
     pub within : w + count ≤ budget parts
-    pub first_going : (j : ℕ) → j < count → ending_of n (after board n mmu j x) ≡ None
-    pub second_going : (j : ℕ) → j < count → ending_of n (after board n two j y) ≡ None
-    pub first_over : ending_of n (after board n mmu count x) ≡ None → ⊥
-    pub second_over : ending_of n (after board n two count y) ≡ None → ⊥
-    pub same : SameEntries (after board n mmu count x).memory.ram (after board n two count y).memory.ram
+    pub first_going : (j : ℕ) → j < count → ending_of n (world_after board n mmu j x) ≡ None
+    pub second_going : (j : ℕ) → j < count → ending_of n (world_after board n two j y) ≡ None
+    pub first_over : ending_of n (world_after board n mmu count x) ≡ None → ⊥
+    pub second_over : ending_of n (world_after board n two count y) ≡ None → ⊥
+    pub same : SameEntries (world_after board n mmu count x).memory.ram (world_after board n two count y).memory.ram
 
   join : (w : ℕ) (x y : World n Device) (s t : State) (r : ℕ) (k : Stepped x y s t r) →
-      Both (w + weight_at parts (place_of parts s)) (after board n mmu k.count x) (after board n two k.count y) → Both w x y
+      Both (w + weight_at parts (place_of parts s)) (world_after board n mmu k.count x) (world_after board n two k.count y) → Both w x y
   join w x y s t r k rest =
       let one = after_more n mmu k.count rest.count x in
       let other = after_more n two k.count rest.count y in
@@ -307,15 +307,15 @@ module _ (n : ℕ) (parts : Parts) (formed : IsFormed parts) (checked : Checked 
   -- after the step: both go on, or both are over
   finish : (w : ℕ) (x y : World n Device) (s t : State) (r : ℕ) (k : Stepped x y s t r) (u v : State) → Beside parts (w + weight_at parts (place_of parts s)) u v →
       k.first.next_state ≡ with_earlier a u → k.second.next_state ≡ with_earlier b v →
-      (Paired (w + weight_at parts (place_of parts s)) (after board n mmu k.count x) (after board n two k.count y) u v k.windows →
-      Both (w + weight_at parts (place_of parts s)) (after board n mmu k.count x) (after board n two k.count y)) →
-      Shows n parts (after board n mmu k.count x) k.first.next_state k.windows ⊎ ((status : ℕ) × Over n parts (after board n mmu k.count x) k.first.next_state status) →
-      Shows n parts (after board n two k.count y) k.second.next_state k.windows ⊎ ((status : ℕ) × Over n parts (after board n two k.count y) k.second.next_state status) → Both w x y
+      (Paired (w + weight_at parts (place_of parts s)) (world_after board n mmu k.count x) (world_after board n two k.count y) u v k.windows →
+      Both (w + weight_at parts (place_of parts s)) (world_after board n mmu k.count x) (world_after board n two k.count y)) →
+      Shows n parts (world_after board n mmu k.count x) k.first.next_state k.windows ⊎ ((status : ℕ) × Over n parts (world_after board n mmu k.count x) k.first.next_state status) →
+      Shows n parts (world_after board n two k.count y) k.second.next_state k.windows ⊎ ((status : ℕ) × Over n parts (world_after board n two k.count y) k.second.next_state status) → Both w x y
   finish w x y s t r k u v beside one other goes_on (inl on) (inl on_too) =
       join w x y s t r k (goes_on (record {
         beside = beside;
-        first = subst (λ (q : State). Shows n parts (after board n mmu k.count x) q k.windows) one on;
-        second = subst (λ (q : State). Shows n parts (after board n two k.count y) q k.windows) other on_too;
+        first = subst (λ (q : State). Shows n parts (world_after board n mmu k.count x) q k.windows) one on;
+        second = subst (λ (q : State). Shows n parts (world_after board n two k.count y) q k.windows) other on_too;
         same = k.same;
       }))
   finish w x y s t r k u v beside one other goes_on (inl on) (inr end) =
@@ -330,8 +330,8 @@ module _ (n : ℕ) (parts : Parts) (formed : IsFormed parts) (checked : Checked 
         within = omega arith;
         first_going = k.first.going;
         second_going = k.second.going;
-        first_over = over_ends n (after board n mmu k.count x) end.0 end.1.stopped;
-        second_over = over_ends n (after board n two k.count y) end_too.0 end_too.1.stopped;
+        first_over = over_ends n (world_after board n mmu k.count x) end.0 end.1.stopped;
+        second_over = over_ends n (world_after board n two k.count y) end_too.0 end_too.1.stopped;
         same = k.same;
       }
 
@@ -343,7 +343,8 @@ module _ (n : ℕ) (parts : Parts) (formed : IsFormed parts) (checked : Checked 
       let to_too = earlier_step b parts t k.second.next_state k.second.step in
       let some = weighs_some parts (place_of parts s) in
       finish w x y s t r k to.0 to_too.0 (step_beside parts formed checked w s t to.0 to_too.0 p.beside p.first.going to.1 to_too.1) to.2 to_too.2
-      (λ next. runs_on fuel (w + weight_at parts (place_of parts s)) (after board n mmu k.count x) (after board n two k.count y) to.0 to_too.0 k.windows next (omega arith)) k.first.ends k.second.ends
+      (λ next. runs_on fuel (w + weight_at parts (place_of parts s)) (world_after board n mmu k.count x)
+      (world_after board n two k.count y) to.0 to_too.0 k.windows next (omega arith)) k.first.ends k.second.ends
 
   pub both_end : (x y : World n Device) (s t : State) (r : ℕ) → Beside parts 0 s t → First x s r → Second y t r → SameEntries x.memory.ram y.memory.ram → Both 0 x y
   both_end x y s t r beside first second same = runs_on (suc (budget parts)) 0 x y s t r (record { beside = beside; first = first; second = second; same = same }) (omega arith)

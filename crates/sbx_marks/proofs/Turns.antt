@@ -15,7 +15,7 @@ use Rattle.v8_core.specs.MmuRegs.{MmuRegs}
 use Rattle.v8_core.specs.declared.turn.Turn.{Turn}
 use Rattle.v8_core.specs.Accesses.{World}
 use Rattle.v8_loaded.specs.Board.{Device, board}
-use Rattle.v8_loaded.specs.Turns.{after}
+use Rattle.v8_loaded.specs.Turns.{world_after}
 use Rattle.v8_loaded.specs.Users.{AsksFor, RunsUser}
 use Rattle.v8_services.specs.Services.{calls}
 use Rattle.v8_spill.specs.Laws.{stack_pointer as spilled_pointer}
@@ -54,7 +54,7 @@ flat_reach s _ = None
 -- ---- an annulled instruction
 
 pub annulled_marks : (n : ℕ) (parts : Parts) (mmu : MmuRegs) (x : World n Device) (s : State) (r e : ℕ) → Shows n parts x s r → s.annulled ≡ true →
-    entry_at (after board n mmu 1 x).memory.ram e ≡ entry_at x.memory.ram e
+    entry_at (world_after board n mmu 1 x).memory.ram e ≡ entry_at x.memory.ram e
 annulled_marks n parts mmu x s r e h annul =
     ap (λ (p : Turn × World n Device). entry_at p.1.memory.ram e) (annulled_turn n mmu x h.device.running h.control.sane (h.control.annul ∙ annul))
 
@@ -75,11 +75,11 @@ module _ (n : ℕ) (parts : Parts) (mmu : MmuRegs) (x : World n Device) (s : Sta
 
   -- ---- an operation without a window trap
 
-  plain : (op : Operation) → AsksFor parts.words i op → reach_of n x.cpu op ≡ None → entry_at (after board n mmu 1 x).memory.ram e ≡ fetched
+  plain : (op : Operation) → AsksFor parts.words i op → reach_of n x.cpu op ≡ None → entry_at (world_after board n mmu 1 x).memory.ram e ≡ fetched
   plain op is none = plain_marks n (pages_of parts) parts.words mmu x i here e less op is none ∙ same_fetch
 
   moving : (t : Moving) (m : MemoryOperand) → AsksFor parts.words i (Transfer t m) → is_admitted (Transfer t m) ≡ true →
-      entry_at (after board n mmu 1 x).memory.ram e ≡ reached e (address_in s m) (writes_memory t) fetched
+      entry_at (world_after board n mmu 1 x).memory.ram e ≡ reached e (address_in s m) (writes_memory t) fetched
   unfolding is_admitted
   moving t m is may =
       let one = transfer_turn n parts mmu x s r i h good t m is may in
@@ -89,21 +89,21 @@ module _ (n : ℕ) (parts : Parts) (mmu : MmuRegs) (x : World n Device) (s : Sta
       (same_address n parts mmu x s r i h m.rs1 m.operand2 fit.first (fit.second (first_of (is_normal m.space) _ may)))
       ∙ ap (reached e (address_in s m) (writes_memory t)) same_fetch
 
-  by_service : (k : ℕ) → AsksFor parts.words i (calls k) → entry_at (after board n mmu (turns_of (calls k)) x).memory.ram e ≡ fetched
+  by_service : (k : ℕ) → AsksFor parts.words i (calls k) → entry_at (world_after board n mmu (turns_of (calls k)) x).memory.ram e ≡ fetched
   unfolding is_admitted
   by_service zero is = exit_marks n (pages_of parts) parts.words mmu x i here e less is ∙ same_fetch
   by_service (suc zero) is = get_marks n (pages_of parts) parts.words mmu x i here e less (may_return n parts mmu x s r i h) is ∙ same_fetch
   by_service (suc (suc zero)) is = put_marks n (pages_of parts) parts.words mmu x i here e less (may_return n parts mmu x s r i h) is ∙ same_fetch
   by_service (suc (suc (suc k))) is = absurd (fails_not n parts mmu x s r i h (calls (suc (suc (suc k)))) is refl good NoService refl)
 
-  serving : (t : Trap) → AsksFor parts.words i (TrapOnCondition t) → is_admitted (TrapOnCondition t) ≡ true → entry_at (after board n mmu (turns_of (TrapOnCondition t)) x).memory.ram e ≡ fetched
+  serving : (t : Trap) → AsksFor parts.words i (TrapOnCondition t) → is_admitted (TrapOnCondition t) ≡ true → entry_at (world_after board n mmu (turns_of (TrapOnCondition t)) x).memory.ram e ≡ fetched
   unfolding is_admitted
   serving t is may =
       let c = called t.cond t.rs1 t.operand2 may in
-      subst (λ (q : Trap). entry_at (after board n mmu (turns_of (TrapOnCondition q)) x).memory.ram e ≡ fetched) (sym c.is)
+      subst (λ (q : Trap). entry_at (world_after board n mmu (turns_of (TrapOnCondition q)) x).memory.ram e ≡ fetched) (sym c.is)
       (by_service c.number (subst (λ (q : Trap). AsksFor parts.words i (TrapOnCondition q)) c.is is))
 
-  by_operation : (op : Operation) → AsksFor parts.words i op → is_admitted op ≡ true → entry_at (after board n mmu (turns_of op) x).memory.ram e ≡ after_reach e (flat_reach s op) fetched
+  by_operation : (op : Operation) → AsksFor parts.words i op → is_admitted op ≡ true → entry_at (world_after board n mmu (turns_of op) x).memory.ram e ≡ after_reach e (flat_reach s op) fetched
   by_operation (Transfer t m) is may = moving t m is may
   by_operation (TrapOnCondition t) is may = serving t is may
   by_operation (Compute op f) is may = plain (Compute op f) is refl
@@ -125,15 +125,15 @@ module _ (n : ℕ) (parts : Parts) (mmu : MmuRegs) (x : World n Device) (s : Sta
   by_operation FloatingPoint is may = plain FloatingPoint is refl
   by_operation Coprocessor is may = plain Coprocessor is refl
 
-  pub calm_marks : (op : Operation) → AsksFor parts.words i op → entry_at (after board n mmu (turns_of op) x).memory.ram e ≡ after_reach e (flat_reach s op) fetched
+  pub calm_marks : (op : Operation) → AsksFor parts.words i op → entry_at (world_after board n mmu (turns_of op) x).memory.ram e ≡ after_reach e (flat_reach s op) fetched
   calm_marks op is = by_operation op is (admitted n parts mmu x s r i h good op is)
 
   -- ---- a SAVE that finds no window
 
   pub spill_marks : (f : Three) → AsksFor parts.words i (Save f) → r + 1 ≡ n →
-      entry_at (after board n mmu 25 x).memory.ram e ≡ reached e s.pc false (after_handler e s.pc (base s.registers (r - 1)) true (entry_at x.memory.ram e))
+      entry_at (world_after board n mmu 25 x).memory.ram e ≡ reached e s.pc false (after_handler e s.pc (base s.registers (r - 1)) true (entry_at x.memory.ram e))
   spill_marks f is full =
-      let mid = after board n mmu 24 x in
+      let mid = world_after board n mmu 24 x in
       let shown = spilling.overflow_shows n parts mmu x s r i h f is full in
       let again : Stands n parts mmu mid s (r - 1) i = record { fits = h.fits; root = h.root; shows = shown; straight = h.straight; place = h.place; within = h.within } in
       plain_marks n (pages_of parts) parts.words mmu mid i (user n parts mmu mid s (r - 1) i again) e less (Save f) is refl
@@ -147,12 +147,12 @@ module _ (n : ℕ) (parts : Parts) (mmu : MmuRegs) (x : World n Device) (s : Sta
 
 pub fill_marks : (n : ℕ) (parts : Parts) (mmu : MmuRegs) (x : World n Device) (s : State) (i : ℕ) → Stands n parts mmu x s 1 i → (IsWrong parts s → ⊥) →
     (e : ℕ) → e < 192 → (f : Three) → AsksFor parts.words i (Restore f) →
-    entry_at (after board n mmu 25 x).memory.ram e ≡ reached e s.pc false (after_handler e s.pc (base s.registers 1) false (entry_at x.memory.ram e))
+    entry_at (world_after board n mmu 25 x).memory.ram e ≡ reached e s.pc false (after_handler e s.pc (base s.registers 1) false (entry_at x.memory.ram e))
 fill_marks n parts mmu x s i h good e less f is =
     let back = returns n parts mmu x s 1 i h f is good in
     let deep : length s.registers.older ≡ suc (length back.older) = ap length back.is in
     let two : 2 ≤ depth s.registers = omega arith in
-    let mid = after board n mmu 24 x in
+    let mid = world_after board n mmu 24 x in
     let shown = filling.underflow_shows n parts mmu x s i h f is two in
     let again : Stands n parts mmu mid s 2 i = record { fits = h.fits; root = h.root; shows = shown; straight = h.straight; place = h.place; within = h.within } in
     plain_marks n (pages_of parts) parts.words mmu mid i (user n parts mmu mid s 2 i again) e less (Restore f) is refl

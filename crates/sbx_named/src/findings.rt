@@ -5,7 +5,7 @@ ghost use Rattle.sbx_named.specs.Findings.{code_text, fault_place, finding_place
 use sbx_asm::{AsmFault, Cause};
 use sbx_causes::{Setting, mark_of, whole_reason};
 use sbx_check::Faults;
-use sbx_places::{Line, Place, Scope, Survey, survey_lines};
+use sbx_places::{Line, LocationCounter, Scope, Survey, survey_lines};
 use std::alloc::{AllocError, Global};
 use std::fmt::{self, Error, Formatter, Write};
 
@@ -43,7 +43,7 @@ pub struct Finding {
 #[derive(Clone, Copy)]
 struct Walk<'l, 'a> {
     rest: &'l [Line<'a>],
-    place: Place,
+    place: LocationCounter,
     setting: Setting,
 }
 
@@ -52,7 +52,7 @@ impl<'l, 'a> Walk<'l, 'a> {
     fn start(lines: &'l [Line<'a>]) -> Self {
         Walk {
             rest: lines,
-            place: Place::start(),
+            place: LocationCounter::start(),
             setting: Setting::start(),
         }
     }

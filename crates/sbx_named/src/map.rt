@@ -1,7 +1,7 @@
 //! The map of a source: where its lines and its labels stand.
 use crate::names::words_of;
 use sbx_directives::{Directive, Statement, text_of};
-use sbx_places::{Line, Place, lines_in};
+use sbx_places::{Line, LocationCounter, lines_in};
 use std::alloc::{AllocError, Global};
 use v8_syntax::bytes_between;
 
@@ -30,7 +30,11 @@ fn push_label(
 }
 
 /// The labels at the head of a line.
-fn push_labels(out: &mut String, place: Place, line: &Line<'_>) -> Result<(), AllocError> {
+fn push_labels(
+    out: &mut String,
+    place: LocationCounter,
+    line: &Line<'_>,
+) -> Result<(), AllocError> {
     let (count, tokens) = line.labels();
     for label in 0..count {
         if let Some(token) = tokens.get(label.saturating_mul(2)) {
@@ -52,7 +56,7 @@ fn push_words(out: &mut String, address: u32, line: &Line<'_>) -> Result<(), All
 }
 
 /// What a line has at its place.
-fn push_line(out: &mut String, place: Place, line: &Line<'_>) -> Result<(), AllocError> {
+fn push_line(out: &mut String, place: LocationCounter, line: &Line<'_>) -> Result<(), AllocError> {
     push_labels(out, place, line)?;
     let (address, number) = (place.next_word, line.number());
     match line.said() {
@@ -78,7 +82,7 @@ pub fn push_map(
 ) -> Result<(), AllocError> {
     let lines = lines_in(alloc, source)?;
     writeln!(out, "map of image {digest}")?;
-    let mut place = Place::start();
+    let mut place = LocationCounter::start();
     for line in &lines {
         push_line(out, place, line)?;
         place = place.after(line);

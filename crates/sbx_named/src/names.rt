@@ -1,6 +1,6 @@
 //! The names of a source's functions and blocks, and the lines of its words.
 use sbx_directives::{Directive, Statement, text_of};
-use sbx_places::{Line, Place, lines_in};
+use sbx_places::{Line, LocationCounter, lines_in};
 use std::alloc::{AllocError, Global};
 use v8_map::CODE_START;
 
@@ -93,7 +93,7 @@ impl<'a> Names<'a> {
     }
 
     /// What one more line names, and its words.
-    fn push_line(&mut self, place: Place, line: &Line<'a>) -> Result<(), AllocError> {
+    fn push_line(&mut self, place: LocationCounter, line: &Line<'a>) -> Result<(), AllocError> {
         match line.said() {
             Ok(Statement::Directive(Directive::Function { name, .. })) => {
                 self.push_function(text_of(line.bytes(), name), place.next_word)
@@ -144,7 +144,7 @@ impl<'a> Names<'a> {
 /// The names of a source, which means an image, by its lines.
 pub(crate) fn names_of<'a>(alloc: Global, lines: &[Line<'a>]) -> Result<Names<'a>, AllocError> {
     let mut names = Names::none(alloc);
-    let mut place = Place::start();
+    let mut place = LocationCounter::start();
     for line in lines {
         names.push_line(place, line)?;
         place = place.after(line);

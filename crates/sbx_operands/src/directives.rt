@@ -3,7 +3,7 @@ use crate::lists::{List, Operand};
 use sbx_directives::{Keyword, Width};
 use sbx_shapes::{Mark, OperandReason, Reason, StatementReason};
 use sbx_text::Token;
-use v8_syntax::{Symbols, Word, bytes_between, word_of};
+use v8_syntax::{StatementToken, Symbols, bytes_between, statement_token};
 
 /// The ends of 32 bits, signed.
 const LEAST: i64 = -0x8000_0000;
@@ -208,14 +208,15 @@ fn value_of<S: Symbols>(operand: Operand<'_>, symbols: &S) -> Option<i128> {
     let sign = operand
         .tokens
         .get(1)
-        .map(|token| word_of(operand.line, token));
+        .map(|token| statement_token(operand.line, token));
     let number = operand
         .tokens
         .get(2)
-        .map(|token| word_of(operand.line, token));
+        .map(|token| statement_token(operand.line, token));
     Some(match (sign, number) {
-        (Some(Word::Sign(b'-')), Some(Word::Number(by))) => i128::from(word) - i128::from(by),
-        (_, Some(Word::Number(by))) => i128::from(word) + i128::from(by),
+        (Some(StatementToken::Sign(b'-')), Some(StatementToken::Number(by))) => i128::from(word)
+            - i128::from(by),
+        (_, Some(StatementToken::Number(by))) => i128::from(word) + i128::from(by),
         _ => i128::from(word),
     })
 }

@@ -1,6 +1,6 @@
 //! What stands between the commas of a directive.
 use sbx_text::Token;
-use v8_syntax::{Word, bytes_between, is_same, word_of};
+use v8_syntax::{StatementToken, bytes_between, is_same, statement_token};
 
 /// The operands of a directive: the tokens behind its name.
 #[derive(Clone, Copy)]
@@ -18,7 +18,7 @@ pub(crate) struct Operand<'l> {
 }
 
 fn is_comma(line: &[u8], token: &Token) -> bool {
-    matches!(word_of(line, token), Word::Sign(b','))
+    matches!(statement_token(line, token), StatementToken::Sign(b','))
 }
 
 impl<'l> List<'l> {
@@ -82,15 +82,15 @@ impl<'l> List<'l> {
 }
 
 impl<'l> Operand<'l> {
-    fn word(self, at: usize) -> Option<Word> {
+    fn word(self, at: usize) -> Option<StatementToken> {
         let token = self.tokens.get(at)?;
-        Some(word_of(self.line, token))
+        Some(statement_token(self.line, token))
     }
 
     /// The bytes of a name alone.
     pub(crate) fn name(self) -> Option<&'l [u8]> {
         match self.word(0) {
-            Some(Word::Name(_, start, stop)) if self.tokens.len() == 1 => {
+            Some(StatementToken::Name(_, start, stop)) if self.tokens.len() == 1 => {
                 Some(bytes_between(self.line, start, stop))
             }
             _ => None,
@@ -108,10 +108,9 @@ impl<'l> Operand<'l> {
     /// A number, or `-` and a number.
     pub(crate) fn number(self) -> Option<i128> {
         match (self.word(0), self.word(1)) {
-            (Some(Word::Number(number)), None) => Some(i128::from(number)),
-            (Some(Word::Sign(b'-')), Some(Word::Number(number))) if self.tokens.len() == 2 => {
-                Some(-i128::from(number))
-            }
+            (Some(StatementToken::Number(number)), None) => Some(i128::from(number)),
+            (Some(StatementToken::Sign(b'-')), Some(StatementToken::Number(number)))
+                if self.tokens.len() == 2 => { Some(-i128::from(number)) }
             _ => None,
         }
     }
@@ -135,7 +134,7 @@ impl<'l> Operand<'l> {
     /// Whether it is `slot` and a number of a frame's words.
     fn is_slot(self) -> bool {
         match (self.word(0), self.word(1)) {
-            (Some(Word::Name(_, start, stop)), Some(Word::Number(number))) => {
+            (Some(StatementToken::Name(_, start, stop)), Some(StatementToken::Number(number))) => {
                 self.tokens.len() == 2
                     && number <= 1007
                     && is_same(bytes_between(self.line, start, stop), b"slot")
@@ -158,7 +157,7 @@ impl<'l> Operand<'l> {
     /// Whether it is a register but %g0, or a frame word.
     pub(crate) fn is_location(self) -> bool {
         match self.word(0) {
-            Some(Word::Register(_)) => self.tokens.len() == 1 && !self.is_zero_register(),
+            Some(StatementToken::Register(_)) => self.tokens.len() == 1 && !self.is_zero_register(),
             _ => self.is_slot(),
         }
     }
@@ -168,9 +167,9 @@ impl<'l> Operand<'l> {
         if self.number().is_some() || self.name().is_some() {
             return true;
         }
-        let sign = matches!(self.word(1), Some(Word::Sign(b'+' | b'-')));
-        let number = matches!(self.word(2), Some(Word::Number(_)));
-        let name = matches!(self.word(0), Some(Word::Name(..)));
+        let sign = matches!(self.word(1), Some(StatementToken::Sign(b'+' | b'-')));
+        let number = matches!(self.word(2), Some(StatementToken::Number(_)));
+        let name = matches!(self.word(0), Some(StatementToken::Name(..)));
         self.tokens.len() == 3 && name && sign && number
     }
 }

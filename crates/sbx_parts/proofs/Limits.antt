@@ -17,7 +17,7 @@ use Rattle.sbx_parts.specs.declared.parts.Parts.{Parts}
 use Rattle.sbx_parts.specs.declared.parts.Region.{Region}
 use Rattle.sbx_parts.specs.Regions.{AreData, IsSized, byte_count, page_rights, pages_for}
 use Rattle.sbx_parts.proofs.Placing.{page_count}
-use Rattle.sbx_parts.specs.Rules.{◌>>=◌, wants, between, each, Place, code_start, admits, is_location, is_fuel, is_coefficient, is_known, is_version, is_depth}
+use Rattle.sbx_parts.specs.Rules.{◌>>=◌, wants, between, each, FunctionsSoFar, code_start, admits, is_location, is_fuel, is_coefficient, is_known, is_version, is_depth}
 use Rattle.sbx_parts.specs.Rules.{is_data, is_data_length, is_one_region, is_length_behind, region_keeps, in_order, range_keeps, location_keeps, cell_keeps}
 use Rattle.sbx_parts.specs.Rules.{term_keeps, block_keeps, ranges_keep, function_keeps, parts_keep}
 use Rattle.sbx_parts.specs.Widths.{IsCountedBlock, IsCountedFunction}
@@ -95,7 +95,7 @@ block_kept end next b state e =
       state_is = ok_is _ _ terms.2;
     }
 
-pub record KeptFunction (version end : ℕ) (place : Place) (f : Function) (state : Place) : Type 0 where
+pub record KeptFunction (version end : ℕ) (place : FunctionsSoFar) (f : Function) (state : FunctionsSoFar) : Type 0 where
   pub param_count : between 0 6 (length f.params) ≡ true
   pub result_count : between 0 6 (length f.results) ≡ true
   pub entry : admits end place.0 f.entry ≡ true
@@ -111,7 +111,7 @@ pub record KeptFunction (version end : ℕ) (place : Place) (f : Function) (stat
   pub next_is : next ≡ state.0
   pub blocks_is : place.1 + length f.blocks ≡ state.1
 
-pub function_kept : (version end : ℕ) (place : Place) (f : Function) (state : Place) → function_keeps version end place f ≡ Ok state → KeptFunction version end place f state
+pub function_kept : (version end : ℕ) (place : FunctionsSoFar) (f : Function) (state : FunctionsSoFar) → function_keeps version end place f ≡ Ok state → KeptFunction version end place f state
 unfolding function_keeps
 function_kept version end place f state e =
     let param_count = wanted (between 0 6 (length f.params)) fault.Limit _ _ e in
@@ -139,8 +139,8 @@ function_kept version end place f state e =
       results = results.1;
       next = blocks.0;
       blocks = blocks.1;
-      next_is = ap (λ (s : Place). s.0) state_is;
-      blocks_is = ap (λ (s : Place). s.1) state_is;
+      next_is = ap (λ (s : FunctionsSoFar). s.0) state_is;
+      blocks_is = ap (λ (s : FunctionsSoFar). s.1) state_is;
     }
 
 pub record KeptParts (p : Parts) : Type 0 where
@@ -152,7 +152,7 @@ pub record KeptParts (p : Parts) : Type 0 where
   pub function_count : between 1 256 (length p.functions) ≡ true
   pub last_pages : ℕ
   pub lengths : each region_keeps 0 p.regions ≡ Ok last_pages
-  pub last : Place
+  pub last : FunctionsSoFar
   pub functions : each (function_keeps p.version (code_start + 4 * length p.words)) (Exactly code_start, 0) p.functions ≡ Ok last
 
 pub parts_kept : (p : Parts) → parts_keep p ≡ Ok tt → KeptParts p
@@ -282,7 +282,7 @@ block_counted end next b state e =
     let k = block_kept end next b state e in
     (omega (arith, (is_between 0 64 (length b.cells) k.cell_count).1), omega (arith, (is_between 0 8 (length b.terms) k.term_count).1))
 
-pub function_counted : (version end : ℕ) (place : Place) (f : Function) (state : Place) → function_keeps version end place f ≡ Ok state → IsCountedFunction f
+pub function_counted : (version end : ℕ) (place : FunctionsSoFar) (f : Function) (state : FunctionsSoFar) → function_keeps version end place f ≡ Ok state → IsCountedFunction f
 function_counted version end place f state e =
     let k = function_kept version end place f state e in
     record {

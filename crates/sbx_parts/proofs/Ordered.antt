@@ -8,7 +8,7 @@ use Rattle.sbx_parts.specs.declared.order.Next.TheVariants.{Exactly, Above}
 use Rattle.sbx_parts.specs.declared.parts.Block.{Block}
 use Rattle.sbx_parts.specs.declared.parts.Function.{Function}
 use Rattle.sbx_parts.specs.declared.parts.Parts.{Parts}
-use Rattle.sbx_parts.specs.Rules.{admits, each, Place, code_start, block_keeps, function_keeps, parts_keep}
+use Rattle.sbx_parts.specs.Rules.{admits, each, FunctionsSoFar, code_start, block_keeps, function_keeps, parts_keep}
 use Rattle.sbx_parts.specs.Order.{IsFunction, IsBlock, or_function, or_block, function_at, block_at, code_end, entry_or_end, address_or_end, function_end}
 use Rattle.sbx_parts.specs.Order.{block_end, words_in, address_of, HasWords, AreInOrder, StandsAt, HasPlace, HavePlaces}
 use Rattle.sbx_parts.proofs.Steps.{bind_ok, both_true, is_between}
@@ -139,7 +139,7 @@ fine_after end bs entry out some entry_in blocks =
     let stands = block_stands end (Exactly entry) bs out blocks (entry_in.low, entry_in.whole, entry_in.high) k.0 (omega (arith, k.1)) in
     subst (IsFine end) (sym (stands.last k.1)) stands.is_in.low
 
-function_stands : (version end : ℕ) (place : Place) (fs : List Function) (out : Place) → each (function_keeps version end) place fs ≡ Ok out →
+function_stands : (version end : ℕ) (place : FunctionsSoFar) (fs : List Function) (out : FunctionsSoFar) → each (function_keeps version end) place fs ≡ Ok out →
     IsFine end place.0 → (f : ℕ) → f < length fs → FunctionStands end fs f
 unfolding each
 function_stands version end place [] out e fine f less = absurd (omega arith)
@@ -383,7 +383,8 @@ module _ (parts : Parts) (keeps : parts_keep parts ≡ Ok tt) where
   first_at f b = omega arith
 
 -- the first function begins the code
-begins : (version end count : ℕ) (fs : List Function) (out : Place) → 1 ≤ length fs → each (function_keeps version end) (Exactly code_start, count) fs ≡ Ok out → (function_of fs 0).entry ≡ code_start
+begins : (version end count : ℕ) (fs : List Function) (out : FunctionsSoFar) → 1 ≤ length fs →
+    each (function_keeps version end) (Exactly code_start, count) fs ≡ Ok out → (function_of fs 0).entry ≡ code_start
 unfolding each
 begins version end count [] out some e = absurd (omega arith)
 begins version end count (x ∷ xs) out some e =

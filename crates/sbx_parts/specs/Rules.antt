@@ -92,8 +92,8 @@ block_keeps end next b = do
   Ok (Above b.address)
 
 -- where the next function may begin, and how many blocks all functions have so far
-abbrev pub Place : Type 0
-Place = Next × ℕ
+abbrev pub FunctionsSoFar : Type 0
+FunctionsSoFar = Next × ℕ
 
 abbrev pub ranges_keep : List Range → Result (Unit {0}) ImageFault
 ranges_keep rs = each (λ _ r. range_keeps r) tt rs
@@ -102,7 +102,7 @@ ranges_keep rs = each (λ _ r. range_keeps r) tt rs
 abbrev pub is_depth : ℕ → ℕ → Bool
 is_depth version depth = if version == 3 then nat_le depth 256 else depth == 0
 
-unfoldable pub function_keeps : ℕ → ℕ → Place → Function → Result Place ImageFault
+unfoldable pub function_keeps : ℕ → ℕ → FunctionsSoFar → Function → Result FunctionsSoFar ImageFault
 function_keeps version end place f = do
   _ ← wants (between 0 6 (length f.params)) fault.Limit
   _ ← wants (between 0 6 (length f.results)) fault.Limit

@@ -7,7 +7,7 @@ ghost use Rattle.sbx_parts.specs.Rules.{block_keeps, function_keeps, parts_keep,
 ghost use Rattle.sbx_parts.specs.Rules.{is_known, is_version, is_depth, each, code_start};
 
 use crate::fault::ImageFault;
-use crate::lists::{Checked, check_each};
+use crate::lists::{HasRules, check_each};
 use crate::order::{Next, admits, is_coefficient, is_fuel};
 use crate::parts::{Block, Cell, Function, Parts, Range, Region, Term};
 use crate::regions::{is_length_behind, pages_for};
@@ -98,7 +98,7 @@ fn check_count(before: u16, count: usize) -> Result<u16, ImageFault>
     }
 }
 
-impl Checked for Region {
+impl HasRules for Region {
     type Setting = ();
 
     type State = u16;
@@ -113,7 +113,7 @@ impl Checked for Region {
     }
 }
 
-impl Checked for Range {
+impl HasRules for Range {
     type Setting = ();
 
     type State = ();
@@ -129,7 +129,7 @@ impl Checked for Range {
     }
 }
 
-impl Checked for Cell {
+impl HasRules for Cell {
     type Setting = ();
 
     type State = u16;
@@ -144,7 +144,7 @@ impl Checked for Cell {
     }
 }
 
-impl Checked for Term {
+impl HasRules for Term {
     type Setting = ();
 
     type State = u16;
@@ -159,7 +159,7 @@ impl Checked for Term {
     }
 }
 
-impl Checked for Block {
+impl HasRules for Block {
     type Setting = u32;
 
     type State = Next;
@@ -180,7 +180,7 @@ impl Checked for Block {
     }
 }
 
-impl Checked for Function {
+impl HasRules for Function {
     type Setting = (u16, u32);
 
     type State = (Next, u16);

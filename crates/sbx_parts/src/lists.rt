@@ -6,7 +6,7 @@ ghost use Rattle.sbx_parts.specs.Rules.{each};
 use crate::fault::ImageFault;
 
 /// An item of a list that has rules.
-pub trait Checked {
+pub trait HasRules {
     ghost use Rattle.std.specs.Prelude.{◌≡◌, ℕ, Result};
     ghost use Rattle.sbx_parts.specs.declared.fault.ImageFault.{ImageFault};
 
@@ -25,7 +25,7 @@ pub trait Checked {
 }
 
 /// Whether each item keeps its rules, one behind the other, and what the last one leaves.
-pub fn check_each<T: Checked>(
+pub fn check_each<T: HasRules>(
     setting: T::Setting,
     first: T::State,
     items: &[T],

@@ -4,7 +4,7 @@ use Rattle.std.specs.List.{list_any}
 use Rattle.std.specs.Str.{bytes_eq}
 use Rattle.std.specs.HashMap.{get_by}
 use Rattle.sbx_places.specs.declared.table.Table.{Table}
-use Rattle.sbx_places.specs.declared.place.Place.{Place}
+use Rattle.sbx_places.specs.declared.place.LocationCounter.{LocationCounter}
 use Rattle.sbx_places.specs.declared.survey.Survey.{Survey}
 use Rattle.sbx_asm.specs.Items.{Item, is_region}
 use Rattle.sbx_asm.specs.Addresses.{Label, in_code, code_address, region_start, data_offset, worth_in}
@@ -15,7 +15,7 @@ abbrev pub worth : Table → Values
 worth t name = get_by (λ k. bytes_eq name k.now) t.entries
 
 -- the place of a line behind some others, the nearest first
-abbrev pub place_at : List Item → Place
+abbrev pub place_at : List Item → LocationCounter
 place_at before =
     record {
       in_code = in_code before;

@@ -12,7 +12,7 @@ mod survey;
 mod table;
 
 pub use lines::lines_in;
-pub use place::Place;
+pub use place::LocationCounter;
 pub use reading::Line;
 pub use rows::{Row, rows_of};
 pub use scope::Scope;

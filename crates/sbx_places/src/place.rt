@@ -19,7 +19,7 @@ const LAST_START: u32 = DATA_START + 8 * ROOM;
 
 /// How far the code and the newest region of the data have come.
 #[derive(Clone, Copy)]
-pub struct Place {
+pub struct LocationCounter {
     /// Whether the code is the current section, what labels and data speak of.
     pub in_code: bool,
     /// The address of what comes next in the code.
@@ -93,12 +93,12 @@ fn in_code_after(current: bool, line: &Line<'_>) -> bool
     is_text(line) || (current && !is_data(line) && !is_region(line))
 }
 
-impl Place {
+impl LocationCounter {
     /// Before the first line.
-    pub fn start() -> Place
+    pub fn start() -> LocationCounter
         ensures { result ≡ place_at [] }
     {
-        Place {
+        LocationCounter {
             in_code: true,
             next_word: CODE_START,
             has_region: false,
@@ -126,13 +126,13 @@ impl Place {
     }
 
     /// Behind one more line.
-    pub fn after(self, line: &Line<'_>) -> Place
+    pub fn after(self, line: &Line<'_>) -> LocationCounter
         ensures { (before : List Item) → self ≡ place_at before → result ≡ place_at (line.now ∷ before) }
     {
         let in_code = in_code_after(self.in_code, line);
         let next_word = CODE_START + up_to_room(self.code_offset(), line.code_length());
         if is_region(line) {
-            Place {
+            LocationCounter {
                 in_code,
                 next_word,
                 has_region: true,
@@ -141,7 +141,7 @@ impl Place {
             }
         } else {
             let more = data_length(self.region_bytes, line);
-            Place {
+            LocationCounter {
                 in_code,
                 next_word,
                 has_region: self.has_region,

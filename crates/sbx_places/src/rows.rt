@@ -4,7 +4,7 @@ ghost use Rattle.sbx_asm.specs.Items.{Item, each};
 ghost use Rattle.sbx_places.specs.Rows.{row_at};
 ghost use Rattle.sbx_places.specs.Kept.{place_at};
 
-use crate::place::Place;
+use crate::place::LocationCounter;
 use crate::reading::Line;
 use sbx_directives::Statement;
 use std::alloc::{AllocError, Global};
@@ -19,7 +19,7 @@ pub struct Row {
 }
 
 /// Adds the row of a line at its place, if it has words.
-fn push_row(rows: &mut Vec<Row>, place: Place, line: &Line<'_>) -> Result<(), AllocError>
+fn push_row(rows: &mut Vec<Row>, place: LocationCounter, line: &Line<'_>) -> Result<(), AllocError>
     ensures { IfOk result (λ _. (before after : List Item) → place ≡ place_at before →
         rows.new.items ≡ rows.old.items ++ row_at before line.now after) }
 {
@@ -40,7 +40,7 @@ pub fn rows_of(alloc: Global, lines: &[Line<'_>]) -> Result<Vec<Row>, AllocError
     ensures { IfOk result (λ rows. rows.items ≡ each row_at [] lines.now) }
 {
     let mut rows = Vec::new(alloc);
-    let mut place = Place::start();
+    let mut place = LocationCounter::start();
     for line in lines {
         push_row(&mut rows, place, line)?;
         place = place.after(line);

@@ -5,7 +5,7 @@ ghost use Rattle.sbx_asm.specs.Items.{Item, each, label_names};
 ghost use Rattle.sbx_asm.specs.Addresses.{Label, labelled, labels_at, names_said};
 ghost use Rattle.sbx_places.specs.Kept.{IsSurvey, place_at};
 
-use crate::place::Place;
+use crate::place::LocationCounter;
 use crate::reading::Line;
 use crate::table::Table;
 use sbx_asm::{AsmFault, Cause};
@@ -111,7 +111,7 @@ impl<'a> Survey<'a> {
     }
 
     /// The labels of one more line, at its place.
-    fn add_line(&mut self, place: Place, line: &Line<'a>) -> Result<(), AllocError>
+    fn add_line(&mut self, place: LocationCounter, line: &Line<'a>) -> Result<(), AllocError>
         ensures { IfOk result (λ _. (labels : List Label) (before : List Item) → place ≡ place_at before →
             IsSurvey labels self.old → IsSurvey (labels ++ labels_at before line.now []) self.new) }
     {
@@ -128,7 +128,7 @@ pub fn survey_lines<'a>(alloc: Global, lines: &[Line<'a>]) -> Result<Survey<'a>,
     ensures { IfOk result (λ survey. IsSurvey (each labels_at [] lines.now) survey) }
 {
     let mut survey = Survey::new(alloc);
-    let mut place = Place::start();
+    let mut place = LocationCounter::start();
     for line in lines {
         survey.add_line(place, line)?;
         place = place.after(line);

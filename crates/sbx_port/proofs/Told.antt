@@ -10,7 +10,7 @@ use Rattle.v8_board.specs.Board.{board}
 use Rattle.v8_board.specs.Counting.{counted, counts_after, with_turn}
 use Rattle.v8_board.specs.declared.outcome.Counts.{Counts}
 use Rattle.v8_board.specs.Seen.{State, counts_unless, ending_of, turned}
-use Rattle.v8_board.specs.Runs.{IsCutShort, IsRun, after}
+use Rattle.v8_board.specs.Runs.{IsCutShort, IsRun, state_after}
 use Rattle.sbx_port.specs.Streams.{IsSlice}
 
 -- window overflow, type 5, and underflow, type 6, are counted beside turns
@@ -39,12 +39,12 @@ not_most k less = grind (arith, nat_tests)
 counted_more : (k : ℕ) → k < 2 ^ 64 - 1 → counted k ≡ k + 1
 counted_more k less = ap (λ (b : Bool). if b then k else k + 1) (not_most k less)
 
-turns_counted : (n k : ℕ) (s : State n) → ((j : ℕ) → j < k → ending_of n (after n j s).world ≡ None) → s.counts.turns + k < 2 ^ 64 → (after n k s).counts.turns ≡ s.counts.turns + k
+turns_counted : (n k : ℕ) (s : State n) → ((j : ℕ) → j < k → ending_of n (state_after n j s).world ≡ None) → s.counts.turns + k < 2 ^ 64 → (state_after n k s).counts.turns ≡ s.counts.turns + k
 turns_counted n zero s running small = omega arith
 turns_counted n (suc k) s running small =
     let so_far = turns_counted n k s (λ j less. running j (omega (arith, less))) (omega (arith, small)) in
-    let one = turn_counts n (after n k s) (running k (omega arith)) in
-    let more = counted_more (after n k s).counts.turns (omega (arith, so_far, small)) in
+    let one = turn_counts n (state_after n k s) (running k (omega arith)) in
+    let more = counted_more (state_after n k s).counts.turns (omega (arith, so_far, small)) in
     one ∙ more ∙ (omega (arith, so_far))
 
 -- a run that was cut short, and that the count could tell
@@ -74,7 +74,7 @@ pub slice_goes : (n most counted now : ℕ) (s t : State n) → IsCutShort n mos
 slice_goes n most counted now s t cut small was is empty full = by_count cut.turns.count refl
   where
     by_count : (k : ℕ) → cut.turns.count ≡ k → 0 < now - counted
-    by_count zero none = absurd (full (ap (λ (u : State n). u.world.memory.device.output) (cut.turns.is ∙ ap (λ (i : ℕ). after n i s) none) ∙ empty))
+    by_count zero none = absurd (full (ap (λ (u : State n). u.world.memory.device.output) (cut.turns.is ∙ ap (λ (i : ℕ). state_after n i s) none) ∙ empty))
     by_count (suc k) some =
         let same = cut_counted n most s t cut (λ i less. let few = small i less in omega (arith, few, was)) in
         omega (arith, same, was, is, some)

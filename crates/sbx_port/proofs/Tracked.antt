@@ -8,7 +8,7 @@ use Rattle.std.proofs.KnownBytes.{Appends-trans, Consumes-nil, Consumes-trans}
 use Rattle.v8_core.specs.Ram.{AreBytes}
 use Rattle.v8_board.specs.declared.outcome.Ending.{Ending}
 use Rattle.v8_board.specs.Seen.{State, ending_by, ending_of, turned}
-use Rattle.v8_board.specs.Runs.{Turns, IsRun, after}
+use Rattle.v8_board.specs.Runs.{Turns, IsRun, state_after}
 use Rattle.v8_board.proofs.Running.{Counted, no_turns, one_turn_more}
 use Rattle.sbx_port.specs.Following.{Fine, FollowsOn, beyond, with_input, with_output}
 use Rattle.sbx_port.specs.Ports.{mark, unknown}
@@ -57,17 +57,17 @@ one_grows n s =
     let t = turn_follow n true 0 [] [] d.output (with_output s []) s f tt in
     ((turned n (with_output s [])).1.world.memory.device.output, t.1.device.4)
 
-output_grows : (n k d : ℕ) (s : State n) → (rest : List ℕ) × ((after n (k + d) s).world.memory.device.output ≡ (after n k s).world.memory.device.output ++ rest)
+output_grows : (n k d : ℕ) (s : State n) → (rest : List ℕ) × ((state_after n (k + d) s).world.memory.device.output ≡ (state_after n k s).world.memory.device.output ++ rest)
 output_grows n k zero s =
     let here : k + 0 ≡ k = omega arith in
-    ([], ap (λ (i : ℕ). (after n i s).world.memory.device.output) here ∙ sym (append-nil (after n k s).world.memory.device.output))
+    ([], ap (λ (i : ℕ). (state_after n i s).world.memory.device.output) here ∙ sym (append-nil (state_after n k s).world.memory.device.output))
 output_grows n k (suc d) s =
     let before = output_grows n k d s in
-    let more = one_grows n (after n (k + d) s) in
+    let more = one_grows n (state_after n (k + d) s) in
     let next : k + suc d ≡ suc (k + d) = omega arith in (
       before.0 ++ more.0,
-      ap (λ (i : ℕ). (after n i s).world.memory.device.output) next ∙ more.1 ∙ ap (λ (w : List ℕ). w ++ more.0) before.1
-          ∙ append_assoc (after n k s).world.memory.device.output before.0 more.0,
+      ap (λ (i : ℕ). (state_after n i s).world.memory.device.output) next ∙ more.1 ∙ ap (λ (w : List ℕ). w ++ more.0) before.1
+          ∙ append_assoc (state_after n k s).world.memory.device.output before.0 more.0,
     )
 
 ended_or_not : (o : Option Ending) → (o ≡ None) ⊎ (o ≡ None → ⊥)
@@ -124,15 +124,15 @@ fine_before n false s fine = λ few.
     fine (omega (arith, none))
 
 tracks_turns : (n k c : ℕ) (start : State n) (read : List ℕ) (met : Bool) (w : List ℕ) (s : State n) → Tracks n start k read met w s
-    → ((j : ℕ) → j < c → ending_of n (after n j s).world ≡ None) → Fine met [] (after n c s).world.memory.device → Tracks n start (k + c) read met w (after n c s)
+    → ((j : ℕ) → j < c → ending_of n (state_after n j s).world ≡ None) → Fine met [] (state_after n c s).world.memory.device → Tracks n start (k + c) read met w (state_after n c s)
 tracks_turns n k zero start read met w s tracks running fine =
     let same : k ≡ k + 0 = omega arith in
     subst (λ (i : ℕ). Tracks n start i read met w s) same tracks
 tracks_turns n k (suc c) start read met w s tracks running fine =
-    let before = tracks_turns n k c start read met w s tracks (λ j less. running j (omega (arith, less))) (fine_before n met (after n c s) fine) in
-    let one = tracks_turn n (k + c) start read met w (after n c s) (turned n (after n c s)).1 before (running c (omega arith)) refl fine in
+    let before = tracks_turns n k c start read met w s tracks (λ j less. running j (omega (arith, less))) (fine_before n met (state_after n c s) fine) in
+    let one = tracks_turn n (k + c) start read met w (state_after n c s) (turned n (state_after n c s)).1 before (running c (omega arith)) refl fine in
     let sum : k + c + 1 ≡ k + suc c = omega arith in
-    subst (λ (i : ℕ). Tracks n start i read met w (after n (suc c) s)) sum one
+    subst (λ (i : ℕ). Tracks n start i read met w (state_after n (suc c) s)) sum one
 
 no_front : (c : List ℕ) → unknown ≡ c ++ unknown → c ≡ []
 no_front [] is = refl
@@ -229,7 +229,7 @@ runs_on n k limit start read met w s tracks within = λ j.
       run,
       grown.0,
       ap (λ (u : State n). u.world.memory.device.output) run.turns.is
-          ∙ ap (λ (i : ℕ). (after n i from).world.memory.device.output) sum
+          ∙ ap (λ (i : ℕ). (state_after n i from).world.memory.device.output) sum
           ∙ grown.1
           ∙ ap (λ (u : State n). u.world.memory.device.output ++ grown.0) (sym t.is)
           ∙ ap (λ (p : List ℕ). p ++ grown.0) follows.device.4
@@ -247,9 +247,9 @@ no_lack true input ended lacks = absurd (nothing (sym (ended refl) ∙ lacks))
     nothing is = (let e : length {A = ℕ} [] ≡ length unknown = ap (λ (v : List ℕ). length v) is in omega (arith, e))
 
 -- turns leave a board without input none
-pub nothing_came : (n c : ℕ) (s : State n) → s.world.memory.device.input ≡ [] → (after n c s).world.memory.device.input ≡ []
+pub nothing_came : (n c : ℕ) (s : State n) → s.world.memory.device.input ≡ [] → (state_after n c s).world.memory.device.input ≡ []
 nothing_came n zero s none = none
-nothing_came n (suc c) s none = nothing_comes n (after n c s) (nothing_came n c s none)
+nothing_came n (suc c) s none = nothing_comes n (state_after n c s) (nothing_came n c s none)
 
 pub still_none : (n left : ℕ) (met : Bool) (s t : State n) (told : ℕ) → IsSlice n left s told t → (met ≡ true → s.world.memory.device.input ≡ []) → met ≡ true → t.world.memory.device.input ≡ []
 still_none n left met s t told slice none over =
@@ -368,7 +368,7 @@ comes_nearer n left told lacks now_met s t v before now slice waiting goes fed (
 comes_nearer n left told true now_met s t v before now slice waiting goes fed (inr nothing) =
     let few = slice.few in
     let none : slice.turns.count ≡ 0 = omega (arith, few, nothing) in
-    let same : t ≡ s = slice.turns.is ∙ ap (λ (k : ℕ). after n k s) none in
+    let same : t ≡ s = slice.turns.is ∙ ap (λ (k : ℕ). state_after n k s) none in
     let was : waits s.world.memory.device.input ≡ 1 = ap (λ (u : State n). waits u.world.memory.device.input) (sym same) ∙ ap waits (waiting refl) in
     let now_is = fed_waits n now_met (with_output t []) v before now (fed refl) in
     omega (arith, was, now_is, nothing)

@@ -9,7 +9,7 @@ use Rattle.sbx_image.specs.ImageFault.TheVariants as fault
 use Rattle.sbx_image.specs.Next.{Next}
 use Rattle.sbx_image.specs.Next.TheVariants.{Exactly}
 use Rattle.sbx_image.specs.Parts.{Parts}
-use Rattle.sbx_image.specs.Rules.{◌>>=◌, wants, between, admits, in_order, is_fuel, is_coefficient, is_known, is_version, is_data_length, is_length_behind, Place, code_start}
+use Rattle.sbx_image.specs.Rules.{◌>>=◌, wants, between, admits, in_order, is_fuel, is_coefficient, is_known, is_version, is_data_length, is_length_behind, FunctionsSoFar, code_start}
 use Rattle.sbx_image.specs.Reading.{number_at, number_in, signed_at, bytes_at, items_at, range_at, location_at, cell_at, term_at, block_head_at, block_at}
 use Rattle.sbx_image.specs.Reading.{kind_at, counts_at, bounds_at, function_head_at, function_at, services_at, data_length_at, data_count_at, header_at}
 use Rattle.sbx_image.specs.Reading.{shape_at, shape_of, shapes_at, regions_at, parts_at, reading}
@@ -168,7 +168,8 @@ module _ (more : List ℕ) where
   depth_lasts true bytes = number_in_lasts more w16 0 256 fault.Limit bytes
   depth_lasts false bytes = done_lasts _ _
 
-  pub function_head_lasts : (version end : ℕ) (place : Place) (bytes : List ℕ) → Lasts (grown more) (function_head_at version end place bytes) (function_head_at version end place (bytes ++ more))
+  pub function_head_lasts : (version end : ℕ) (place : FunctionsSoFar) (bytes : List ℕ) →
+      Lasts (grown more) (function_head_at version end place bytes) (function_head_at version end place (bytes ++ more))
   unfolding function_head_at
   function_head_lasts version end place bytes =
       then_lasts _ _ _ _ _ (counts_last bytes) (λ counts.
@@ -177,7 +178,7 @@ module _ (more : List ℕ) where
       then_lasts _ _ _ _ _ (depth_lasts (version == 3) bounds.1) (λ depth.
       then_lasts _ _ _ _ _ (number_in_lasts more w16 1 (4096 - place.1) fault.Limit depth.1) (λ blocks. done_lasts _ _))))))
 
-  function_lasts : (version end : ℕ) (cursor : Place × List ℕ) → Lasts (grown_after more) (function_at version end cursor) (function_at version end (cursor.0, cursor.1 ++ more))
+  function_lasts : (version end : ℕ) (cursor : FunctionsSoFar × List ℕ) → Lasts (grown_after more) (function_at version end cursor) (function_at version end (cursor.0, cursor.1 ++ more))
   unfolding function_at
   function_lasts version end cursor =
       then_lasts _ _ _ _ _ (function_head_lasts version end cursor.0 cursor.1) (λ head.

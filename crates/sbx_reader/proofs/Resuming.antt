@@ -17,7 +17,7 @@ use Rattle.sbx_image.specs.Region.{Region}
 use Rattle.sbx_image.specs.declared.heads.Header.{Header}
 use Rattle.sbx_image.specs.declared.heads.Shape.{Shape}
 use Rattle.sbx_image.specs.declared.heads.FunctionHead.{FunctionHead}
-use Rattle.sbx_image.specs.Rules.{◌>>=◌, wants, Place, code_start}
+use Rattle.sbx_image.specs.Rules.{◌>>=◌, wants, FunctionsSoFar, code_start}
 use Rattle.sbx_image.specs.Reading.{number_at, bytes_at, items_at, range_at, block_at, function_head_at, function_at, header_at, shapes_at, shape_bytes, regions_at, parts_at, reading}
 use Rattle.want.specs.Wants.{refused}
 use Rattle.sbx_reader.specs.declared.stages.Stage.{Stage}
@@ -151,18 +151,18 @@ then_5 : {G H P R B F Z : Type 0} (g : Result G ImageFault) (h : G → Result H 
 then_5 (Ok v) h p r b made k = then_4 (h v) (p v) (r v) (b v) (made v) k
 then_5 (Err e) h p r b made k = refl
 
-functions_then : (version end left : ℕ) (place : Place) (bytes : List ℕ)
+functions_then : (version end left : ℕ) (place : FunctionsSoFar) (bytes : List ℕ)
     → functions_end version end (suc left) place bytes ≡ (function_at version end (place, bytes) >>= λ f. functions_end version end left f.1.0 f.1.1)
 unfolding functions_end items_at
 functions_then version end left place bytes = cases (function_at version end (place, bytes)) where
-  cases : (r : Result (Function × (Place × List ℕ)) ImageFault)
+  cases : (r : Result (Function × (FunctionsSoFar × List ℕ)) ImageFault)
       → ((r >>= λ first. items_at (function_at version end) left first.1 >>= joined first.0) >>= λ functions. wants (length functions.1.1 == 0) fault.Trailing)
       ≡ (r >>= λ f. items_at (function_at version end) left f.1 >>= λ functions. wants (length functions.1.1 == 0) fault.Trailing)
   cases (Ok f) = then_then (items_at (function_at version end) left f.1) (joined f.0) (λ functions. wants (length functions.1.1 == 0) fault.Trailing)
   cases (Err e) = refl
 
 -- a head and its ranges, as the head
-unfoldable pub function_item : ℕ → ℕ → Place → List ℕ → Result (FunctionHead × List ℕ) ImageFault
+unfoldable pub function_item : ℕ → ℕ → FunctionsSoFar → List ℕ → Result (FunctionHead × List ℕ) ImageFault
 function_item version end place bytes = do
   head ← function_head_at version end place bytes
   params ← items_at range_at head.0.params head.1
@@ -176,7 +176,7 @@ function_then : (version end left total : ℕ) (next : Next) (bytes : List ℕ)
     (Blocks version end left (Exactly h.0.entry) (total + h.0.blocks) h.0.blocks) r.1)
 unfolding rest_of function_at
 function_then version end left total next bytes = functions_then version end left (next, total) bytes ∙
-    then_4 {H = FunctionHead × List ℕ} {P = List Range × List ℕ} {R = List Range × List ℕ} {B = List Block × (Next × List ℕ)} {F = Function × (Place × List ℕ)}
+    then_4 {H = FunctionHead × List ℕ} {P = List Range × List ℕ} {R = List Range × List ℕ} {B = List Block × (Next × List ℕ)} {F = Function × (FunctionsSoFar × List ℕ)}
     (function_head_at version end (next, total) bytes) (λ x. items_at range_at x.0.params x.1) (λ x y. items_at range_at x.0.results y.1)
     (λ x y z. items_at (block_at end) x.0.blocks (Exactly x.0.entry, z.1))
     (λ x y z w. (
@@ -215,21 +215,21 @@ function_reads version end left total next = record {
       then_leaves 0 rest_at rest_at params.1 _ _ (ranges_leave head.0.results params.1) (λ results. done_leaves rest_at _)));
 }
 
-pub function_ok : (version end : ℕ) (place : Place) (bytes : List ℕ) (h : FunctionHead × List ℕ) (p r : List Range × List ℕ)
+pub function_ok : (version end : ℕ) (place : FunctionsSoFar) (bytes : List ℕ) (h : FunctionHead × List ℕ) (p r : List Range × List ℕ)
     → function_head_at version end place bytes ≡ Ok h → items_at range_at h.0.params h.1 ≡ Ok p → items_at range_at h.0.results p.1 ≡ Ok r → function_item version end place bytes ≡ Ok (h.0, r.1)
 unfolding function_item
 function_ok version end place bytes h p r eh ep er = rw (eh, ep, er) refl
 
-pub head_err : (version end : ℕ) (place : Place) (bytes : List ℕ) (e : ImageFault) → function_head_at version end place bytes ≡ Err e → function_item version end place bytes ≡ Err e
+pub head_err : (version end : ℕ) (place : FunctionsSoFar) (bytes : List ℕ) (e : ImageFault) → function_head_at version end place bytes ≡ Err e → function_item version end place bytes ≡ Err e
 unfolding function_item
 head_err version end place bytes e p = rw p refl
 
-pub params_err : (version end : ℕ) (place : Place) (bytes : List ℕ) (h : FunctionHead × List ℕ) (e : ImageFault)
+pub params_err : (version end : ℕ) (place : FunctionsSoFar) (bytes : List ℕ) (h : FunctionHead × List ℕ) (e : ImageFault)
     → function_head_at version end place bytes ≡ Ok h → items_at range_at h.0.params h.1 ≡ Err e → function_item version end place bytes ≡ Err e
 unfolding function_item
 params_err version end place bytes h e eh p = rw (eh, p) refl
 
-pub results_err : (version end : ℕ) (place : Place) (bytes : List ℕ) (h : FunctionHead × List ℕ) (q : List Range × List ℕ) (e : ImageFault)
+pub results_err : (version end : ℕ) (place : FunctionsSoFar) (bytes : List ℕ) (h : FunctionHead × List ℕ) (q : List Range × List ℕ) (e : ImageFault)
     → function_head_at version end place bytes ≡ Ok h → items_at range_at h.0.params h.1 ≡ Ok q → items_at range_at h.0.results q.1 ≡ Err e → function_item version end place bytes ≡ Err e
 unfolding function_item
 results_err version end place bytes h q e eh eq p = rw (eh, eq, p) refl
@@ -262,7 +262,7 @@ front_then : (bytes : List ℕ)
     (Functions h.0.version (code_start + 4 * h.0.words) h.0.functions (Exactly code_start) 0) d.1)
 unfolding rest_of reading parts_at functions_end
 front_then bytes = closed (parts_at bytes) ∙
-    then_5 {G = Header × List ℕ} {H = List Shape × List ℕ} {P = List ℕ × List ℕ} {R = List Region × List ℕ} {B = List Function × (Place × List ℕ)} {F = Parts × List ℕ}
+    then_5 {G = Header × List ℕ} {H = List Shape × List ℕ} {P = List ℕ × List ℕ} {R = List Region × List ℕ} {B = List Function × (FunctionsSoFar × List ℕ)} {F = Parts × List ℕ}
     (header_at bytes) (λ v. shapes_at v.0 v.1) (λ v x. items_at (number_at w32) v.0.words x.1) (λ v x y. regions_at x.0 y.1)
     (λ v x y z. items_at (function_at v.0.version (code_start + 4 * v.0.words)) v.0.functions ((Exactly code_start, 0), z.1))
     (λ v x y z w. (record { version = v.0.version; services = v.0.services; words = y.0; regions = z.0; stack_pages = v.0.stack_pages; functions = w.0 }, w.1.1))

@@ -5,14 +5,14 @@ use Rattle.sbx_image.specs.ImageFault.{ImageFault}
 use Rattle.sbx_image.specs.ImageFault.TheVariants as fault
 use Rattle.want.specs.Wants.{refused}
 use Rattle.sbx_image.specs.Next.TheVariants.{Exactly}
-use Rattle.sbx_image.specs.Rules.{◌>>=◌, wants, Place, code_start}
+use Rattle.sbx_image.specs.Rules.{◌>>=◌, wants, FunctionsSoFar, code_start}
 use Rattle.sbx_image.specs.Reading.{bytes_at, items_at, block_at, function_at, reading}
 use Rattle.sbx_reader.specs.declared.stages.Stage.{Stage}
 use Rattle.sbx_reader.specs.declared.stages.Stage.TheVariants.{Front, Body, Functions, Blocks}
 use Rattle.sbx_reader.specs.Fronts.{lasting, front}
 
 -- so many functions, and the end of the bytes
-unfoldable pub functions_end : ℕ → ℕ → ℕ → Place → List ℕ → Result (Unit {0}) ImageFault
+unfoldable pub functions_end : ℕ → ℕ → ℕ → FunctionsSoFar → List ℕ → Result (Unit {0}) ImageFault
 functions_end version end left place bytes = do
   functions ← items_at (function_at version end) left (place, bytes)
   wants (length functions.1.1 == 0) fault.Trailing

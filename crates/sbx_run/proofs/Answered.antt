@@ -9,7 +9,7 @@ use Rattle.v8_board.specs.declared.outcome.Ending.TheVariants.{Exit}
 use Rattle.v8_board.specs.declared.outcome.Outcome.{Outcome}
 use Rattle.v8_board.specs.Calls.{calls_in}
 use Rattle.v8_board.specs.Marks.{page_use_of}
-use Rattle.v8_board.specs.Runs.{GoesOn, IsCutShort, IsRun, Turns, after, outcome_of}
+use Rattle.v8_board.specs.Runs.{GoesOn, IsCutShort, IsRun, Turns, state_after, outcome_of}
 use Rattle.v8_board.specs.Seen.{Seen, State as BoardState, turned}
 use Rattle.v8_board.specs.Start.{IsStart}
 use Rattle.sbx_image.specs.Parts.{Parts}
@@ -95,7 +95,7 @@ module _ (n : ℕ) (parts : Parts) (made start end : BoardState n) (image : IsIm
         state = state;
         run = run;
         told = told;
-        last = e.last ∙ ap (λ k. after n k start) turns;
+        last = e.last ∙ ap (λ k. state_after n k start) turns;
         output = e.output;
         put_out = e.put_out;
         flat = subst (λ (o : Outcome). IsFlatEnd parts n input e.output f.status o) same (subst (λ (w : ℕ). IsFlatEnd parts n input e.output w (outcome_of n end)) status e.flat);
@@ -117,9 +117,9 @@ turn_stays : (n : ℕ) (s : BoardState n) → Stays n s → Stays n (turned n s)
 unfolding turned
 turn_stays n s (state, bytes) = states_stay n s.mmu s.world state bytes
 
-after_stays : (n : ℕ) (s : BoardState n) (k : ℕ) → Stays n s → Stays n (after n k s)
+after_stays : (n : ℕ) (s : BoardState n) (k : ℕ) → Stays n s → Stays n (state_after n k s)
 after_stays n s zero all = all
-after_stays n s (suc k) all = turn_stays n (after n k s) (after_stays n s k all)
+after_stays n s (suc k) all = turn_stays n (state_after n k s) (after_stays n s k all)
 
 pub turns_stay : (n : ℕ) (old new : BoardState n) → Turns n old new → Stays n old → Stays n new
 turns_stay n old new t all = subst (Stays n) (sym t.is) (after_stays n old t.count all)

@@ -10,7 +10,7 @@ use Rattle.v8_board.specs.declared.outcome.Ending.{Ending}
 use Rattle.v8_board.specs.declared.outcome.Ending.TheVariants.{Exit}
 use Rattle.v8_board.specs.declared.outcome.Outcome.{Outcome}
 use Rattle.v8_board.specs.Marks.{page_use_of}
-use Rattle.v8_board.specs.Runs.{IsRun, after, ending_or_limit, outcome_of}
+use Rattle.v8_board.specs.Runs.{IsRun, state_after, ending_or_limit, outcome_of}
 use Rattle.v8_board.specs.Seen.{State as BoardState, ending_by, ending_of}
 use Rattle.v8_board.specs.Start.{IsStart}
 use Rattle.v8_board.proofs.Running.{Counted}
@@ -37,8 +37,8 @@ same_end n limit k start last stop run (t, so_many) within over =
       | inr past ↦
           let more : (k < run.turns.count) ⊎ (k ≡ run.turns.count) = search arith in
           elim more [
-            | inl beyond ↦ absurd (over (ap (λ (s : BoardState n). ending_of n s.world) (t.is ∙ ap (λ j. after n j start) so_many) ∙ run.turns.running k beyond))
-            | inr same ↦ run.turns.is ∙ ap (λ j. after n j start) (sym same ∙ sym so_many) ∙ sym t.is
+            | inl beyond ↦ absurd (over (ap (λ (s : BoardState n). ending_of n s.world) (t.is ∙ ap (λ j. state_after n j start) so_many) ∙ run.turns.running k beyond))
+            | inr same ↦ run.turns.is ∙ ap (λ j. state_after n j start) (sym same ∙ sym so_many) ∙ sym t.is
           ]
     ]
 
@@ -84,10 +84,10 @@ module _ (n : ℕ) (parts : Parts) (made start end : BoardState n) (image : IsIm
       let top = s.3.within_budget c.path f.state c.run in
       let few = c.few.2 in
       let over : ending_of n f.last ≡ Some (Exit f.status) = ended_as n f.last f.status f.over.stopped in
-      let still : ending_of n (after n c.turns start).world ≡ None → ⊥ =
+      let still : ending_of n (state_after n c.turns start).world ≡ None → ⊥ =
       λ none. some_not_none (ending_of n f.last) (Exit f.status) over (ap (λ (b : BoardState n). ending_of n b.world) (sym c.board_stands) ∙ none) in
-      let last : end ≡ after n c.turns start =
-      same_end n (budget parts) c.turns start end (after n c.turns start) run (record { count = c.turns; running = c.going; is = refl }, refl)
+      let last : end ≡ state_after n c.turns start =
+      same_end n (budget parts) c.turns start end (state_after n c.turns start) run (record { count = c.turns; running = c.going; is = refl }, refl)
       (omega arith) still in
       let stands = last ∙ c.board_stands in
       let outcome : outcome_of n end ≡ record { ending = Exit f.status; turns = c.turns; overflows = c.overflows; underflows = c.underflows } =
@@ -107,14 +107,14 @@ module _ (n : ℕ) (parts : Parts) (made start end : BoardState n) (image : IsIm
           underflows = ap (λ (o : Outcome). o.underflows) outcome ∙ sym (ap (λ (t : Traffic). t.underflows) c.traffic_is);
           within = omega (arith, so_many);
         };
-        last = last ∙ ap (λ k. after n k start) (sym so_many);
+        last = last ∙ ap (λ k. state_after n k start) (sym so_many);
         own = record {
           path = c.path;
           last = f.state;
           word = f.status;
           run = c.run;
           exit = f.over.exit;
-          each = subst (λ k. (j : ℕ) → j < k → IsTurnBeside n parts earlier c.path c.run.0 f.state j (after n j start)) (sym so_many) c.each;
+          each = subst (λ k. (j : ℕ) → j < k → IsTurnBeside n parts earlier c.path c.run.0 f.state j (state_after n j start)) (sym so_many) c.each;
           pages = subst (λ (b : BoardState n). UsesOwnPages parts (page_use_of b.world.memory.ram)) (sym stands) (uses_own parts f.last.memory.ram f.over.marks);
         };
       }

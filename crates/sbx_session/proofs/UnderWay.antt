@@ -14,7 +14,7 @@ use Rattle.v8_board.specs.declared.outcome.Ending.{Ending}
 use Rattle.v8_board.specs.declared.outcome.Ending.TheVariants.{Exit}
 use Rattle.v8_board.specs.declared.outcome.Outcome.{Outcome}
 use Rattle.v8_board.specs.Contains.{Contains, Keeps}
-use Rattle.v8_board.specs.Runs.{IsRun, Turns, after, ending_or_limit, outcome_of}
+use Rattle.v8_board.specs.Runs.{IsRun, Turns, state_after, ending_or_limit, outcome_of}
 use Rattle.v8_board.specs.Seen.{State, ending_by, ending_of, turned}
 use Rattle.v8_board.specs.Start.{IsStart, contents_of, pages_of}
 use Rattle.v8_board.proofs.Running.{Counted, one_turn_more}
@@ -54,17 +54,17 @@ one_grows n s =
     let t = turn_follow n true 0 [] [] d.output (with_output s []) s f tt in
     ((turned n (with_output s [])).1.world.memory.device.output, t.1.device.4)
 
-output_grows : (n k d : ℕ) (s : State n) → (rest : List ℕ) × ((after n (k + d) s).world.memory.device.output ≡ (after n k s).world.memory.device.output ++ rest)
+output_grows : (n k d : ℕ) (s : State n) → (rest : List ℕ) × ((state_after n (k + d) s).world.memory.device.output ≡ (state_after n k s).world.memory.device.output ++ rest)
 output_grows n k zero s =
     let here : k + 0 ≡ k = omega arith in
-    ([], ap (λ (i : ℕ). (after n i s).world.memory.device.output) here ∙ sym (append-nil (after n k s).world.memory.device.output))
+    ([], ap (λ (i : ℕ). (state_after n i s).world.memory.device.output) here ∙ sym (append-nil (state_after n k s).world.memory.device.output))
 output_grows n k (suc d) s =
     let before = output_grows n k d s in
-    let more = one_grows n (after n (k + d) s) in
+    let more = one_grows n (state_after n (k + d) s) in
     let next : k + suc d ≡ suc (k + d) = omega arith in (
       before.0 ++ more.0,
-      ap (λ (i : ℕ). (after n i s).world.memory.device.output) next ∙ more.1 ∙ ap (λ (w : List ℕ). w ++ more.0) before.1
-          ∙ append_assoc (after n k s).world.memory.device.output before.0 more.0,
+      ap (λ (i : ℕ). (state_after n i s).world.memory.device.output) next ∙ more.1 ∙ ap (λ (w : List ℕ). w ++ more.0) before.1
+          ∙ append_assoc (state_after n k s).world.memory.device.output before.0 more.0,
     )
 
 ended_or_not : (o : Option Ending) → (o ≡ None) ⊎ (o ≡ None → ⊥)
@@ -121,7 +121,7 @@ runs_on n k limit start read met w s tracks within = λ j.
       run,
       grown.0,
       ap (λ (u : State n). u.world.memory.device.output) run.turns.is
-          ∙ ap (λ (i : ℕ). (after n i from).world.memory.device.output) sum
+          ∙ ap (λ (i : ℕ). (state_after n i from).world.memory.device.output) sum
           ∙ grown.1
           ∙ ap (λ (u : State n). u.world.memory.device.output ++ grown.0) (sym t.is)
           ∙ ap (λ (p : List ℕ). p ++ grown.0) follows.device.4

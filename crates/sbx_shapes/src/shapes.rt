@@ -2,7 +2,7 @@
 use crate::reasons::StatementReason;
 use sbx_text::Token;
 use v8_forms::{Field, Part, Range, Row, forms, suffixes};
-use v8_syntax::{NameKind, Word, is_same, sign_byte, word_of};
+use v8_syntax::{NameKind, StatementToken, is_same, sign_byte, statement_token};
 
 /// What doesn't fit: the number of the token, which may be that behind the last, and what is wanted in its place.
 #[derive(Clone, Copy)]
@@ -28,21 +28,21 @@ fn missed(at: usize, wanted: StatementReason) -> Reached {
 
 impl<'l> Operands<'l> {
     /// What a token is.
-    pub(crate) fn word(self, at: usize) -> Option<Word> {
+    pub(crate) fn word(self, at: usize) -> Option<StatementToken> {
         let token = self.tokens.get(at)?;
-        Some(word_of(self.line, token))
+        Some(statement_token(self.line, token))
     }
 
     /// Whether a token is that sign.
     pub(crate) fn is_sign(self, at: usize, sign: u8) -> bool {
         match self.word(at) {
-            Some(Word::Sign(found)) => found == sign,
+            Some(StatementToken::Sign(found)) => found == sign,
             _ => false,
         }
     }
 
     fn is_number(self, at: usize) -> bool {
-        matches!(self.word(at), Some(Word::Number(_)))
+        matches!(self.word(at), Some(StatementToken::Number(_)))
     }
 
     /// A sign.
@@ -56,14 +56,14 @@ impl<'l> Operands<'l> {
 
     fn register(self, at: usize) -> Reached {
         match self.word(at) {
-            Some(Word::Register(_)) => Ok(at.saturating_add(1)),
+            Some(StatementToken::Register(_)) => Ok(at.saturating_add(1)),
             _ => missed(at, StatementReason::WantsRegister),
         }
     }
 
     fn state(self, at: usize) -> Reached {
         match self.word(at) {
-            Some(Word::Special(_)) => Ok(at.saturating_add(1)),
+            Some(StatementToken::Special(_)) => Ok(at.saturating_add(1)),
             _ => missed(at, StatementReason::WantsState),
         }
     }
@@ -83,10 +83,10 @@ impl<'l> Operands<'l> {
     fn expression(self, at: usize, wanted: StatementReason) -> Reached {
         let next = at.saturating_add(1);
         match self.word(at) {
-            Some(Word::Number(_)) => Ok(next),
-            Some(Word::Name(..)) => Ok(self.symbol(at)),
-            Some(Word::Sign(b'-')) if self.is_number(next) => Ok(next.saturating_add(1)),
-            Some(Word::Sign(b'-')) => missed(next, StatementReason::WantsNumber),
+            Some(StatementToken::Number(_)) => Ok(next),
+            Some(StatementToken::Name(..)) => Ok(self.symbol(at)),
+            Some(StatementToken::Sign(b'-')) if self.is_number(next) => Ok(next.saturating_add(1)),
+            Some(StatementToken::Sign(b'-')) => missed(next, StatementReason::WantsNumber),
             _ => missed(at, wanted),
         }
     }
@@ -147,7 +147,7 @@ impl<'l> Operands<'l> {
     /// Whether `,a` stands there, which annuls.
     fn annuls(self, at: usize) -> bool {
         let name = self.word(at.saturating_add(1));
-        self.is_sign(at, b',') && matches!(name, Some(Word::Name(NameKind::Annul, _, _)))
+        self.is_sign(at, b',') && matches!(name, Some(StatementToken::Name(NameKind::Annul, _, _)))
     }
 
     fn branch(self, at: usize) -> Reached {
@@ -278,10 +278,10 @@ impl Operands<'_> {
         let first = if self.annuls(0) { 2 } else { 0 };
         for at in first..self.tokens.len() {
             match self.word(at) {
-                Some(Word::Number(_)) if self.is_sign(at.saturating_sub(1), b'-') => {
+                Some(StatementToken::Number(_)) if self.is_sign(at.saturating_sub(1), b'-') => {
                     return at.saturating_sub(1);
                 }
-                Some(Word::Number(_) | Word::Name(..)) => return at,
+                Some(StatementToken::Number(_) | StatementToken::Name(..)) => return at,
                 _ => {}
             }
         }

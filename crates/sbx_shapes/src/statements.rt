@@ -5,7 +5,7 @@ use crate::reasons::{Mark, Reason, StatementReason};
 use crate::shapes::{Operands, form_of, is_branch, range_of};
 use sbx_text::{Kind, Token};
 use v8_forms::{Part, Range};
-use v8_syntax::{NameKind, Symbols, SyntaxFault, Word, bytes_between, sign_byte};
+use v8_syntax::{NameKind, StatementToken, Symbols, SyntaxFault, bytes_between, sign_byte};
 
 /// A mark at a token, or behind the last one.
 fn mark_at(tokens: &[Token], at: usize, reason: Reason) -> Mark {
@@ -43,9 +43,9 @@ fn range_reason(range: Range) -> StatementReason {
 }
 
 /// Why a symbol is unknown.
-fn symbol_reason(word: Option<Word>) -> StatementReason {
+fn symbol_reason(word: Option<StatementToken>) -> StatementReason {
     match word {
-        Some(Word::Name(NameKind::Place, _, _)) => StatementReason::BareDot,
+        Some(StatementToken::Name(NameKind::Place, _, _)) => StatementReason::BareDot,
         _ => StatementReason::UnknownSymbol,
     }
 }
@@ -56,8 +56,8 @@ fn number_behind(operands: Operands<'_>, sign: usize) -> i128
     ensures high { result ≤ℤ pos 18446744073709551615 }
 {
     match operands.word(sign.saturating_add(1)) {
-        Some(Word::Number(number)) if operands.is_sign(sign, b'-') => -i128::from(number),
-        Some(Word::Number(number)) => i128::from(number),
+        Some(StatementToken::Number(number)) if operands.is_sign(sign, b'-') => -i128::from(number),
+        Some(StatementToken::Number(number)) => i128::from(number),
         _ => 0,
     }
 }
@@ -67,12 +67,12 @@ fn distance<S: Symbols>(operands: Operands<'_>, at: usize, symbols: &S) -> Optio
     let next = at.saturating_add(1);
     let here = i128::from(symbols.here());
     let target = match operands.word(at) {
-        Some(Word::Name(NameKind::Place, _, _)) => here + number_behind(operands, next),
-        Some(Word::Name(_, start, stop)) => {
+        Some(StatementToken::Name(NameKind::Place, _, _)) => here + number_behind(operands, next),
+        Some(StatementToken::Name(_, start, stop)) => {
             let word = symbols.value(bytes_between(operands.line, start, stop))?;
             i128::from(word) + number_behind(operands, next)
         }
-        Some(Word::Number(number)) => i128::from(number),
+        Some(StatementToken::Number(number)) => i128::from(number),
         _ => number_behind(operands, at),
     };
     if target < 0 || target > 0xffff_ffff {

@@ -12,7 +12,7 @@ use Rattle.v8_core.specs.declared.turn.Turn.{Turn}
 use Rattle.v8_core.specs.Accesses.{World}
 use Rattle.v8_core.specs.Steps.{goes_on, next, skipped, turn_of}
 use Rattle.v8_loaded.specs.Board.{Device, board}
-use Rattle.v8_loaded.specs.Turns.{after, turn_at}
+use Rattle.v8_loaded.specs.Turns.{world_after, turn_at}
 use Rattle.v8_loaded.specs.Users.{AsksFor}
 use Rattle.v8_board.specs.declared.outcome.Counts.{Counts}
 use Rattle.v8_board.specs.Counting.{counted, counts_after, with_turn}
@@ -100,9 +100,9 @@ module _ (n : ℕ) (parts : Parts) (mmu : MmuRegs) (x : World n Device) (s : Sta
   one_advances to one traffic = record {
     next_state = one.next_state;
     step = step_of one.fresh one.next_state one.is_fresh one.goes;
-    going = λ k less. let e : 0 ≡ k = omega arith in subst (λ q. ending_of n (after board n mmu q x) ≡ None) e (not_ended n x h.shows.device.running h.shows.control.sane);
+    going = λ k less. let e : 0 ≡ k = omega arith in subst (λ q. ending_of n (world_after board n mmu q x) ≡ None) e (not_ended n x h.shows.device.running h.shows.control.sane);
     own = λ k less. let e : 0 ≡ k = omega arith in subst (λ q. IsOwnTurn parts s (turn_at board n mmu q x)) e (one_own to one);
-    moments = λ k less. let e : 0 ≡ k = omega arith in subst (λ q. IsMoment n parts (after board n mmu q x) s) e (inr (r, h.shows));
+    moments = λ k less. let e : 0 ≡ k = omega arith in subst (λ q. IsMoment n parts (world_after board n mmu q x) s) e (inr (r, h.shows));
     counts = λ c small a b. ap (λ e. counts_after e c) (one_ran to one) ∙ turn_counts c (omega arith);
     traffic = λ o u k. traffic_of (so_many r o u k) ∙ traffic o u k ∙ no_traps to o u (k + 1);
     ends = inl (one_shows to one);
@@ -153,9 +153,9 @@ annulled_advances n parts mmu x s r h annul =
     record {
       next_state = t;
       step = annulled_step parts s h.going annul;
-      going = λ k less. let e : 0 ≡ k = omega arith in subst (λ q. ending_of n (after board n mmu q x) ≡ None) e (not_ended n x h.device.running a.sane);
+      going = λ k less. let e : 0 ≡ k = omega arith in subst (λ q. ending_of n (world_after board n mmu q x) ≡ None) e (not_ended n x h.device.running a.sane);
       own = λ k less. let e : 0 ≡ k = omega arith in subst (λ q. IsOwnTurn parts s (turn_at board n mmu q x)) e (subst (IsOwnTurn parts s) (sym turn_is) mine);
-      moments = λ k less. let e : 0 ≡ k = omega arith in subst (λ q. IsMoment n parts (after board n mmu q x) s) e (inr (r, h));
+      moments = λ k less. let e : 0 ≡ k = omega arith in subst (λ q. IsMoment n parts (world_after board n mmu q x) s) e (inr (r, h));
       counts = λ k small d b. ap (λ (t : Turn). counts_after t.event k) turn_is ∙ turn_counts k (omega arith);
       traffic = λ o u k. annulled_traffic parts n s (so_many r o u k) annul ∙ no_traps r o u (k + 1);
       ends = inl (subst (λ (w : World n Device). Shows n parts w t r) (sym (ap (λ (p : Turn × World n Device). p.1) told)) shown);

@@ -10,8 +10,8 @@ use Rattle.v8_core.specs.Instr.{Instr}
 use Rattle.v8_core.specs.Instr.TheVariants.{Undefined}
 use Rattle.v8_core.specs.Operand.{Operand}
 use Rattle.v8_core.specs.Operand.TheVariants.{Register, Immediate}
-use Rattle.v8_core.specs.Place.{Place}
-use Rattle.v8_core.specs.Place.TheVariants as places
+use Rattle.v8_core.specs.AlternateOperand.{AlternateOperand}
+use Rattle.v8_core.specs.AlternateOperand.TheVariants as places
 use Rattle.v8_core.specs.Three.{Three}
 use Rattle.v8_core.specs.Two.{Two}
 use Rattle.v8_core.specs.Spaces.{is_normal}
@@ -86,7 +86,7 @@ found_in P (r ∷ rows) w all none = one_of P (matches r w) (r.gives w) (lookup 
 memory_in : (w : ℕ) → MemoryIn (normal (three w))
 memory_in w = record { destination = omega arith; first = omega arith; second = λ e. second_in w (is_immediate w) }
 
-not_normal : (p : Place) → is_normal (space_of p) ≡ true → ⊥
+not_normal : (p : AlternateOperand) → is_normal (space_of p) ≡ true → ⊥
 not_normal (places.Register r asi) e = cc
 not_normal (places.Immediate n) e = cc
 

@@ -13,7 +13,7 @@ use Rattle.v8_core.specs.Accesses.{World}
 use Rattle.v8_loaded.specs.Board.{Device, board}
 use Rattle.v8_loaded.specs.Areas.{HasRoom, area_of}
 use Rattle.v8_loaded.specs.Places.{entered_window}
-use Rattle.v8_loaded.specs.Turns.{after}
+use Rattle.v8_loaded.specs.Turns.{world_after}
 use Rattle.v8_loaded.specs.Users.{AsksFor}
 use Rattle.v8_spill.specs.Laws.{Handled, Overflows, Spilled, spilled_window, stack_pointer}
 use Rattle.v8_spill.proofs.Law.{overflow_law}
@@ -40,7 +40,7 @@ module _ (n : ℕ) (parts : Parts) (mmu : MmuRegs) (x : World n Device) (s : Sta
   old = x.memory.ram
 
   abbrev end : World n Device
-  end = after board n mmu 24 x
+  end = world_after board n mmu 24 x
 
   entered_is : entered_window n x.cpu ≡ window n c r
   entered_is = let e : n - 1 ≡ r = omega arith in below_is n c h.file.few ∙ ap (window n c) e

@@ -15,7 +15,7 @@ use Rattle.v8_core.specs.declared.turn.Turn.{Turn}
 use Rattle.v8_core.specs.Accesses.{World, is_user}
 use Rattle.v8_core.specs.Steps.{attempts, ends, goes_on, next, tries}
 use Rattle.v8_loaded.specs.Board.{Device, board}
-use Rattle.v8_loaded.specs.Turns.{IsHandlers, ReachesArea, after, turn_at}
+use Rattle.v8_loaded.specs.Turns.{IsHandlers, ReachesArea, world_after, turn_at}
 use Rattle.v8_loaded.specs.Users.{AsksFor, IsHandled}
 use Rattle.v8_spill.specs.Laws.{stack_pointer}
 use Rattle.v8_refill.specs.Laws.{stack_pointer as filled_pointer}
@@ -144,7 +144,7 @@ all_counts n mmu x c t o u (suc k) trap ran first less small =
 module _ (n : ℕ) (parts : Parts) (mmu : MmuRegs) (x : World n Device) (s : State) (r i : ℕ) (h : Stands n parts mmu x s r i) (op : Operation)
     (is : AsksFor parts.words i op) (admitted : is_admitted op ≡ true) (moves : moves_window op ≡ true)
     (t sp j : ℕ) (store : Bool) (handled : IsHandled n parts.words mmu x i t sp store) (own_trap : IsOwnEvent parts (Trapped t)) (open_call : j < depth s.registers) (at : sp ≡ base s.registers j)
-    (mid windows : ℕ) (shown : Stands n parts mmu (after board n mmu 24 x) s mid i) (one : OneTurn n parts mmu (after board n mmu 24 x) s op windows) where
+    (mid windows : ℕ) (shown : Stands n parts mmu (world_after board n mmu 24 x) s mid i) (one : OneTurn n parts mmu (world_after board n mmu 24 x) s op windows) where
   turns : (k : ℕ) → k < 23 → IsHandlers (base s.registers j) 64 store (turn_at board n mmu (suc k) x)
   turns k less = subst (λ q. IsHandlers q 64 store (turn_at board n mmu (suc k) x)) at (handled.turns k less)
 
@@ -156,12 +156,12 @@ module _ (n : ℕ) (parts : Parts) (mmu : MmuRegs) (x : World n Device) (s : Sta
       let split : (k < 23) ⊎ (k ≡ 23) = search arith in
       elim split [
         | inl before ↦ (turns k before).event
-        | inr last ↦ ap (λ q. (turn_at board n mmu (suc q) x).event) last ∙ one_ran n parts mmu (after board n mmu 24 x) s mid i shown op is admitted windows one
+        | inr last ↦ ap (λ q. (turn_at board n mmu (suc q) x).event) last ∙ one_ran n parts mmu (world_after board n mmu 24 x) s mid i shown op is admitted windows one
       ]
 
-  all_going : (k : ℕ) → k < 25 → ending_of n (after board n mmu k x) ≡ None
+  all_going : (k : ℕ) → k < 25 → ending_of n (world_after board n mmu k x) ≡ None
   all_going zero less = going_by n mmu x (Trapped t) first_event refl
-  all_going (suc k) less = going_by n mmu (after board n mmu (suc k) x) Ran (later_event k (omega arith)) refl
+  all_going (suc k) less = going_by n mmu (world_after board n mmu (suc k) x) Ran (later_event k (omega arith)) refl
 
   at_move : StandsAtMove parts s
   at_move = (word n parts mmu x s r i h, here n parts mmu x s r i h, subst (λ o. moves_window o ≡ true) (sym is) moves)
@@ -174,17 +174,17 @@ module _ (n : ℕ) (parts : Parts) (mmu : MmuRegs) (x : World n Device) (s : Sta
   all_own (suc k) less =
       let split : (k < 23) ⊎ (k ≡ 23) = search arith in
       elim split [
-        | inl before ↦ handlers_own n parts mmu (pages_of parts).stack_count s j store (after board n mmu (suc k) x) at_move h.shows.stacked open_call (turns k before)
-        | inr last ↦ subst (λ q. IsOwnTurn parts s (turn_at board n mmu (suc q) x)) (sym last) (one_own n parts mmu (after board n mmu 24 x) s mid i shown op is admitted windows one)
+        | inl before ↦ handlers_own n parts mmu (pages_of parts).stack_count s j store (world_after board n mmu (suc k) x) at_move h.shows.stacked open_call (turns k before)
+        | inr last ↦ subst (λ q. IsOwnTurn parts s (turn_at board n mmu (suc q) x)) (sym last) (one_own n parts mmu (world_after board n mmu 24 x) s mid i shown op is admitted windows one)
       ]
 
-  all_moments : (k : ℕ) → k < 25 → IsMoment n parts (after board n mmu k x) s
+  all_moments : (k : ℕ) → k < 25 → IsMoment n parts (world_after board n mmu k x) s
   all_moments zero less = inr (r, h.shows)
   all_moments (suc k) less =
       let split : (k < 23) ⊎ (k ≡ 23) = search arith in
       elim split [
-        | inl before ↦ inl (system_before n mmu (after board n mmu (suc k) x) (turns k before).system)
-        | inr last ↦ subst (λ q. IsMoment n parts (after board n mmu (suc q) x) s) (sym last) (inr (mid, shown.shows))
+        | inl before ↦ inl (system_before n mmu (world_after board n mmu (suc k) x) (turns k before).system)
+        | inr last ↦ subst (λ q. IsMoment n parts (world_after board n mmu (suc q) x) s) (sym last) (inr (mid, shown.shows))
       ]
 
   pub retried_advances : (o u : ℕ) → ((c : Counts) → c.turns < 2 ^ 64 - 1 → c.overflows ≤ c.turns → c.underflows ≤ c.turns → counts_after (Trapped t) c ≡ more c 1 o u) →
@@ -197,7 +197,7 @@ module _ (n : ℕ) (parts : Parts) (mmu : MmuRegs) (x : World n Device) (s : Sta
     moments = all_moments;
     counts = λ c small a b. all_counts n mmu x c t o u 24 first_event later_event (first c (omega arith) a b) (omega arith) small;
     traffic = λ p q k. traffic_of n parts mmu x s r i h op is admitted (so_many r p q k) ∙ traffic p q k;
-    ends = inl (one_shows n parts mmu (after board n mmu 24 x) s mid i shown op is admitted windows one);
+    ends = inl (one_shows n parts mmu (world_after board n mmu 24 x) s mid i shown op is admitted windows one);
   }
 
 -- ---- SAVE and RESTORE
@@ -210,9 +210,9 @@ saves_overflow n parts mmu x s r i f h is good full =
     let handled = spilling.handled n parts mmu x s r i h f is full in
     let shown = spilling.overflow_shows n parts mmu x s r i h f is full in
     let pointer = spilling.pointer_is n parts mmu x s r i h f is full in
-    let after_it : Stands n parts mmu (after board n mmu 24 x) s (r - 1) i = record { fits = h.fits; root = h.root; shows = shown; straight = h.straight; place = h.place; within = h.within } in
+    let after_it : Stands n parts mmu (world_after board n mmu 24 x) s (r - 1) i = record { fits = h.fits; root = h.root; shows = shown; straight = h.straight; place = h.place; within = h.within } in
     let back : suc (r - 1) ≡ r = omega arith in
-    let one = subst (λ q. OneTurn n parts mmu (after board n mmu 24 x) s (Save f) q) back (save_turn n parts mmu (after board n mmu 24 x) s (r - 1) i after_it f is good (omega arith)) in (
+    let one = subst (λ q. OneTurn n parts mmu (world_after board n mmu 24 x) s (Save f) q) back (save_turn n parts mmu (world_after board n mmu 24 x) s (r - 1) i after_it f is good (omega arith)) in (
       first_event n parts mmu x s r i h (Save f) is refl refl 5 (stack_pointer n x.cpu) (r - 1) true handled.turns refl (omega arith) pointer (r - 1) r after_it one,
       shown,
       retried_advances n parts mmu x s r i h (Save f) is refl refl 5 (stack_pointer n x.cpu) (r - 1) true handled.turns refl (omega arith) pointer (r - 1) r after_it one 1 0
@@ -230,8 +230,8 @@ restores_underflow n parts mmu x s i f h is good =
     let handled = filling.handled n parts mmu x s i h f is two in
     let shown = filling.underflow_shows n parts mmu x s i h f is two in
     let pointer = filling.pointer_is n parts mmu x s i h f is two in
-    let after_it : Stands n parts mmu (after board n mmu 24 x) s 2 i = record { fits = h.fits; root = h.root; shows = shown; straight = h.straight; place = h.place; within = h.within } in
-    let one = restore_turn n parts mmu (after board n mmu 24 x) s 2 i after_it f is good (omega arith) in (
+    let after_it : Stands n parts mmu (world_after board n mmu 24 x) s 2 i = record { fits = h.fits; root = h.root; shows = shown; straight = h.straight; place = h.place; within = h.within } in
+    let one = restore_turn n parts mmu (world_after board n mmu 24 x) s 2 i after_it f is good (omega arith) in (
       first_event n parts mmu x s 1 i h (Restore f) is refl refl 6 (filled_pointer n x.cpu) 1 false handled.turns refl two pointer 2 1 after_it one,
       shown,
       retried_advances n parts mmu x s 1 i h (Restore f) is refl refl 6 (filled_pointer n x.cpu) 1 false handled.turns refl two pointer 2 1 after_it one 0 1

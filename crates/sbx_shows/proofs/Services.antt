@@ -14,7 +14,7 @@ use Rattle.v8_loaded.specs.Layout.{IsLoaded}
 use Rattle.v8_layout.proofs.Marks.{system_markable}
 use Rattle.v8_loaded.specs.Board.{Device, board, gets, got_from}
 use Rattle.v8_loaded.specs.Input.{next_byte}
-use Rattle.v8_loaded.specs.Turns.{Leads, after, turn_at}
+use Rattle.v8_loaded.specs.Turns.{Leads, world_after, turn_at}
 use Rattle.v8_loaded.specs.Users.{RunsUser}
 use Rattle.v8_loaded.proofs.Fetches.{device_kept as device_loaded, table_kept}
 use Rattle.v8_loaded.proofs.Windows.{below_within}
@@ -203,17 +203,17 @@ IsOwnRun parts event = IsOwnEvent parts event × (event ≡ Annulled → ⊥)
 
 module _ (n : ℕ) (parts : Parts) (mmu : MmuRegs) (s : State) (fits : length parts.words ≤ 65536) (events : List Event) (x new : World n Device) (leads : Leads n (pages_of parts) mmu x events new)
     (plain : AllByRecursion IsOneTurn events) (own : AllByRecursion (IsOwnRun parts) events) where
-  led_going : (k : ℕ) → k < length events → ending_of n (after board n mmu k x) ≡ None
+  led_going : (k : ℕ) → k < length events → ending_of n (world_after board n mmu k x) ≡ None
   led_going k less =
       let e = event_at IsOneTurn events k less plain in
       let t = leads.turns k e.0 e.1 in
-      not_ended n (after board n mmu k x) t.running t.sane
+      not_ended n (world_after board n mmu k x) t.running t.sane
 
   led_own : (k : ℕ) → k < length events → IsOwnTurn parts s (turn_at board n mmu k x)
   led_own k less =
       let e = event_at (IsOwnRun parts) events k less own in
       let t = leads.turns k e.0 e.1 in
-      touching_own parts s (turn_at board n mmu k x) fits (subst (IsOwnEvent parts) (sym t.tells) e.2.0) (λ annul. e.2.1 (sym t.tells ∙ annul)) t.touches (no_word n mmu (after board n mmu k x))
+      touching_own parts s (turn_at board n mmu k x) fits (subst (IsOwnEvent parts) (sym t.tells) e.2.0) (λ annul. e.2.1 (sym t.tells ∙ annul)) t.touches (no_word n mmu (world_after board n mmu k x))
 
   led_counts : (c : Counts) (k : ℕ) → k ≤ length events → c.turns + k ≤ 2 ^ 64 - 1 → counts_by n mmu x k c ≡ more c k 0 0
   led_counts c zero most small = counts_are c.turns c.overflows c.underflows (c.turns + 0) (c.overflows + 0) (c.underflows + 0) (omega arith) (omega arith) (omega arith)
@@ -355,7 +355,7 @@ module _ (n : ℕ) (parts : Parts) (mmu : MmuRegs) (x : World n Device) (s : Sta
 
   -- ---- each as a step
 
-  moments_of : (count : ℕ) → ((k : ℕ) → k < count → (after board n mmu (suc k) x).cpu.control.s ≡ true) → (k : ℕ) → k < suc count → IsMoment n parts (after board n mmu k x) s
+  moments_of : (count : ℕ) → ((k : ℕ) → k < count → (world_after board n mmu (suc k) x).cpu.control.s ≡ true) → (k : ℕ) → k < suc count → IsMoment n parts (world_after board n mmu k x) s
   moments_of count system zero less = inr (r, shown)
   moments_of count system (suc k) less = inl (system k (omega arith))
 

@@ -12,7 +12,7 @@ use Rattle.v8_core.specs.Accesses.{World}
 use Rattle.v8_loaded.specs.Board.{Device, board}
 use Rattle.v8_loaded.specs.Areas.{HasFrame, area_of}
 use Rattle.v8_loaded.specs.Places.{entered_window}
-use Rattle.v8_loaded.specs.Turns.{after}
+use Rattle.v8_loaded.specs.Turns.{world_after}
 use Rattle.v8_loaded.specs.Users.{AsksFor}
 use Rattle.v8_refill.specs.Laws.{Handled, Refilled, Underflows, next_window, stack_pointer}
 use Rattle.v8_refill.proofs.Law.{underflow_law}
@@ -39,7 +39,7 @@ module _ (n : ℕ) (parts : Parts) (mmu : MmuRegs) (x : World n Device) (s : Sta
   old = x.memory.ram
 
   abbrev end : World n Device
-  end = after board n mmu 24 x
+  end = world_after board n mmu 24 x
 
   entered_is : entered_window n x.cpu ≡ window n c (n - 1)
   entered_is = below_is n c h.file.few

@@ -4,7 +4,7 @@ use Rattle.std.specs.Prelude.{ℕ, zero, suc, ◌≡◌, ◌⊎◌, ◌+◌, ◌
 use Rattle.v8_core.specs.MmuRegs.{MmuRegs}
 use Rattle.v8_core.specs.Accesses.{World}
 use Rattle.v8_loaded.specs.Board.{Device, board}
-use Rattle.v8_loaded.specs.Turns.{after, turn_at}
+use Rattle.v8_loaded.specs.Turns.{world_after, turn_at}
 use Rattle.v8_board.specs.declared.outcome.Counts.{Counts}
 use Rattle.v8_board.specs.Counting.{counts_after}
 use Rattle.v8_board.specs.Seen.{ending_of}
@@ -41,13 +41,13 @@ pub record Advances (n : ℕ) (parts : Parts) (mmu : MmuRegs) (x : World n Devic
     (r count overflows underflows windows : ℕ) : Type 0 where
   pub next_state : State
   pub step : Step parts s next_state
-  pub going : (k : ℕ) → k < count → ending_of n (after board n mmu k x) ≡ None
+  pub going : (k : ℕ) → k < count → ending_of n (world_after board n mmu k x) ≡ None
   pub own : (k : ℕ) → k < count → IsOwnTurn parts s (turn_at board n mmu k x)
-  pub moments : (k : ℕ) → k < count → IsMoment n parts (after board n mmu k x) s
+  pub moments : (k : ℕ) → k < count → IsMoment n parts (world_after board n mmu k x) s
   pub counts : (c : Counts) → c.turns + count ≤ 2 ^ 64 - 1 → c.overflows ≤ c.turns → c.underflows ≤ c.turns →
       counts_by n mmu x count c ≡ more c count overflows underflows
   pub traffic : (o u k : ℕ) →
       after_place parts n (place_of parts s) (so_many r o u k) ≡
       so_many windows (o + overflows) (u + underflows) (k + count)
-  pub ends : Shows n parts (after board n mmu count x) next_state windows
-      ⊎ ((status : ℕ) × Over n parts (after board n mmu count x) next_state status)
+  pub ends : Shows n parts (world_after board n mmu count x) next_state windows
+      ⊎ ((status : ℕ) × Over n parts (world_after board n mmu count x) next_state status)

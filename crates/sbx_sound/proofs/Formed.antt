@@ -26,7 +26,7 @@ use Rattle.sbx_image.specs.Services.{Services}
 use Rattle.sbx_image.specs.Reading.{block_at, block_head_at, bounds_at, cell_at, counts_at, data_count_at, data_length_at, function_at, function_head_at}
 use Rattle.sbx_image.specs.Reading.{header_at, items_at, kind_at, location_at, number_at, number_in, parts_at, range_at, reading, regions_at, services_at}
 use Rattle.sbx_image.specs.Reading.{shape_at, shape_of, shapes_at, signed_at, term_at}
-use Rattle.sbx_image.specs.Rules.{◌>>=◌, Place, admits, code_start, in_order, is_coefficient, is_fuel, is_known, is_version, is_data_length, is_length_behind}
+use Rattle.sbx_image.specs.Rules.{◌>>=◌, FunctionsSoFar, admits, code_start, in_order, is_coefficient, is_fuel, is_known, is_version, is_data_length, is_length_behind}
 use Rattle.sbx_image.specs.Spelling.{IsBytes, IsTyped, IsTypedBlock, IsTypedCell, IsTypedFunction, IsTypedRange, IsTypedRegion, IsTypedTerm}
 use Rattle.sbx_image.proofs.Fields.{bind_ok, bytes_take, is_between, number_in_takes, number_takes, ok_is, wanted, wide16, wide32, wide64, wide8}
 use Rattle.sbx_image.proofs.TakesLaws.{reading_takes}
@@ -198,7 +198,7 @@ depth_typed true bytes x fits e =
     (omega (arith, few), t.0.rest_fits)
 depth_typed false bytes x fits e = subst (λ (y : ℕ × List ℕ). (y.0 < 2 ^ 16) × IsBytes y.1) (ok_is (0, bytes) x e) (omega arith, fits)
 
-function_head_typed : (version end : ℕ) (place : Place) (bytes : List ℕ) (x : FunctionHead × List ℕ) → IsBytes bytes →
+function_head_typed : (version end : ℕ) (place : FunctionsSoFar) (bytes : List ℕ) (x : FunctionHead × List ℕ) → IsBytes bytes →
     function_head_at version end place bytes ≡ Ok x → (x.0.entry < 2 ^ 32) × (x.0.depth < 2 ^ 16) × IsBytes x.1
 unfolding function_head_at
 function_head_typed version end place bytes x fits e =
@@ -229,7 +229,7 @@ function_head_typed version end place bytes x fits e =
     ) in
     subst (λ (y : FunctionHead × List ℕ). (y.0.entry < 2 ^ 32) × (y.0.depth < 2 ^ 16) × IsBytes y.1) (ok_is made x blocks.2) (t1.typed, t3.0, t4.0.rest_fits)
 
-function_typed : (version end : ℕ) (c : Place × List ℕ) (x : Function × (Place × List ℕ)) → IsBytes c.1 → function_at version end c ≡ Ok x → IsTypedFunction x.0 × IsBytes x.1.1
+function_typed : (version end : ℕ) (c : FunctionsSoFar × List ℕ) (x : Function × (FunctionsSoFar × List ℕ)) → IsBytes c.1 → function_at version end c ≡ Ok x → IsTypedFunction x.0 × IsBytes x.1.1
 unfolding function_at
 function_typed version end c x fits e =
     let head = bind_ok _ _ _ e in
@@ -240,7 +240,7 @@ function_typed version end c x fits e =
     let p = items_typed range_at (λ y. y) IsTypedRange range_typed head.0.0.params head.0.1 params.0 h.2 params.1 in
     let r = items_typed range_at (λ y. y) IsTypedRange range_typed head.0.0.results params.0.1 results.0 p.1 results.1 in
     let b = items_typed (block_at end) (λ y. y.1) IsTypedBlock (block_typed end) head.0.0.blocks (Exactly head.0.0.entry, results.0.1) blocks.0 r.1 blocks.1 in
-    let made : Function × (Place × List ℕ) = (
+    let made : Function × (FunctionsSoFar × List ℕ) = (
       record {
         kind = head.0.0.kind;
         params = params.0.0;
@@ -255,7 +255,8 @@ function_typed version end c x fits e =
       },
       ((blocks.0.1.0, c.0.1 + head.0.0.blocks), blocks.0.1.1),
     ) in
-    subst (λ (y : Function × (Place × List ℕ)). IsTypedFunction y.0 × IsBytes y.1.1) (ok_is made x blocks.2) (record { entry = h.0; params = p.0; results = r.0; depth = h.1; blocks = b.0 }, b.1)
+    subst (λ (y : Function × (FunctionsSoFar × List ℕ)). IsTypedFunction y.0 × IsBytes y.1.1) (ok_is made x blocks.2)
+    (record { entry = h.0; params = p.0; results = r.0; depth = h.1; blocks = b.0 }, b.1)
 
 -- ---- the whole
 

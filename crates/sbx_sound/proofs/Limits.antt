@@ -6,7 +6,7 @@ use Rattle.std.specs.Int.{cast_unsigned, w32}
 use Rattle.std.proofs.lemmas.Bool.Decides.{nat_tests}
 use Rattle.std.proofs.lemmas.Int.{ints}
 use Rattle.v8_alu.specs.Results.{signed}
-use Rattle.sbx_image.specs.Rules.{block_keeps, cell_keeps, code_start, each, function_keeps, is_fuel, parts_keep, range_keeps, ranges_keep, Place}
+use Rattle.sbx_image.specs.Rules.{block_keeps, cell_keeps, code_start, each, function_keeps, is_fuel, parts_keep, range_keeps, ranges_keep, FunctionsSoFar}
 use Rattle.sbx_image.specs.Spelling.{IsTyped, IsTypedBlock, IsTypedCell, IsTypedFunction, IsTypedRange, IsTypedTerm}
 use Rattle.sbx_image.specs.ImageFault.{ImageFault}
 use Rattle.sbx_image.specs.Next.{Next}
@@ -118,7 +118,7 @@ pub record IsGoodFunction (f : Function) : Type 0 where
   pub budget : f.budget ≤ 1099511627775
   pub blocks : AllByRecursion IsGoodBlock f.blocks
 
-good_function : (version end : ℕ) (place : Place) (f : Function) (t : Place) → function_keeps version end place f ≡ Ok t → IsTypedFunction f → IsGoodFunction f
+good_function : (version end : ℕ) (place : FunctionsSoFar) (f : Function) (t : FunctionsSoFar) → function_keeps version end place f ≡ Ok t → IsTypedFunction f → IsGoodFunction f
 good_function version end place f t e typed =
     let k = function_kept version end place f t e in
     record {

@@ -15,7 +15,7 @@ use Rattle.v8_formats.specs.declared.instr.Instr.TheVariants.{Undefined}
 use Rattle.v8_meaning.specs.Operations.{operation_of, second_of}
 use Rattle.sbx_flat.specs.Turns.{asked}
 use Rattle.v8_formats.specs.declared.instr.Operand.TheVariants as operands
-use Rattle.v8_formats.specs.declared.instr.Place.TheVariants as places
+use Rattle.v8_formats.specs.declared.instr.AlternateOperand.TheVariants as places
 
 -- ---- which fields these are
 

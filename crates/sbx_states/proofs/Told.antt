@@ -8,14 +8,14 @@ use Rattle.v8_core.specs.Accesses.{World}
 use Rattle.v8_core.specs.Cpu.{Cpu}
 use Rattle.v8_core.specs.Meaning.{Meaning}
 use Rattle.v8_core.specs.MmuRegs.{MmuRegs}
-use Rattle.v8_core.specs.Steps.{next}
+use Rattle.v8_core.specs.Steps.{next, world_after}
 use Rattle.v8_core.specs.Walked.{root_of}
 use Rattle.v8_core.specs.declared.turn.Turn.{Turn}
 use Rattle.sbx_states.specs.declared.shown.Shown.{Shown}
 use Rattle.sbx_states.specs.Columns.{shown_of}
 use Rattle.v8_core.specs.Windows.{Windows}
 use Rattle.sbx_states.specs.Lines.{IsLine, Known, end_line, known_of, start_line, told_registers}
-use Rattle.sbx_states.specs.Runs.{BeginsNext, BeginsStates, IsPart, IsStates, Made, TellsNext, TellsTurns, ToldRun, ToldSome, ToldTurn, after, begun, is_over}
+use Rattle.sbx_states.specs.Runs.{BeginsNext, BeginsStates, IsPart, IsStates, Made, TellsNext, TellsTurns, ToldRun, ToldSome, ToldTurn, begun, is_over}
 
 -- some turns, and the lines that tell them were written
 pub record Telling {D : Type 0} (m : Meaning D) (n : ℕ) (mmu : MmuRegs) (old now : World n D) (k : ℕ) (known told : Known) (first last : Option (List ℕ)) : Type 0 where
@@ -37,14 +37,14 @@ made_more {D} m n mmu old mid new k made going is = record {
       let split : (j < k) ⊎ (j ≡ k) = search arith in
       elim split [
         | inl before ↦ made.running j before
-        | inr same ↦ ap (λ (i : ℕ). is_over m n (after m n mmu i old)) same ∙ ap (λ (s : World n D). is_over m n s) (sym made.is) ∙ going
+        | inr same ↦ ap (λ (i : ℕ). is_over m n (world_after m n mmu i old)) same ∙ ap (λ (s : World n D). is_over m n s) (sym made.is) ∙ going
       ];
   is = sym is ∙ ap (λ (s : World n D). (next m n mmu s).1) made.is;
 }
 
 -- the line of the turn that comes next, behind so many
-next_line : {D : Type 0} (m : Meaning D) (n : ℕ) (mmu : MmuRegs) (old mid : World n D) (k : ℕ) (known told : Known) (text : List ℕ) → mid ≡ after m n mmu k old
-    → TellsNext m n mmu (k + 1) mid known told text → TellsNext m n mmu (suc k) (after m n mmu k old) known told text
+next_line : {D : Type 0} (m : Meaning D) (n : ℕ) (mmu : MmuRegs) (old mid : World n D) (k : ℕ) (known told : Known) (text : List ℕ) → mid ≡ world_after m n mmu k old
+    → TellsNext m n mmu (k + 1) mid known told text → TellsNext m n mmu (suc k) (world_after m n mmu k old) known told text
 next_line {D} m n mmu old mid k known told text there tells =
     let P : World n D → Type 0 = λ s. TellsNext m n mmu (suc k) s known told text in
     let Q : ℕ → Type 0 = λ j. TellsNext m n mmu j mid known told text in

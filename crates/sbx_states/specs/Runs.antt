@@ -8,7 +8,7 @@ use Rattle.v8_core.specs.PortFault.{PortFault}
 use Rattle.v8_core.specs.PortFault.TheVariants as faults
 use Rattle.v8_core.specs.Meaning.{Meaning}
 use Rattle.v8_core.specs.MmuRegs.{MmuRegs}
-use Rattle.v8_core.specs.Steps.{next}
+use Rattle.v8_core.specs.Steps.{next, world_after}
 use Rattle.v8_core.specs.Walked.{root_of}
 use Rattle.v8_core.specs.declared.turn.Turn.{Turn}
 use Rattle.sbx_states.specs.Columns.{shown_of}
@@ -17,11 +17,6 @@ use Rattle.sbx_states.specs.Lines.{IsLine, Known, end_line, start_line, told_reg
 -- the device has stopped the machine, or it is in error mode
 abbrev pub is_over : {D : Type 0} → Meaning D → (n : ℕ) → World n D → Bool
 is_over m n w = is_some (m.stopped w.memory.device) || is_some w.cpu.control.error
-
--- the world after so many turns
-abbrev pub after : {D : Type 0} → Meaning D → (n : ℕ) → MmuRegs → ℕ → World n D → World n D
-after m n mmu zero w = w
-after m n mmu (suc k) w = (next m n mmu (after m n mmu k w)).1
 
 -- the text is the line of the turn that comes next
 abbrev pub TellsNext : {D : Type 0} → Meaning D → (n : ℕ) → MmuRegs → ℕ → World n D → Known → Known → List ℕ → Type 0
@@ -34,7 +29,7 @@ unfoldable pub TellsTurns : {D : Type 0} → Meaning D → (n : ℕ) → MmuRegs
     Type 0
 TellsTurns m n mmu w known zero told text = (told ≡ known) × (text ≡ [])
 TellsTurns m n mmu w known (suc k) told text = (mid : Known) × (before : List ℕ) × (last : List ℕ)
-    × TellsTurns m n mmu w known k mid before × TellsNext m n mmu (suc k) (after m n mmu k w) mid told last
+    × TellsTurns m n mmu w known k mid before × TellsNext m n mmu (suc k) (world_after m n mmu k w) mid told last
     × (text ≡ before ++ last)
 
 -- A turn was made, and its line was written.
@@ -59,8 +54,8 @@ ToldSome m n mmu number old known before now = (front : List ℕ) × BeginsNext 
 
 -- so many turns, before none of which the machine was over
 pub record Made {D : Type 0} (m : Meaning D) (n : ℕ) (mmu : MmuRegs) (old new : World n D) (count : ℕ) : Type 0 where
-  pub running : (j : ℕ) → j < count → is_over m n (after m n mmu j old) ≡ false
-  pub is : new ≡ after m n mmu count old
+  pub running : (j : ℕ) → j < count → is_over m n (world_after m n mmu j old) ≡ false
+  pub is : new ≡ world_after m n mmu count old
 
 -- A run of at most so many turns was made, which stops before the limit only where the machine is over, and the lines
 -- of its turns were written.

@@ -3,4 +3,4 @@
 
 mod stops;
 
-pub use stops::{Ended, Full, Stop};
+pub use stops::{CommandStop, Ended, Full};

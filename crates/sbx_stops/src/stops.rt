@@ -18,7 +18,7 @@ use want::Want;
 
 /// Why a command stops before its job is done. Its text is its line on standard error.
 #[derive(Clone, Copy)]
-pub enum Stop {
+pub enum CommandStop {
     /// The source means no image.
     Source(AsmFault),
     /// The bytes of the file are no image.
@@ -67,15 +67,15 @@ impl Full {
     }
 }
 
-impl Stop {
+impl CommandStop {
     /// What an error of a file or a stream stops with: want of memory where it is of the kind `OutOfMemory`, else the
     /// stop that is given.
-    pub fn of(error: &io::Error, other: Stop) -> Stop
+    pub fn of(error: &io::Error, other: CommandStop) -> CommandStop
         ensures no_room { error_kind error.now ≡ ErrorKind.OutOfMemory → HasNoRoom result }
         ensures other { error_kind error.now ≢ ErrorKind.OutOfMemory → result ≡ other }
     {
         match Full::of(error) {
-            Some(full) => Stop::NoRoom(full),
+            Some(full) => CommandStop::NoRoom(full),
             None => other,
         }
     }
@@ -86,9 +86,9 @@ impl Stop {
         ensures { result ≡ status_of self }
     {
         match self {
-            Stop::Source(_) | Stop::Image(_) | Stop::Refused(_) => 2,
-            Stop::File | Stop::Input | Stop::Output => 4,
-            Stop::Memory(_) | Stop::NoRoom(_) => 5,
+            CommandStop::Source(_) | CommandStop::Image(_) | CommandStop::Refused(_) => 2,
+            CommandStop::File | CommandStop::Input | CommandStop::Output => 4,
+            CommandStop::Memory(_) | CommandStop::NoRoom(_) => 5,
         }
     }
 
@@ -117,52 +117,52 @@ impl Stop {
     }
 }
 
-impl Display for Stop {
+impl Display for CommandStop {
     ghost output = { λ s. Some (line_of s) };
 
     fn fmt<W: Write>(&self, f: &mut Formatter<W>) -> fmt::Result {
         match self {
-            Stop::Source(fault) => write!(f, "{fault}"),
-            Stop::Image(fault) => write!(f, "image {fault}"),
-            Stop::Refused(refusal) => write!(f, "{refusal}"),
-            Stop::File => f.write_str("file"),
-            Stop::Input => f.write_str("input"),
-            Stop::Output => f.write_str("output"),
-            Stop::Memory(_) | Stop::NoRoom(_) => f.write_str("memory"),
+            CommandStop::Source(fault) => write!(f, "{fault}"),
+            CommandStop::Image(fault) => write!(f, "image {fault}"),
+            CommandStop::Refused(refusal) => write!(f, "{refusal}"),
+            CommandStop::File => f.write_str("file"),
+            CommandStop::Input => f.write_str("input"),
+            CommandStop::Output => f.write_str("output"),
+            CommandStop::Memory(_) | CommandStop::NoRoom(_) => f.write_str("memory"),
         }
     }
 }
 
-impl From<ImageFault> for Stop {
+impl From<ImageFault> for CommandStop {
     ghost from_gives = { λ fault stop. stop ≡ stop_of_image fault };
 
-    fn from(fault: ImageFault) -> Stop {
+    fn from(fault: ImageFault) -> CommandStop {
         match fault {
-            ImageFault::Memory(want) => Stop::Memory(want),
-            fault => Stop::Image(fault),
+            ImageFault::Memory(want) => CommandStop::Memory(want),
+            fault => CommandStop::Image(fault),
         }
     }
 }
 
-impl From<AsmFault> for Stop {
+impl From<AsmFault> for CommandStop {
     ghost from_gives = { λ fault stop. stop ≡ stop_of_source fault };
 
-    fn from(fault: AsmFault) -> Stop {
+    fn from(fault: AsmFault) -> CommandStop {
         match fault.cause {
-            Cause::Memory(want) => Stop::Memory(want),
-            _ => Stop::Source(fault),
+            Cause::Memory(want) => CommandStop::Memory(want),
+            _ => CommandStop::Source(fault),
         }
     }
 }
 
-impl From<RunFault> for Stop {
+impl From<RunFault> for CommandStop {
     ghost from_gives = { λ fault stop. stop ≡ stop_of_run fault };
 
-    fn from(fault: RunFault) -> Stop {
+    fn from(fault: RunFault) -> CommandStop {
         match fault {
-            RunFault::Memory(want) => Stop::Memory(want),
-            RunFault::Reader => Stop::Input,
-            RunFault::Writer => Stop::Output,
+            RunFault::Memory(want) => CommandStop::Memory(want),
+            RunFault::Reader => CommandStop::Input,
+            RunFault::Writer => CommandStop::Output,
         }
     }
 }

@@ -7,7 +7,7 @@ use Rattle.sbx_image.specs.Parts.{Parts}
 use Rattle.v8_core.specs.declared.turn.Turn.{Turn}
 use Rattle.v8_board.specs.declared.outcome.Ending.{Ending}
 use Rattle.v8_board.specs.Seen.{State, ending_of, turned}
-use Rattle.v8_board.specs.Runs.{after}
+use Rattle.v8_board.specs.Runs.{state_after}
 use Rattle.v8_board.proofs.Running.{Counted, no_turns, one_turn_more}
 use Rattle.sbx_put.specs.Fronts.{Wrote, WroteSome}
 use Rattle.sbx_put.proofs.Written.{kept_after, nothing_written, some_after, written_after}
@@ -40,9 +40,9 @@ one_told_more : (n : ℕ) (functions : List Function) (old mid new : State n) (k
     → Appends b c line → Telling n functions old new (k + 1) a c
 unfolding TellsTurns
 one_told_more n functions old mid new k turn a b c line (counted, (text, told, so_far)) going is tells grown =
-    let there : mid ≡ after n k old = counted.0.is ∙ ap (λ (j : ℕ). after n j old) counted.1 in
-    let made : turn ≡ (turned n (after n k old)).0 = sym (ap (λ (x : Turn × State n). x.0) is) ∙ ap (λ (s : State n). (turned n s).0) there in
-    let last : TellsTurn functions (suc k) (turned n (after n k old)).0 line =
+    let there : mid ≡ state_after n k old = counted.0.is ∙ ap (λ (j : ℕ). state_after n j old) counted.1 in
+    let made : turn ≡ (turned n (state_after n k old)).0 = sym (ap (λ (x : Turn × State n). x.0) is) ∙ ap (λ (s : State n). (turned n s).0) there in
+    let last : TellsTurn functions (suc k) (turned n (state_after n k old)).0 line =
     subst (λ (t : Turn). TellsTurn functions (suc k) t line) made (subst (λ (j : ℕ). TellsTurn functions j turn line) (add-one k) tells) in (
       one_turn_more n k old mid new turn counted going is,
       (
@@ -161,8 +161,8 @@ turns_begun : (n : ℕ) (functions : List Function) (limit k : ℕ) (old mid : S
 unfolding TellsTurns
 turns_begun n functions limit k old mid a b c (counted, (text, told, so_far)) going less (line, tells, some) =
     let next = one_turn_more n k old mid (turned n mid).1 (turned n mid).0 counted going refl in
-    let there : mid ≡ after n k old = counted.0.is ∙ ap (λ (j : ℕ). after n j old) counted.1 in
-    let last : TellsTurn functions (suc k) (turned n (after n k old)).0 line =
+    let there : mid ≡ state_after n k old = counted.0.is ∙ ap (λ (j : ℕ). state_after n j old) counted.1 in
+    let last : TellsTurn functions (suc k) (turned n (state_after n k old)).0 line =
     subst (λ (s : State n). TellsTurn functions (suc k) (turned n s).0 line) there (subst (λ (j : ℕ). TellsTurn functions j (turned n mid).0 line) (add-one k) tells) in
     record {
       reached = (turned n mid).1;
@@ -189,7 +189,7 @@ more_told n functions s k zero text told =
     ([], subst (λ (j : ℕ). TellsTurns n functions s j (text ++ [])) here (subst (λ (t : List ℕ). TellsTurns n functions s k t) (sym (append-nil text)) told))
 more_told n functions s k (suc d) text told =
     let (before, tells) = more_told n functions s k d text told in
-    let head : List ℕ = head_text functions (suc (k + d)) (turned n (after n (k + d) s)).0 in
+    let head : List ℕ = head_text functions (suc (k + d)) (turned n (state_after n (k + d) s)).0 in
     let next : suc (k + d) ≡ k + suc d = omega arith in (
       before ++ head,
       subst (λ (j : ℕ). TellsTurns n functions s j (text ++ (before ++ head))) next

@@ -6,7 +6,7 @@ use Rattle.sbx_image.specs.Parts.{Parts}
 use Rattle.v8_core.specs.declared.turn.Turn.{Turn}
 use Rattle.v8_board.specs.declared.outcome.Ending.{Ending}
 use Rattle.v8_board.specs.Seen.{State, ending_of, turned}
-use Rattle.v8_board.specs.Runs.{IsRun, Turns, after}
+use Rattle.v8_board.specs.Runs.{IsRun, Turns, state_after}
 use Rattle.std.specs.Io.KnownBytes.{Appends}
 use Rattle.sbx_put.specs.Fronts.{Begins, Wrote, WroteSome}
 use Rattle.sbx_raw.specs.declared.fault.RunFault.{RunFault}
@@ -23,7 +23,7 @@ TellsTurn functions number turn text = (rest : List ℕ) × (text ≡ head_text 
 unfoldable pub TellsTurns : (n : ℕ) → List Function → State n → ℕ → List ℕ → Type 0
 TellsTurns n functions s zero text = text ≡ []
 TellsTurns n functions s (suc k) text = (before : List ℕ) × (last : List ℕ) × TellsTurns n functions s k before
-    × TellsTurn functions (suc k) (turned n (after n k s)).0 last × (text ≡ before ++ last)
+    × TellsTurn functions (suc k) (turned n (state_after n k s)).0 last × (text ≡ before ++ last)
 
 -- the line behind the turns of a run that the limit cut short; none of one that has ended
 abbrev pub last_text : ℕ → Option Ending → List ℕ

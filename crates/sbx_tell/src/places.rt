@@ -9,7 +9,7 @@ use v8_map::{CODE_END, CODE_START, HANDLERS, PAGE, TRAP_TABLE};
 /// Where an instruction stands, by its byte offset in a part of the code. It is shown as `f2+1C`, `vector 82+4`,
 /// `overflow+0`, `underflow+0`, or `-` where no code is.
 #[derive(Clone, Copy)]
-pub enum Place {
+pub enum CodePlace {
     /// In a function of the image, counted from 0.
     Function { number: usize, offset: u32 },
     /// In the vector of a trap type.
@@ -23,11 +23,11 @@ pub enum Place {
 }
 
 /// A function by its number, where it begins at or before an address; else the place found before.
-fn nearer(before: Place, number: usize, function: &Function, address: u32) -> Place
+fn nearer(before: CodePlace, number: usize, function: &Function, address: u32) -> CodePlace
     ensures { result ≡ nearer before number function.now address }
 {
     if function.entry <= address {
-        Place::Function {
+        CodePlace::Function {
             number,
             offset: address - function.entry,
         }
@@ -38,10 +38,10 @@ fn nearer(before: Place, number: usize, function: &Function, address: u32) -> Pl
 
 /// The function that an address of code is in: the last one that begins at or before it. They stand in the order of
 /// their addresses.
-fn function_from(functions: &[Function], address: u32) -> Place
+fn function_from(functions: &[Function], address: u32) -> CodePlace
     ensures { result ≡ function_from functions.now address }
 {
-    let mut place = Place::Elsewhere;
+    let mut place = CodePlace::Elsewhere;
     let mut number = 0;
     for function in functions {
         place = nearer(place, number, function, address);
@@ -52,39 +52,39 @@ fn function_from(functions: &[Function], address: u32) -> Place
 
 /// The place of an address: user code, the trap table with four words a vector, or the page of window handlers, in
 /// which the one of underflow begins at byte 80 (hexadecimal).
-pub fn place_of(functions: &[Function], address: u32) -> Place
+pub fn place_of(functions: &[Function], address: u32) -> CodePlace
     ensures { result ≡ place_of functions.now address }
 {
     if address >= CODE_START && address < CODE_END {
         function_from(functions, address)
     } else if address / PAGE == TRAP_TABLE / PAGE {
-        Place::Vector {
+        CodePlace::Vector {
             trap: address % PAGE / 16,
             offset: address % 16,
         }
     } else if address / PAGE == HANDLERS / PAGE && address % PAGE < 0x80 {
-        Place::Overflow {
+        CodePlace::Overflow {
             offset: address % PAGE,
         }
     } else if address / PAGE == HANDLERS / PAGE {
-        Place::Underflow {
+        CodePlace::Underflow {
             offset: address % PAGE - 0x80,
         }
     } else {
-        Place::Elsewhere
+        CodePlace::Elsewhere
     }
 }
 
-impl Display for Place {
+impl Display for CodePlace {
     ghost output = { λ p. Some (place_text p) };
 
     fn fmt<W: Write>(&self, f: &mut Formatter<W>) -> fmt::Result {
         match *self {
-            Place::Function { number, offset } => write!(f, "f{number}+{offset:X}"),
-            Place::Vector { trap, offset } => write!(f, "vector {trap:02X}+{offset:X}"),
-            Place::Overflow { offset } => write!(f, "overflow+{offset:X}"),
-            Place::Underflow { offset } => write!(f, "underflow+{offset:X}"),
-            Place::Elsewhere => f.write_str("-"),
+            CodePlace::Function { number, offset } => write!(f, "f{number}+{offset:X}"),
+            CodePlace::Vector { trap, offset } => write!(f, "vector {trap:02X}+{offset:X}"),
+            CodePlace::Overflow { offset } => write!(f, "overflow+{offset:X}"),
+            CodePlace::Underflow { offset } => write!(f, "underflow+{offset:X}"),
+            CodePlace::Elsewhere => f.write_str("-"),
         }
     }
 }

@@ -8,7 +8,7 @@ use Rattle.sbx_text.specs.declared.fault.TextFault.{TextFault}
 use Rattle.sbx_text.specs.declared.fault.TextFault.TheVariants.{LineTooLong}
 use Rattle.sbx_text.specs.declared.scanning.Step.{Step}
 use Rattle.sbx_text.specs.declared.scanning.Step.TheVariants.{Stop, Skip, Emit, Refuse}
-use Rattle.sbx_text.specs.Tokens.{tokens_at, tokens_of, front, after, before}
+use Rattle.sbx_text.specs.Tokens.{tokens_at, tokens_of, front, tokens_behind, before}
 use Rattle.sbx_text.specs.Slices.{AreSlices, at_end, at_comment, after_blank, after_token}
 use Rattle.sbx_text.proofs.Fronts.{StopsAt, SkipsAt, Sound, front_sound}
 
@@ -39,7 +39,7 @@ emit_case at n kind bytes (Ok us) ts s goes e =
     subst (λ (xs : List Token). AreSlices at bytes xs) whole (subst (λ (xs : List ℕ). AreSlices at xs (t ∷ us)) (take-append-drop n bytes) moved)
 
 step_case : (k at : ℕ) (bytes : List ℕ) (ts : List Token) (s : Step) → length bytes ≤ suc k → ((a : ℕ) (bs : List ℕ) (us : List Token) → length bs ≤ k → tokens_at k a bs ≡ Ok us → AreSlices a bs us)
-    → Sound bytes s → after (tokens_at k) at bytes s ≡ Ok ts → AreSlices at bytes ts
+    → Sound bytes s → tokens_behind (tokens_at k) at bytes s ≡ Ok ts → AreSlices at bytes ts
 step_case k at bytes ts Stop room goes s e = subst (λ (xs : List Token). AreSlices at bytes xs) (ok-injective [] ts e) (stop_case at bytes s)
 step_case k at bytes ts Skip room goes s e = skip_case k at bytes ts room goes s e
 step_case k at bytes ts (Emit kind n) room goes s e =

@@ -89,18 +89,19 @@ abbrev pub before : Token → Result (List Token) TextFault → Result (List Tok
 before t (Ok ts) = Ok (t ∷ ts)
 before t (Err f) = Err f
 
-abbrev pub after : (ℕ → List ℕ → Result (List Token) TextFault) → ℕ → List ℕ → Step → Result (List Token) TextFault
-after next at bytes Stop = Ok []
-after next at bytes Skip = next (at + 1) (drop 1 bytes)
-after next at bytes (Emit kind n) =
+abbrev pub tokens_behind : (ℕ → List ℕ → Result (List Token) TextFault) → ℕ → List ℕ → Step →
+    Result (List Token) TextFault
+tokens_behind next at bytes Stop = Ok []
+tokens_behind next at bytes Skip = next (at + 1) (drop 1 bytes)
+tokens_behind next at bytes (Emit kind n) =
     before (record { kind = kind; start = at; stop = at + n }) (next (at + n) (drop n bytes))
-after next at bytes (Refuse f) = Err f
+tokens_behind next at bytes (Refuse f) = Err f
 
 -- the tokens of some bytes of a line, the first of which is the byte at a place, or the leftmost fault; in so many
 -- steps
 unfoldable pub tokens_at : ℕ → ℕ → List ℕ → Result (List Token) TextFault
 tokens_at zero at bytes = Ok []
-tokens_at (suc k) at bytes = after (tokens_at k) at bytes (front bytes)
+tokens_at (suc k) at bytes = tokens_behind (tokens_at k) at bytes (front bytes)
 
 -- a line is at most 1,024 bytes long; each step reads at least one byte
 abbrev pub tokens_of : List ℕ → Result (List Token) TextFault

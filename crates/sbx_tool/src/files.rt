@@ -1,5 +1,5 @@
 //! Files by their paths.
-use sbx_command::{Stop, exit_status};
+use sbx_command::{CommandStop, exit_status};
 use sbx_words::Job;
 use std::fs::File;
 use std::io::{Read, Write};
@@ -8,10 +8,10 @@ use std::{fs, io};
 use want::Want;
 
 /// The file at a path, to be read.
-fn opened(rt: &HostRuntime, path: &str) -> Result<File, Stop> {
+fn opened(rt: &HostRuntime, path: &str) -> Result<File, CommandStop> {
     match fs::open(rt, path) {
         Ok(file) => Ok(file),
-        Err(error) => Err(Stop::of(&error, Stop::File)),
+        Err(error) => Err(CommandStop::of(&error, CommandStop::File)),
     }
 }
 
@@ -34,7 +34,7 @@ pub fn done_on(
     path: &str,
     mut input: &mut dyn Read,
     mut out: &mut dyn Write,
-) -> Result<u8, Stop> {
+) -> Result<u8, CommandStop> {
     match opened(rt, path) {
         Ok(mut file) => Ok(status_on(rt, job, &mut file, &mut input, &mut out)),
         Err(stop) => Err(stop),
@@ -92,10 +92,10 @@ fn replaced(
 /// Makes the file at a path, or replaces it, with all bytes. A plain file is whole or as it was: it is written beside,
 /// to the path with `.part` behind it, and renamed. What else is at the path, as a device, a pipe or a link, is opened
 /// and written.
-pub fn stored(rt: &HostRuntime, path: &str, bytes: &[u8]) -> Result<(), Stop> {
+pub fn stored(rt: &HostRuntime, path: &str, bytes: &[u8]) -> Result<(), CommandStop> {
     let beside = match format!(in rt.alloc(); "{path}.part") {
         Ok(beside) => beside,
-        Err(error) => return Err(Stop::Memory(Want::from(error))),
+        Err(error) => return Err(CommandStop::Memory(Want::from(error))),
     };
     let written = match made_beside(rt, path, beside.as_str()) {
         Some(file) => replaced(rt, file, beside.as_str(), path, bytes),
@@ -103,6 +103,6 @@ pub fn stored(rt: &HostRuntime, path: &str, bytes: &[u8]) -> Result<(), Stop> {
     };
     match written {
         Ok(()) => Ok(()),
-        Err(error) => Err(Stop::of(&error, Stop::Output)),
+        Err(error) => Err(CommandStop::of(&error, CommandStop::Output)),
     }
 }

@@ -8,7 +8,7 @@ mod files;
 use assembling::assemble_to;
 use conversing::converse;
 use files::done_on;
-use sbx_command::{Full, Stop};
+use sbx_command::{CommandStop, Full};
 use sbx_files::hold_streams;
 use sbx_words::{Job, Usage, read_words};
 use std::alloc::AllocError;
@@ -23,10 +23,10 @@ const USAGE: u8 = 3;
 const MEMORY: u8 = 5;
 
 /// Does a job on the file at `path`, from standard input to standard output, which is kept until there is much of it.
-fn on_streams(rt: &HostRuntime, job: &Job<'_>, path: &str) -> Result<u8, Stop> {
+fn on_streams(rt: &HostRuntime, job: &Job<'_>, path: &str) -> Result<u8, CommandStop> {
     let mut out = match BufWriter::new(rt.alloc(), rt.stdout()) {
         Ok(out) => out,
-        Err(error) => return Err(Stop::of(&error, Stop::Output)),
+        Err(error) => return Err(CommandStop::of(&error, CommandStop::Output)),
     };
     done_on(rt, job, path, &mut rt.stdin(), &mut out)
 }
@@ -41,7 +41,7 @@ fn words_of(rt: &HostRuntime) -> io::Result<Vec<String>> {
 }
 
 /// Does a job.
-fn do_job(rt: &HostRuntime, job: &Job<'_>) -> Result<u8, Stop> {
+fn do_job(rt: &HostRuntime, job: &Job<'_>) -> Result<u8, CommandStop> {
     match *job {
         Job::Asm { source, object } => assemble_to(rt, job, source, object),
         Job::Run { image, .. } => converse(rt, job, image),
@@ -52,13 +52,13 @@ fn do_job(rt: &HostRuntime, job: &Job<'_>) -> Result<u8, Stop> {
 }
 
 /// Tells of words that ask for nothing.
-fn tell_usage(rt: &HostRuntime, usage: Usage) -> Result<u8, Stop> {
+fn tell_usage(rt: &HostRuntime, usage: Usage) -> Result<u8, CommandStop> {
     match usage {
         Usage::Text(text) => {
             let _ = eprint!(rt; "{text}");
             Ok(USAGE)
         }
-        Usage::Memory(want) => Err(Stop::Memory(want)),
+        Usage::Memory(want) => Err(CommandStop::Memory(want)),
         Usage::NoRoom(_) => {
             let _ = eprintln!(rt; "memory");
             Ok(MEMORY)
@@ -67,7 +67,7 @@ fn tell_usage(rt: &HostRuntime, usage: Usage) -> Result<u8, Stop> {
 }
 
 /// Does what the words ask for.
-fn perform(rt: &HostRuntime, words: &[String]) -> Result<u8, Stop> {
+fn perform(rt: &HostRuntime, words: &[String]) -> Result<u8, CommandStop> {
     match read_words(rt.alloc(), words) {
         Ok(job) => do_job(rt, &job),
         Err(usage) => tell_usage(rt, usage),
@@ -79,7 +79,7 @@ fn main(rt: HostRuntime) -> ExitCode {
     let status = match words_of(&rt) {
         Ok(words) => perform(&rt, words.as_slice()),
         Err(error) => match Full::of(&error) {
-            Some(full) => Err(Stop::NoRoom(full)),
+            Some(full) => Err(CommandStop::NoRoom(full)),
             None => {
                 let _ = eprintln!(rt; "error: the words of a command line are UTF-8");
                 Ok(USAGE)

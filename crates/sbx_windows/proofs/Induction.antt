@@ -9,11 +9,11 @@ use Rattle.v8_core.specs.declared.turn.Turn.{Turn}
 use Rattle.v8_core.specs.Accesses.{World}
 use Rattle.v8_core.specs.Steps.{next}
 use Rattle.v8_loaded.specs.Board.{Device, board}
-use Rattle.v8_loaded.specs.Turns.{after, turn_at}
+use Rattle.v8_loaded.specs.Turns.{world_after, turn_at}
 use Rattle.sbx_shows.specs.Counts.{Counts}
 use Rattle.sbx_shows.specs.Ending.{Ending}
 use Rattle.sbx_shows.specs.Counting.{counts_after}
-use Rattle.sbx_shows.specs.Runs.{after as board_after}
+use Rattle.sbx_shows.specs.Runs.{state_after as board_after}
 use Rattle.sbx_shows.specs.Seen.{State as BoardState, counts_unless, ending_of, turned}
 use Rattle.sbx_flat.specs.Parts.{Parts}
 use Rattle.sbx_flat.specs.Runs.{AreBytes, FlatRun, FlatSafe, Run, budget, place_of, weight, weight_at, weight_of, weight_of_word}
@@ -38,12 +38,12 @@ turn_is : (n : ℕ) (mmu : MmuRegs) (w : World n Device) (c : Counts) → ending
 unfolding turned
 turn_is n mmu w c going = ap (λ (o : Option Ending). ((next board n mmu w).0, stands n (next board n mmu w).1 mmu (counts_unless o (next board n mmu w).0.event c))) going
 
-pub board_is : (n : ℕ) (mmu : MmuRegs) (x : World n Device) (c : Counts) (k : ℕ) → ((j : ℕ) → j < k → ending_of n (after board n mmu j x) ≡ None) →
-    board_after n k (stands n x mmu c) ≡ stands n (after board n mmu k x) mmu (counts_by n mmu x k c)
+pub board_is : (n : ℕ) (mmu : MmuRegs) (x : World n Device) (c : Counts) (k : ℕ) → ((j : ℕ) → j < k → ending_of n (world_after board n mmu j x) ≡ None) →
+    board_after n k (stands n x mmu c) ≡ stands n (world_after board n mmu k x) mmu (counts_by n mmu x k c)
 board_is n mmu x c zero going = refl
 board_is n mmu x c (suc k) going =
     ap (λ (s : BoardState n). (turned n s).1) (board_is n mmu x c k (λ j less. going j (omega arith)))
-    ∙ ap (λ (p : Turn × BoardState n). p.1) (turn_is n mmu (after board n mmu k x) (counts_by n mmu x k c) (going k (omega arith)))
+    ∙ ap (λ (p : Turn × BoardState n). p.1) (turn_is n mmu (world_after board n mmu k x) (counts_by n mmu x k c) (going k (omega arith)))
 
 -- turns after turns
 pub join : (n k j : ℕ) (s : BoardState n) → board_after n (k + j) s ≡ board_after n j (board_after n k s)
@@ -122,7 +122,7 @@ module _ (n : ℕ) (parts : Parts) (input earlier : List ℕ) (start : BoardStat
       }
 
   came_more : (x : World n Device) (s : State) (r : ℕ) (c : Came n parts input earlier start x s r) (t : Taken x s r) →
-      Came n parts input earlier start (after board n start.mmu t.count x) (flat_next x s r t).0 t.windows
+      Came n parts input earlier start (world_after board n start.mmu t.count x) (flat_next x s r t).0 t.windows
   came_more x s r c t =
       let a = t.advances in
       let place = place_of parts s in
@@ -143,7 +143,7 @@ module _ (n : ℕ) (parts : Parts) (input earlier : List ℕ) (start : BoardStat
       let d_few = c.few.1 in
       let e_few = c.few.2 in
       let counts : Counts = record { turns = c.turns; overflows = c.overflows; underflows = c.underflows } in
-      let later : (j : ℕ) → j ≤ t.count → board_after n (c.turns + j) start ≡ stands n (after board n start.mmu j x) start.mmu (counts_by n start.mmu x j counts) =
+      let later : (j : ℕ) → j ≤ t.count → board_after n (c.turns + j) start ≡ stands n (world_after board n start.mmu j x) start.mmu (counts_by n start.mmu x j counts) =
       λ (j : ℕ) (less : j ≤ t.count). join n c.turns j start ∙ ap (board_after n j) c.board_stands ∙ board_is n start.mmu x counts j (λ i small. a.going i (omega arith)) in
       record {
         path = path;
@@ -153,7 +153,7 @@ module _ (n : ℕ) (parts : Parts) (input earlier : List ℕ) (start : BoardStat
         underflows = c.underflows + t.underflows;
         traffic_is = traffic_now;
         few = (omega arith, omega arith, omega arith);
-        board_stands = later t.count (omega arith) ∙ ap (stands n (after board n start.mmu t.count x) start.mmu) (a.counts counts (omega arith) c_few d_few);
+        board_stands = later t.count (omega arith) ∙ ap (stands n (world_after board n start.mmu t.count x) start.mmu) (a.counts counts (omega arith) c_few d_few);
         going = λ j less.
             let split : (j < c.turns) ⊎ (c.turns ≤ j) = search arith in
             elim split [
@@ -170,11 +170,11 @@ module _ (n : ℕ) (parts : Parts) (input earlier : List ℕ) (start : BoardStat
               | inr from ↦
                   let i = j - c.turns in
                   let sum : c.turns + i ≡ j = omega arith in
-                  let here : board_after n j start ≡ stands n (after board n start.mmu i x) start.mmu (counts_by n start.mmu x i counts) =
+                  let here : board_after n j start ≡ stands n (world_after board n start.mmu i x) start.mmu (counts_by n start.mmu x i counts) =
                   ap (λ q. board_after n q start) (sym sum) ∙ later i (omega arith) in
                   let same : (turned n (board_after n j start)).0 ≡ turn_at board n start.mmu i x =
                   ap (λ (b : BoardState n). (turned n b).0) here
-                  ∙ ap (λ (p : Turn × BoardState n). p.0) (turn_is n start.mmu (after board n start.mmu i x) (counts_by n start.mmu x i counts) (a.going i (omega arith))) in
+                  ∙ ap (λ (p : Turn × BoardState n). p.0) (turn_is n start.mmu (world_after board n start.mmu i x) (counts_by n start.mmu x i counts) (a.going i (omega arith))) in
                   let so_far : (traffic parts n c.path).turns ≡ c.turns = ap (λ (f : Traffic). f.turns) c.traffic_is in
                   let so_many_now : (traffic parts n path).turns ≡ c.turns + t.count = ap (λ (f : Traffic). f.turns) traffic_now in
                   record {
@@ -203,7 +203,7 @@ module _ (n : ℕ) (parts : Parts) (input earlier : List ℕ) (start : BoardStat
       let heavier = weight_more parts c.path (place_of parts s) in
       let some = weighs_some parts (place_of parts s) in
       let to = flat_next x s r t in
-      let end_world = after board n start.mmu t.count x in
+      let end_world = world_after board n start.mmu t.count x in
       elim t.advances.ends [
         | inl on ↦ ends_from advance fuel end_world to.0 t.windows now (subst (λ (q : State). Shows n parts end_world q t.windows) to.2 on) (omega arith)
         | inr end ↦ record { last = end_world; state = to.0; windows = t.windows; status = end.0; came = now; over = subst (λ (q : State). Over n parts end_world q end.0) to.2 end.1 }

@@ -6,7 +6,7 @@ use Rattle.v8_core.specs.Accesses.{World}
 use Rattle.v8_loaded.specs.Board.{Device}
 use Rattle.v8_loaded.specs.States.{IsState}
 use Rattle.sbx_shows.specs.Counts.{Counts}
-use Rattle.sbx_shows.specs.Runs.{after as board_after}
+use Rattle.sbx_shows.specs.Runs.{state_after as board_after}
 use Rattle.sbx_shows.specs.Seen.{State as BoardState, ending_of, turned}
 use Rattle.sbx_shows.specs.Start.{IsStart}
 use Rattle.sbx_flat.specs.Parts.{Parts}

@@ -7,7 +7,7 @@ use Rattle.v8_core.specs.declared.turn.Turn.{Turn}
 use Rattle.v8_contained.specs.Board.{Device, board}
 use Rattle.v8_board.specs.Calls.{calls_in, next_calls}
 use Rattle.v8_board.specs.Laws.{AsksOnceATurn}
-use Rattle.v8_board.specs.Runs.{IsCutShort, IsRun, after}
+use Rattle.v8_board.specs.Runs.{IsCutShort, IsRun, state_after}
 use Rattle.v8_board.specs.Seen.{State, ending_of, turned}
 use Rattle.v8_board.proofs.Running.{Counted}
 
@@ -17,12 +17,12 @@ no_calls n s a = (omega arith, omega arith)
 pub one_turn_called : (n k : ℕ) (old mid new : State n) (turn : Turn) (a b c : ℕ) → Counted n old mid k → turned n mid ≡ (turn, new)
     → Grows (calls_in n k old) a b → Grows (calls_by board mid.world.memory.device turn.access) b c → Grows (calls_in n (k + 1) old) a c
 one_turn_called n k old mid new turn a b c (t, so_many) is before now =
-    let here : mid ≡ after n k old = t.is ∙ ap (λ j. after n j old) so_many in
+    let here : mid ≡ state_after n k old = t.is ∙ ap (λ j. state_after n j old) so_many in
     let told : (turned n mid).0 ≡ turn = ap (λ (p : Turn × State n). p.0) is in
     let one : Grows (next_calls n mid) b c = subst (λ (u : Turn). Grows (calls_by board mid.world.memory.device u.access) b c) (sym told) now in
-    let last : Grows (next_calls n (after n k old)) b c = subst (λ (s : State n). Grows (next_calls n s) b c) here one in
+    let last : Grows (next_calls n (state_after n k old)) b c = subst (λ (s : State n). Grows (next_calls n s) b c) here one in
     let same : suc k ≡ k + 1 = omega arith in
-    subst (λ j. Grows (calls_in n j old) a c) same (sum (calls_in n k old) (next_calls n (after n k old)) a b c before last)
+    subst (λ j. Grows (calls_in n j old) a c) same (sum (calls_in n k old) (next_calls n (state_after n k old)) a b c before last)
   where
     sum : (x y a b c : ℕ) → Grows x a b → Grows y b c → Grows (x + y) a c
     sum x y a b c (p, q) (r, s) = (omega arith, omega arith)
@@ -59,5 +59,5 @@ pub asks_once_a_turn : AsksOnceATurn
 asks_once_a_turn n zero s = omega arith
 asks_once_a_turn n (suc k) s =
     let before = asks_once_a_turn n k s in
-    let last = few_by (after n k s).world.memory.device (turned n (after n k s)).0.access in
+    let last = few_by (state_after n k s).world.memory.device (turned n (state_after n k s)).0.access in
     omega arith

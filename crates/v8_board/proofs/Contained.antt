@@ -16,7 +16,7 @@ use Rattle.v8_contained.specs.States.{IsState}
 use Rattle.v8_contained.specs.Contained.{IsShaped, IsUser, IsContained, IsKept, TurnIs}
 use Rattle.v8_contained.proofs.Law.{turns_contained}
 use Rattle.v8_board.specs.Contains.{Contains, Keeps, KeepsBy, StaysContained}
-use Rattle.v8_board.specs.Runs.{Turns, IsRun, IsCutShort, after}
+use Rattle.v8_board.specs.Runs.{Turns, IsRun, IsCutShort, state_after}
 use Rattle.v8_board.specs.Seen.{State, turned}
 use Rattle.v8_board.specs.Start.{contents_of, pages_of}
 use Rattle.v8_board.proofs.Placed.{pages_few}
@@ -91,9 +91,9 @@ turned_by : (n : ℕ) (s : State n) → KeepsBy n s (turned n s).0 (turned n s).
 unfolding turned
 turned_by n s p c = turns_contained n (pages_of p) (contents_of p) s.mmu s.world c
 
-after_kept : (n : ℕ) (s : State n) (k : ℕ) → Keeps n s (after n k s)
+after_kept : (n : ℕ) (s : State n) (k : ℕ) → Keeps n s (state_after n k s)
 after_kept n s zero p c = c
-after_kept n s (suc k) p c = turn_kept n (after n k s) p (after_kept n s k p c)
+after_kept n s (suc k) p c = turn_kept n (state_after n k s) p (after_kept n s k p c)
 
 pub turns_kept : (n : ℕ) (old new : State n) → Turns n old new → Keeps n old new
 turns_kept n old new t p c = subst (Contains n p) (sym t.is) (after_kept n old t.count p c)
@@ -117,4 +117,4 @@ result_kept n old new (Ok t) e same = subst (Keeps n old) (ap (λ (r : Turn × S
 result_kept n old new (Err f) e same = subst (Keeps n old) (sym same) (λ p c. c)
 
 pub stays_contained : (n : ℕ) (p : Parts) (s : State n) → Contains n p s → StaysContained n p s
-stays_contained n p s c k = turned_by n (after n k s) p (after_kept n s k p c)
+stays_contained n p s c k = turned_by n (state_after n k s) p (after_kept n s k p c)

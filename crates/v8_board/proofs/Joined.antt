@@ -1,15 +1,15 @@
 -- Turns and runs that follow one another.
 use Rattle.std.proofs.Common.{◌≡◌, ℕ, zero, suc, ◌+◌, ◌-◌, ◌<◌, ◌≤◌, ◌⊎◌, inl, inr, None, refl, sym, ap, ◌∙◌, subst, arith}
 use Rattle.v8_board.specs.Seen.{State, ending_of, turned}
-use Rattle.v8_board.specs.Runs.{Turns, IsRun, IsCutShort, GoesOn, after}
+use Rattle.v8_board.specs.Runs.{Turns, IsRun, IsCutShort, GoesOn, state_after}
 use Rattle.v8_board.proofs.Running.{Counted, no_turns, one_turn_more, whole_run}
 
 -- turns after turns, in one count
-after_sum : (n i k : ℕ) (s : State n) → after n (i + k) s ≡ after n i (after n k s)
-after_sum n zero k s = (let same : zero + k ≡ k = omega arith in ap (λ j. after n j s) same)
+after_sum : (n i k : ℕ) (s : State n) → state_after n (i + k) s ≡ state_after n i (state_after n k s)
+after_sum n zero k s = (let same : zero + k ≡ k = omega arith in ap (λ j. state_after n j s) same)
 after_sum n (suc i) k s =
     let same : suc i + k ≡ suc (i + k) = omega arith in
-    ap (λ j. after n j s) same ∙ ap (λ (t : State n). (turned n t).1) (after_sum n i k s)
+    ap (λ j. state_after n j s) same ∙ ap (λ (t : State n). (turned n t).1) (after_sum n i k s)
 
 joined : (n : ℕ) (s m e : State n) (t : Turns n s m) (u : Turns n m e) → Counted n s e (u.count + t.count)
 joined n s m e t u = (
@@ -21,11 +21,11 @@ joined n s m e t u = (
           | inl before ↦ t.running j before
           | inr later ↦
               let same : j ≡ (j - t.count) + t.count = omega arith in
-              ap (λ k. ending_of n (after n k s).world) same
-              ∙ ap (λ (x : State n). ending_of n x.world) (after_sum n (j - t.count) t.count s ∙ ap (after n (j - t.count)) (sym t.is))
+              ap (λ k. ending_of n (state_after n k s).world) same
+              ∙ ap (λ (x : State n). ending_of n x.world) (after_sum n (j - t.count) t.count s ∙ ap (state_after n (j - t.count)) (sym t.is))
               ∙ u.running (j - t.count) (omega arith)
         ];
-    is = u.is ∙ ap (after n u.count) t.is ∙ sym (after_sum n u.count t.count s);
+    is = u.is ∙ ap (state_after n u.count) t.is ∙ sym (after_sum n u.count t.count s);
   },
   refl,
 )
@@ -38,7 +38,7 @@ had_not_ended : (n : ℕ) (m e : State n) → Turns n m e → ending_of n e.worl
 had_not_ended n m e u none = by_count u.count refl
   where
     by_count : (k : ℕ) → u.count ≡ k → ending_of n m.world ≡ None
-    by_count zero same = sym (ap (λ (x : State n). ending_of n x.world) (u.is ∙ ap (λ j. after n j m) same)) ∙ none
+    by_count zero same = sym (ap (λ (x : State n). ending_of n x.world) (u.is ∙ ap (λ j. state_after n j m) same)) ∙ none
     by_count (suc k) same = u.running 0 (omega arith)
 
 run_of : (n limit k : ℕ) (s e : State n) → Counted n s e k → k ≤ limit → (ending_of n e.world ≡ None → k ≡ limit) → IsRun n limit s e
@@ -87,6 +87,6 @@ runs_agree n limit s e f r q =
       | inl sooner ↦ absurd (not_sooner n limit s e f r q sooner)
       | inr rest ↦ elim rest [
         | inl later ↦ absurd (not_sooner n limit s f e q r later)
-        | inr same ↦ r.turns.is ∙ ap (λ k. after n k s) same ∙ sym q.turns.is
+        | inr same ↦ r.turns.is ∙ ap (λ k. state_after n k s) same ∙ sym q.turns.is
       ]
     ]

@@ -2,7 +2,7 @@
 use Rattle.std.proofs.Common.{◌≡◌, ℕ, suc, ◌+◌, ◌<◌, ◌≤◌, ◌⊎◌, inl, inr, None, refl, sym, ap, ◌∙◌, arith}
 use Rattle.v8_core.specs.declared.turn.Turn.{Turn}
 use Rattle.v8_board.specs.Seen.{State, ending_of, turned}
-use Rattle.v8_board.specs.Runs.{Turns, IsRun, IsCutShort, after}
+use Rattle.v8_board.specs.Runs.{Turns, IsRun, IsCutShort, state_after}
 
 -- so many turns
 abbrev pub Counted : (n : ℕ) → State n → State n → ℕ → Type 0
@@ -19,7 +19,7 @@ one_turn_more n k old mid new turn (t, so_many) going is = (
         let split : (j < t.count) ⊎ (j ≡ t.count) = search arith in
         elim split [
           | inl before ↦ t.running j before
-          | inr same ↦ ap (λ k. ending_of n (after n k old).world) same ∙ ap (λ (s : State n). ending_of n s.world) (sym t.is) ∙ going
+          | inr same ↦ ap (λ k. ending_of n (state_after n k old).world) same ∙ ap (λ (s : State n). ending_of n s.world) (sym t.is) ∙ going
         ];
     is = sym (ap (λ (x : Turn × State n). x.1) is) ∙ ap (λ (s : State n). (turned n s).1) t.is;
   },

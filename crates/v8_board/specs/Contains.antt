@@ -3,7 +3,7 @@ use Rattle.std.specs.Prelude.{ℕ}
 use Rattle.sbx_image.specs.Parts.{Parts}
 use Rattle.v8_core.specs.declared.turn.Turn.{Turn}
 use Rattle.v8_contained.specs.Contained.{IsContained, TurnIs}
-use Rattle.v8_board.specs.Runs.{after}
+use Rattle.v8_board.specs.Runs.{state_after}
 use Rattle.v8_board.specs.Seen.{State, turned}
 use Rattle.v8_board.specs.Start.{contents_of, pages_of}
 
@@ -27,4 +27,4 @@ TurnsAsAllowed n p s = TurnIs n (pages_of p) (contents_of p) s.mmu s.world ((tur
 
 -- and so are all turns from here on, however many
 abbrev pub StaysContained : (n : ℕ) → Parts → State n → Type 0
-StaysContained n p s = (k : ℕ) → TurnsAsAllowed n p (after n k s)
+StaysContained n p s = (k : ℕ) → TurnsAsAllowed n p (state_after n k s)

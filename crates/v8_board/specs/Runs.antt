@@ -6,15 +6,15 @@ use Rattle.v8_board.specs.declared.outcome.Outcome.{Outcome}
 use Rattle.v8_board.specs.Seen.{State, ending_of, turned}
 
 -- the state after so many turns
-abbrev pub after : (n : ℕ) → ℕ → State n → State n
-after n zero s = s
-after n (suc k) s = (turned n (after n k s)).1
+abbrev pub state_after : (n : ℕ) → ℕ → State n → State n
+state_after n zero s = s
+state_after n (suc k) s = (turned n (state_after n k s)).1
 
 -- some turns lead from one state to the other, and the machine had not ended before any of them
 pub record Turns (n : ℕ) (old new : State n) : Type 0 where
   pub count : ℕ
-  pub running : (j : ℕ) → j < count → ending_of n (after n j old).world ≡ None
-  pub is : new ≡ after n count old
+  pub running : (j : ℕ) → j < count → ending_of n (state_after n j old).world ≡ None
+  pub is : new ≡ state_after n count old
 
 -- a run of at most so many turns, which stops before the limit only at an end
 pub record IsRun (n limit : ℕ) (old new : State n) : Type 0 where

@@ -30,7 +30,7 @@ use Rattle.v8_loaded.specs.Board.{Device, board, board_load, board_store, device
 use Rattle.v8_loaded.specs.Input.{next_byte}
 use Rattle.v8_loaded.specs.Places.{table_marked, handlers_marked, device_marked}
 use Rattle.v8_loaded.proofs.Fetches.{by_supervisor, fetches_table, fetches_handlers, reaches_device, reaches_input}
-use Rattle.v8_contained.specs.Contained.{Contents, IsKept, IsSupervisor, IsAt, Place, Enters, Acts, Branches, Slips, Leaves, Returns, Handles, Retries, Stands}
+use Rattle.v8_contained.specs.Contained.{Contents, IsKept, IsSupervisor, IsAt, SupervisorPlace, Enters, Acts, Branches, Slips, Leaves, Returns, Handles, Retries, Stands}
 use Rattle.v8_contained.specs.Contained.{IsActing, IsHandler, IsBack, vector_of, handler_at, trap_to, acted, TurnIs}
 use Rattle.v8_contained.proofs.Shapes.{shaped_reg, reads_local}
 use Rattle.v8_contained.proofs.Accesses.{mem_of}
@@ -325,7 +325,7 @@ module _ (n : ℕ) (g : Pages) (held : Contents) (ram : List ℕ) (d : Device) (
 
   -- ---- every place
 
-  at_place : (p : Place) → Stands cpu p → Goal
+  at_place : (p : SupervisorPlace) → Stands cpu p → Goal
   at_place (Enters t) h = at_entry t h.0 h.1
   at_place (Acts t) h = at_act t h
   at_place (Branches k) h = at_branch k h.0 h.1

@@ -40,7 +40,7 @@ use Rattle.v8_core.specs.Steps.{acts, executes, executes_or, proceeds, attempts,
 use Rattle.v8_core.proofs.Turns.{Ready, tries_as}
 use Rattle.v8_loaded.specs.Layout.{Pages, AreFew}
 use Rattle.v8_loaded.specs.Board.{Device, board, is_word}
-use Rattle.v8_contained.specs.Contained.{Contents, IsKept, IsShaped, IsUser, IsSupervisor, Place, Stands, IsOwn, TurnIs, ByVector}
+use Rattle.v8_contained.specs.Contained.{Contents, IsKept, IsShaped, IsUser, IsSupervisor, SupervisorPlace, Stands, IsOwn, TurnIs, ByVector}
 use Rattle.v8_contained.proofs.Shapes.{shaped_reg, shaped_regs, shaped_moved, shaped_mask, below_less}
 use Rattle.v8_contained.proofs.Accesses.{mem_of, data_access, MoveIs, move_is}
 
@@ -109,7 +109,7 @@ small_word a = omega arith
 
 pub super_goes : (n : ℕ) (cpu : Cpu n) (regs : Windows) (c : Control) → IsSupervisor n cpu → IsShaped n regs → c.s ≡ cpu.control.s → c.et ≡ cpu.control.et →
     c.ps ≡ cpu.control.ps → c.annul ≡ cpu.control.annul → c.base ≡ cpu.control.base → c.error ≡ cpu.control.error → c.npc < 2 ^ 32 →
-    (p : Place) × Stands {n = n} (record { regs = regs; control = c }) p → IsSupervisor n (record { regs = regs; control = c })
+    (p : SupervisorPlace) × Stands {n = n} (record { regs = regs; control = c }) p → IsSupervisor n (record { regs = regs; control = c })
 super_goes n cpu regs c u shape s et ps annul base error npc at =
     record {
       shape = shape;
@@ -127,7 +127,7 @@ super_goes n cpu regs c u shape s et ps annul base error npc at =
 
 -- where the next word is, whatever the registers
 abbrev pub Nexts : {n : ℕ} → Cpu n → Type 0
-Nexts {n} cpu = (c : Cpu n) → c.control.pc ≡ cpu.control.npc → c.control.npc ≡ following cpu.control.npc → (p : Place) × Stands c p
+Nexts {n} cpu = (c : Cpu n) → c.control.pc ≡ cpu.control.npc → c.control.npc ≡ following cpu.control.npc → (p : SupervisorPlace) × Stands c p
 
 -- user or supervisor code goes on; a trap is error mode
 abbrev pub MadeBy : (n : ℕ) → Option ℕ → Cpu n → Type 0
@@ -219,7 +219,7 @@ module _ (n : ℕ) (g : Pages) (held : Contents) (ram : List ℕ) (d : Device) (
   tame_acts _ e at = not_tame e
 
   -- a jump, to any word, whose delay slot comes first
-  pub jump_acts : (f : Three) → ((c : Cpu n) → c.control.pc ≡ cpu.control.npc → (p : Place) × Stands c p) → SuperEnds n g held d (acts board n mmu (JumpAndLink f) (world n cpu ram d))
+  pub jump_acts : (f : Three) → ((c : Cpu n) → c.control.pc ≡ cpu.control.npc → (p : SupervisorPlace) × Stands c p) → SuperEnds n g held d (acts board n mmu (JumpAndLink f) (world n cpu ram d))
   unfolding effect jumped address_of
   jump_acts f at = plainly (effect n cpu (JumpAndLink f))
       (super_goes n cpu (with_reg n cpu.regs f.rd cpu.control.pc) _ u (shaped_reg n cpu.regs f.rd cpu.control.pc few u.shape) refl refl refl refl refl refl

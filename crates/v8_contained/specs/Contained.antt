@@ -37,20 +37,20 @@ pub record IsUser (n : ℕ) (cpu : Cpu n) : Type 0 where
   pub npc_word : cpu.control.npc < 2 ^ 32
 
 -- Where the supervisor stands, by trap type t or by word k of the handlers.
-pub data Place : Type 0 where
+pub data SupervisorPlace : Type 0 where
   -- at the first word of a vector
-  Enters : ℕ → Place
+  Enters : ℕ → SupervisorPlace
   -- at the second word of a vector that reaches the device, whose address is in %l3
-  Acts : ℕ → Place
+  Acts : ℕ → SupervisorPlace
   -- at the branch of a window trap's vector, and in its delay slot
-  Branches : ℕ → Place
-  Slips : ℕ → Place
+  Branches : ℕ → SupervisorPlace
+  Slips : ℕ → SupervisorPlace
   -- at the jump of the vectors of get and put, and at their RETT
-  Leaves : ℕ → Place
-  Returns : ℕ → Place
+  Leaves : ℕ → SupervisorPlace
+  Returns : ℕ → SupervisorPlace
   -- at a word of a handler, and at its RETT
-  Handles : ℕ → Place
-  Retries : ℕ → Place
+  Handles : ℕ → SupervisorPlace
+  Retries : ℕ → SupervisorPlace
 
 -- pc and nPC
 pub record IsAt {n : ℕ} (cpu : Cpu n) (pc npc : ℕ) : Type 0 where
@@ -85,7 +85,7 @@ abbrev pub IsBack : ℕ → Type 0
 IsBack t = (t ≡ 0x81) ⊎ (t ≡ 0x82)
 
 -- The processor stands at a place: by PC and nPC. Before a RETT nPC is what user code left as its next place, any word.
-abbrev pub Stands : {n : ℕ} → Cpu n → Place → Type 0
+abbrev pub Stands : {n : ℕ} → Cpu n → SupervisorPlace → Type 0
 Stands cpu (Enters t) = (t < 256) × IsAt cpu (vector_of t) (vector_of t + 4)
 Stands cpu (Acts t) = IsActing cpu t
 Stands cpu (Branches k) = IsHandler k × IsAt cpu (vector_of (trap_to k) + 4) (vector_of (trap_to k) + 8)
@@ -105,7 +105,7 @@ pub record IsSupervisor (n : ℕ) (cpu : Cpu n) : Type 0 where
   pub table : cpu.control.base ≡ TRAP_TABLE
   pub sane : cpu.control.error ≡ None
   pub npc_word : cpu.control.npc < 2 ^ 32
-  pub place : Place
+  pub place : SupervisorPlace
   pub stands : Stands cpu place
 
 -- the device runs, or has stopped the machine; error mode

@@ -14,7 +14,7 @@ pub use Rattle.v8_formats.specs.Table
 pub use Rattle.v8_formats.specs.declared.instr.Branch
 pub use Rattle.v8_formats.specs.declared.instr.Instr
 pub use Rattle.v8_formats.specs.declared.instr.Operand
-pub use Rattle.v8_formats.specs.declared.instr.Place
+pub use Rattle.v8_formats.specs.declared.instr.AlternateOperand
 pub use Rattle.v8_formats.specs.declared.instr.Three
 pub use Rattle.v8_formats.specs.declared.instr.Trap
 pub use Rattle.v8_formats.specs.declared.instr.Two

@@ -13,7 +13,7 @@ mod instr;
 pub use encoding::encode;
 use fields::alternate_of;
 pub use fields::{branch_of, displacement30, shift_of, three_of, trap_of, two_of, upper_of};
-pub use instr::{Alternate, Branch, Instr, Operand, Place, Three, Trap, Two, Upper};
+pub use instr::{Alternate, AlternateOperand, Branch, Instr, Operand, Three, Trap, Two, Upper};
 use v8_word::reg_at;
 pub use v8_word::{Cond, Icc, Reg, Size, TrapType, bits_of, bytes_in};
 

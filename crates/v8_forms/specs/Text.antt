@@ -36,11 +36,11 @@ special_of n =
     else (if n == 2 then specials.Wim
     else specials.Tbr))
 
-abbrev pub code_of : Special → ℕ
-code_of specials.Y = 0
-code_of specials.Psr = 1
-code_of specials.Wim = 2
-code_of specials.Tbr = 3
+abbrev pub special_number : Special → ℕ
+special_number specials.Y = 0
+special_number specials.Psr = 1
+special_number specials.Wim = 2
+special_number specials.Tbr = 3
 
 -- the state register is told by the two low bits of op3
 abbrev pub special_in : ℕ → Special
@@ -80,7 +80,7 @@ elsewhere_bits rs1 rs2 asi = rs1 * 2 ^ 14 + asi * 2 ^ 5 + rs2
 -- the bits of the word that the operand fills
 abbrev pub value : Part → ℕ → ℕ
 value (parts.Register f) w = register_in f w * scale f
-value parts.State w = code_of (special_in w) * 2 ^ 19
+value parts.State w = special_number (special_in w) * 2 ^ 19
 value (parts.Second range) w = spell_operand (operand_in range w)
 value (parts.Address range) w = sum_bits (bits_of w 14 5) (operand_in range w)
 value parts.Memory w = sum_bits (bits_of w 14 5) (operand_in ranges.Signed w)

@@ -2,7 +2,7 @@
 ghost use Rattle.std.specs.Prelude.{◌≡◌, ◌+◌, ◌*◌, ◌%◌, ◌<◌, ◌≤◌, ◌^◌, ◌≤ℤ◌, negsuc, pos};
 ghost use Rattle.v8_formats.specs.Spelling.{spell_operand};
 ghost use Rattle.v8_forms.specs.Forms.{greatest, least, scale, width};
-ghost use Rattle.v8_forms.specs.Text.{annul_bit, code_of, elsewhere_bits, sum_bits};
+ghost use Rattle.v8_forms.specs.Text.{annul_bit, special_number, elsewhere_bits, sum_bits};
 
 use crate::part::{Field, Range, Special};
 use v8_formats::Operand;
@@ -77,8 +77,8 @@ pub fn elsewhere_bits(rs1: Reg, rs2: Reg, asi: u32) -> u32
 }
 
 /// The number of a state register's opcode.
-pub fn code_of(special: Special) -> u32
-    ensures value { result ≡ code_of special }
+pub fn special_number(special: Special) -> u32
+    ensures value { result ≡ special_number special }
     ensures bound { result < 4 }
 {
     match special {

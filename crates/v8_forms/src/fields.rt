@@ -6,7 +6,9 @@ ghost use Rattle.v8_forms.specs.Forms.{form_of, plus};
 ghost use Rattle.v8_forms.specs.Text.{annuls, condition_in, far, filled, is_word_of, near, native_of, number_in};
 ghost use Rattle.v8_forms.specs.Text.{operand_in, register_in, special_in, value, values};
 
-use crate::bits::{annul_bit, code_of, elsewhere_bits, low_bits, operand_bits, scale, sum_bits};
+use crate::bits::{
+    annul_bit, elsewhere_bits, low_bits, operand_bits, scale, special_number, sum_bits,
+};
 use crate::part::{Field, Part, Range, Special};
 use crate::rows::{Row, natives};
 use v8_formats::Operand;
@@ -104,7 +106,7 @@ fn value(part: &Part, word: u32) -> u32
 {
     match part {
         Part::Register(field) => { u32::from(register_in(*field, word).number()) * scale(*field) }
-        Part::State => code_of(special_in(word)) * 0x8_0000,
+        Part::State => special_number(special_in(word)) * 0x8_0000,
         Part::Second(range) => operand_bits(&operand_in(*range, word)),
         Part::Address(range) => sum_bits(reg_at(word, 14), &operand_in(*range, word)),
         Part::Memory => sum_bits(reg_at(word, 14), &operand_in(Range::Signed, word)),

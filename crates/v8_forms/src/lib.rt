@@ -9,7 +9,8 @@ mod printing;
 mod rows;
 
 pub use bits::{
-    annul_bit, code_of, elsewhere_bits, greatest, least, low_bits, operand_bits, scale, sum_bits,
+    annul_bit, elsewhere_bits, greatest, least, low_bits, operand_bits, scale, special_number,
+    sum_bits,
 };
 pub use fields::filled;
 pub use part::{Field, Part, Range, Special};

@@ -17,7 +17,7 @@ use Rattle.v8_layout.proofs.Marks.{kept_elsewhere}
 use Rattle.v8_memory.specs.Board.{Device, board}
 use Rattle.v8_loaded.specs.Areas.{SameBut}
 use Rattle.v8_loaded.specs.Places.{code_entry_place, code_marked, entered_window}
-use Rattle.v8_loaded.specs.Turns.{IsHandlers, after, turn_at}
+use Rattle.v8_loaded.specs.Turns.{IsHandlers, world_after, turn_at}
 use Rattle.v8_loaded.specs.Users.{AsksFor, IsHandled, RunsUser}
 use Rattle.v8_loaded.proofs.Fetches.{code_entry_word}
 use Rattle.v8_loaded.proofs.Windows.{below_within}
@@ -58,8 +58,8 @@ module _ (n : ℕ) (g : Pages) (words : List ℕ) (mmu : MmuRegs) (x : World n D
           subst (λ q. IsHandlers q 64 a.store turn) at (subst (IsHandlers (a.base + 0x60000) 64 a.store) (sym here) made);
     }
 
-    pub ends : after board n mmu 24 x ≡ world n last c.ram x.memory.device
-    ends = shifted board n mmu 23 x ∙ ap (after board n mmu 23) begins ∙ c.is
+    pub ends : world_after board n mmu 24 x ≡ world n last c.ram x.memory.device
+    ends = shifted board n mmu 23 x ∙ ap (world_after board n mmu 23) begins ∙ c.is
 
     pub same_but : SameBut i a.base (4 * a.stored) x.memory.ram c.ram
     same_but =

@@ -11,10 +11,10 @@ use Rattle.v8_core.specs.Accesses.{World}
 use Rattle.v8_core.specs.Steps.{next}
 use Rattle.v8_layout.specs.Layout.{Pages}
 use Rattle.v8_memory.specs.Board.{Device, board}
-use Rattle.v8_loaded.specs.Turns.{Leads, TurnsTo, after, turn_at}
+use Rattle.v8_loaded.specs.Turns.{Leads, TurnsTo, world_after, turn_at}
 
 pub shifted : {D : Type 0} (m : Meaning D) (n : ℕ) (mmu : MmuRegs) (k : ℕ) (old : World n D) →
-    after m n mmu (suc k) old ≡ after m n mmu k (next m n mmu old).1
+    world_after m n mmu (suc k) old ≡ world_after m n mmu k (next m n mmu old).1
 shifted m n mmu zero old = refl
 shifted m n mmu (suc k) old = ap (λ x. (next m n mmu x).1) (shifted m n mmu k old)
 
@@ -29,17 +29,17 @@ module _ {n : ℕ} {g : Pages} {mmu : MmuRegs} where
   pub leads_more : {old mid new : World n Device} {event : Event} {events : List Event} →
       TurnsTo n g mmu old event mid → Leads n g mmu mid events new → Leads n g mmu old (event ∷ events) new
   leads_more {old} {mid} {new} {event} {events} first rest = record {
-    is = shifted board n mmu (length events) old ∙ ap (after board n mmu (length events)) first.is ∙ rest.is;
+    is = shifted board n mmu (length events) old ∙ ap (world_after board n mmu (length events)) first.is ∙ rest.is;
     turns = by_number;
   }
     where
       by_number : (k : ℕ) (e : Event) → slice_get (event ∷ events) k ≡ Some e →
-          TurnsTo n g mmu (after board n mmu k old) e (after board n mmu (suc k) old)
+          TurnsTo n g mmu (world_after board n mmu k old) e (world_after board n mmu (suc k) old)
       by_number zero e there =
           subst (λ a. TurnsTo n g mmu old a (next board n mmu old).1) (same_Some event e there)
           (record { running = first.running; sane = first.sane; tells = first.tells; touches = first.touches; is = refl })
       by_number (suc k) e there =
-          let here = shifted board n mmu k old ∙ ap (after board n mmu k) first.is in
+          let here = shifted board n mmu k old ∙ ap (world_after board n mmu k) first.is in
           subst (λ (x : World n Device). TurnsTo n g mmu x e (next board n mmu x).1) (sym here) (rest.turns k e there)
 
   pub leads_one : {old new : World n Device} {event : Event} → TurnsTo n g mmu old event new →

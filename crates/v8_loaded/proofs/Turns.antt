@@ -31,7 +31,7 @@ use Rattle.v8_layout.proofs.Marks.{Markable, kept_elsewhere, sides}
 use Rattle.v8_memory.specs.Board.{Device, board}
 use Rattle.v8_loaded.specs.Areas.{IsBeside}
 use Rattle.v8_loaded.specs.Places.{stack_entry_place, table_marked, handlers_marked}
-use Rattle.v8_loaded.specs.Turns.{IsHandlers, ReachesArea, after, turn_at}
+use Rattle.v8_loaded.specs.Turns.{IsHandlers, ReachesArea, world_after, turn_at}
 use Rattle.v8_loaded.proofs.Fetches.{by_supervisor, fetches_handlers, fetches_table, handlers_kept, handlers_page, table_kept, table_page}
 use Rattle.v8_loaded.proofs.Effects.{Does}
 use Rattle.v8_loaded.proofs.Words.{Asks}
@@ -180,7 +180,7 @@ pub record Comes (n : ℕ) (g : Pages) (words : List ℕ) (mmu : MmuRegs) (devic
   pub ram : List ℕ
   pub keeps : Keeps a old.memory.ram ram
   pub loaded : IsLoaded n g words ram
-  pub is : after board n mmu j old ≡ world n new ram device
+  pub is : world_after board n mmu j old ≡ world n new ram device
   pub turns : (i : ℕ) → i < j → IsWithin a (turn_at board n mmu i old)
 
 reaches_more : (from few many : ℕ) (store : Bool) (o : Option DataAccess) → few ≤ many →

@@ -10,18 +10,14 @@ use Rattle.v8_core.specs.declared.turn.Event.TheVariants.{Ran}
 use Rattle.v8_core.specs.declared.turn.Turn.{Turn}
 use Rattle.v8_core.specs.Accesses.{World}
 use Rattle.v8_core.specs.Steps.{next}
+pub use Rattle.v8_core.specs.Steps.{world_after}
 use Rattle.v8_map.specs.declared.TheConstants.{PAGE, CODE_START, TRAP_TABLE, HANDLERS, DEVICE}
 use Rattle.v8_layout.specs.Layout.{Pages}
 use Rattle.v8_memory.specs.Board.{Device, board}
 
--- the state after so many turns
-abbrev pub after : {D : Type 0} → Meaning D → (n : ℕ) → MmuRegs → ℕ → World n D → World n D
-after m n mmu zero old = old
-after m n mmu (suc k) old = (next m n mmu (after m n mmu k old)).1
-
 -- what is told of the turn after so many turns
 abbrev pub turn_at : {D : Type 0} → Meaning D → (n : ℕ) → MmuRegs → ℕ → World n D → Turn
-turn_at m n mmu k old = (next m n mmu (after m n mmu k old)).0
+turn_at m n mmu k old = (next m n mmu (world_after m n mmu k old)).0
 
 -- ---- what a turn touches
 
@@ -64,6 +60,6 @@ pub record TurnsTo (n : ℕ) (g : Pages) (mmu : MmuRegs) (old : World n Device) 
 -- turns with these events, one after the other
 pub record Leads (n : ℕ) (g : Pages) (mmu : MmuRegs) (old : World n Device) (events : List Event)
     (new : World n Device) : Type 0 where
-  pub is : after board n mmu (length events) old ≡ new
+  pub is : world_after board n mmu (length events) old ≡ new
   pub turns : (k : ℕ) (event : Event) → slice_get events k ≡ Some event →
-      TurnsTo n g mmu (after board n mmu k old) event (after board n mmu (suc k) old)
+      TurnsTo n g mmu (world_after board n mmu k old) event (world_after board n mmu (suc k) old)

@@ -21,7 +21,7 @@ use Rattle.v8_loaded.specs.Handlers.{handler_word}
 use Rattle.v8_loaded.specs.Layout.{Pages}
 use Rattle.v8_loaded.specs.Board.{Device, board}
 use Rattle.v8_loaded.specs.Places.{handlers_marked}
-use Rattle.v8_loaded.specs.Turns.{IsHandlers, ReachesArea, after, turn_at}
+use Rattle.v8_loaded.specs.Turns.{IsHandlers, ReachesArea, world_after, turn_at}
 use Rattle.v8_loaded.specs.Users.{IsHandled, RunsUser}
 use Rattle.v8_loaded.proofs.Fetches.{fetches_handlers}
 use Rattle.v8_loaded.proofs.Leading.{shifted, turn_later}
@@ -109,9 +109,9 @@ user_contained n g words mmu x k u = record {
   });
 }
 
-pub after_contained : (n : ℕ) (g : Pages) (held : Contents) (mmu : MmuRegs) (x : World n Device) (k : ℕ) → IsContained n g held mmu x → IsContained n g held mmu (after board n mmu k x)
+pub after_contained : (n : ℕ) (g : Pages) (held : Contents) (mmu : MmuRegs) (x : World n Device) (k : ℕ) → IsContained n g held mmu x → IsContained n g held mmu (world_after board n mmu k x)
 after_contained n g held mmu x zero c = c
-after_contained n g held mmu x (suc k) c = (turns_contained n g held mmu (after board n mmu k x) (after_contained n g held mmu x k c)).keeps
+after_contained n g held mmu x (suc k) c = (turns_contained n g held mmu (world_after board n mmu k x) (after_contained n g held mmu x k c)).keeps
 
 -- ---- a handler's turn
 
@@ -172,7 +172,7 @@ module _ (n : ℕ) (g : Pages) (words : List ℕ) (mmu : MmuRegs) (x : World n D
   start = (next board n mmu x).1
 
   abbrev entry : ℕ → Option ℕ
-  entry j = entry_at (after board n mmu j start).memory.ram i
+  entry j = entry_at (world_after board n mmu j start).memory.ram i
 
   contained : IsContained n g (held_of words x.memory.ram) mmu x
   contained = user_contained n g words mmu x k u
@@ -187,7 +187,7 @@ module _ (n : ℕ) (g : Pages) (words : List ℕ) (mmu : MmuRegs) (x : World n D
   turn_marks : (j : ℕ) → j < 23 → entry (suc j) ≡ after_access i (turn_at board n mmu j start).access (entry j)
   turn_marks j small =
       let turn = turn_at board n mmu j start in
-      turns_mark n g (held_of words x.memory.ram) mmu (after board n mmu j start) i
+      turns_mark n g (held_of words x.memory.ram) mmu (world_after board n mmu j start) i
       (after_contained n g (held_of words x.memory.ram) mmu start j (turns_contained n g (held_of words x.memory.ram) mmu x contained).keeps) less
       ∙ ap (after_access i turn.access) (system_fetch i turn.pc turn.word (entry j) less (turns j small).page)
 
@@ -211,7 +211,7 @@ module _ (n : ℕ) (g : Pages) (words : List ℕ) (mmu : MmuRegs) (x : World n D
   all_marks false false here there =
       never_marked 23 entry (λ j small. turn_marks j small ∙ area_beside i sp store (turn_at board n mmu j start).access (entry j) less aligned here there (turns j small).access) 23 (omega arith)
 
-  pub handler_marks : entry_at (after board n mmu 24 x).memory.ram i ≡ after_handler i x.cpu.control.pc sp store (entry_at x.memory.ram i)
+  pub handler_marks : entry_at (world_after board n mmu 24 x).memory.ram i ≡ after_handler i x.cpu.control.pc sp store (entry_at x.memory.ram i)
   handler_marks =
       ap (λ (w : World n Device). entry_at w.memory.ram i) (shifted board n mmu 23 x) ∙ all_marks (is_in i sp) (is_in i (sp + 63)) refl refl
       ∙ ap (λ o. if holds_some i sp then with_mark store o else o) trap_marks

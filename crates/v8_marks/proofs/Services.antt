@@ -6,7 +6,7 @@ use Rattle.v8_loaded.specs.Layout.{Pages, AreFew, IsLoaded}
 use Rattle.v8_loaded.specs.AddressMap.{mapped}
 use Rattle.v8_loaded.specs.Board.{Device, board}
 use Rattle.v8_loaded.specs.Places.{code_entry_place, code_marked, device_marked, table_marked}
-use Rattle.v8_loaded.specs.Turns.{after}
+use Rattle.v8_loaded.specs.Turns.{world_after}
 use Rattle.v8_loaded.specs.Users.{RunsUser}
 use Rattle.v8_loaded.proofs.Fetches.{code_entry_word, device_kept, device_page, table_kept, table_page}
 use Rattle.v8_loaded.proofs.Marks.{kept_elsewhere}
@@ -57,13 +57,13 @@ module _ (n : ℕ) (g : Pages) (words : List ℕ) (mmu : MmuRegs) (x : World n D
       let ram = vector_marked k store x.memory.ram in
       table_beside n g words (table_marked ram) i less u.few (table_kept n g words ram u.few (loaded4 store)) ∙ table_beside n g words ram i less u.few (loaded4 store) ∙ vector_reached store
 
-  pub exit_marks : Calls words k 0 → entry_at (after board n mmu 3 x).memory.ram i ≡ reached i x.cpu.control.pc false (entry_at x.memory.ram i)
+  pub exit_marks : Calls words k 0 → entry_at (world_after board n mmu 3 x).memory.ram i ≡ reached i x.cpu.control.pc false (entry_at x.memory.ram i)
   exit_marks is = ap (λ (w : World n Device). entry_at w.memory.ram i) (exit_law n g words mmu x k u is).is ∙ vector_reached true
 
-  pub get_marks : MayReturn n x → Calls words k 1 → entry_at (after board n mmu 5 x).memory.ram i ≡ reached i x.cpu.control.pc false (entry_at x.memory.ram i)
+  pub get_marks : MayReturn n x → Calls words k 1 → entry_at (world_after board n mmu 5 x).memory.ram i ≡ reached i x.cpu.control.pc false (entry_at x.memory.ram i)
   get_marks may is = ap (λ (w : World n Device). entry_at w.memory.ram i) (get_law n g words mmu x k u may is).is ∙ back_reached false
 
-  pub put_marks : MayReturn n x → Calls words k 2 → entry_at (after board n mmu 5 x).memory.ram i ≡ reached i x.cpu.control.pc false (entry_at x.memory.ram i)
+  pub put_marks : MayReturn n x → Calls words k 2 → entry_at (world_after board n mmu 5 x).memory.ram i ≡ reached i x.cpu.control.pc false (entry_at x.memory.ram i)
   put_marks may is = ap (λ (w : World n Device). entry_at w.memory.ram i) (put_law n g words mmu x k u may is).is ∙ back_reached true
 
 pub services_mark : ServicesMark

@@ -30,7 +30,7 @@ use Rattle.v8_core.specs.Steps.{acts, attempts, ends, executes, executes_or, goe
 use Rattle.v8_loaded.specs.Layout.{Pages, AreFew, IsLoaded}
 use Rattle.v8_loaded.specs.Board.{Device, board}
 use Rattle.v8_loaded.proofs.Marks.{mark_keeps}
-use Rattle.v8_contained.specs.Contained.{Contents, IsContained, IsRunning, IsSupervisor, IsUser, Place, Stands}
+use Rattle.v8_contained.specs.Contained.{Contents, IsContained, IsRunning, IsSupervisor, IsUser, SupervisorPlace, Stands}
 use Rattle.v8_contained.specs.Contained.{Acts, Branches, Enters, Handles, Leaves, Retries, Returns, Slips}
 use Rattle.v8_marks.specs.Marks.{TurnsMark, after_access, after_fetch, after_turn, entry_at, reached}
 use Rattle.v8_marks.proofs.Placing.{mark_reaches}
@@ -132,7 +132,7 @@ module _ (n : ℕ) (g : Pages) (words : List ℕ) (mmu : MmuRegs) (few : AreFew 
 
 -- ---- where a contained board stands
 
-place_small : (n : ℕ) (cpu : Cpu n) (p : Place) → Stands cpu p → cpu.control.pc < 2 ^ 32
+place_small : (n : ℕ) (cpu : Cpu n) (p : SupervisorPlace) → Stands cpu p → cpu.control.pc < 2 ^ 32
 place_small n cpu (Enters t) h = let small = h.0 in let at = h.1.here in omega arith
 place_small n cpu (Acts t) h = let small = h.small in let at = h.at.here in omega arith
 place_small n cpu (Branches k) (inl is, at) = let here = at.here in omega arith

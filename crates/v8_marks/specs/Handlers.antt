@@ -5,7 +5,7 @@ use Rattle.v8_core.specs.Accesses.{World}
 use Rattle.v8_contained.specs.Layout.{Pages}
 use Rattle.v8_contained.specs.Board.{Device, board}
 use Rattle.v8_loaded.specs.Areas.{HasFrame, HasRoom}
-use Rattle.v8_loaded.specs.Turns.{after}
+use Rattle.v8_loaded.specs.Turns.{world_after}
 use Rattle.v8_spill.specs.Laws.{Overflows, stack_pointer as spilled_pointer}
 use Rattle.v8_refill.specs.Laws.{Underflows, stack_pointer as refilled_pointer}
 use Rattle.v8_marks.specs.Marks.{entry_at, is_in, reached, with_mark}
@@ -24,7 +24,7 @@ abbrev pub OverflowMarks : Type 0
 OverflowMarks =
     (n : ℕ) (g : Pages) (words : List ℕ) (mmu : MmuRegs) (x : World n Device) (k i : ℕ) → Overflows n g words mmu x k →
     HasRoom g (spilled_pointer n x.cpu) → i < 192 →
-    entry_at (after board n mmu 24 x).memory.ram i ≡
+    entry_at (world_after board n mmu 24 x).memory.ram i ≡
     after_handler i x.cpu.control.pc (spilled_pointer n x.cpu) true (entry_at x.memory.ram i)
 
 -- a RESTORE that traps, and its handler's
@@ -32,4 +32,4 @@ abbrev pub UnderflowMarks : Type 0
 UnderflowMarks =
     (n : ℕ) (g : Pages) (words : List ℕ) (mmu : MmuRegs) (x : World n Device) (k i : ℕ) → Underflows n g words mmu x k →
     HasFrame g x.memory.ram (refilled_pointer n x.cpu) → i < 192 →
-    entry_at (after board n mmu 24 x).memory.ram i ≡ after_handler i x.cpu.control.pc (refilled_pointer n x.cpu) false (entry_at x.memory.ram i)
+    entry_at (world_after board n mmu 24 x).memory.ram i ≡ after_handler i x.cpu.control.pc (refilled_pointer n x.cpu) false (entry_at x.memory.ram i)

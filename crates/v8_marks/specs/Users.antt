@@ -10,7 +10,7 @@ use Rattle.v8_core.specs.Accesses.{World, place_of}
 use Rattle.v8_core.specs.Steps.{next}
 use Rattle.v8_contained.specs.Layout.{Pages}
 use Rattle.v8_contained.specs.Board.{Device, board}
-use Rattle.v8_loaded.specs.Turns.{after}
+use Rattle.v8_loaded.specs.Turns.{world_after}
 use Rattle.v8_loaded.specs.Users.{AsksFor, RunsUser}
 use Rattle.v8_services.specs.Services.{Calls, MayReturn}
 use Rattle.v8_marks.specs.Marks.{entry_at, reached}
@@ -35,7 +35,7 @@ UsersMark =
 
 -- so many turns after it was called, the entries are those after the fetch of the call
 abbrev pub MarksTheCall : (n : ℕ) → MmuRegs → World n Device → ℕ → Type 0
-MarksTheCall n mmu x turns = (i : ℕ) → i < 192 → entry_at (after board n mmu turns x).memory.ram i ≡ reached i x.cpu.control.pc false (entry_at x.memory.ram i)
+MarksTheCall n mmu x turns = (i : ℕ) → i < 192 → entry_at (world_after board n mmu turns x).memory.ram i ≡ reached i x.cpu.control.pc false (entry_at x.memory.ram i)
 
 -- exit, and get and put, which come back
 abbrev pub ServicesMark : Type 0

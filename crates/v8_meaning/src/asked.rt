@@ -6,7 +6,7 @@ use crate::operation::{
     Exchange, Loading, MemoryOperand, Operation, Space, StateRegister, Transfer,
 };
 use v8_alu::{Division, Op, TaggedOp};
-use v8_formats::{Alternate, Instr, Operand, Place, Size, Three};
+use v8_formats::{Alternate, AlternateOperand, Instr, Operand, Size, Three};
 
 #[inline(always)]
 pub fn normal(fields: Three) -> MemoryOperand
@@ -20,21 +20,21 @@ pub fn normal(fields: Three) -> MemoryOperand
     }
 }
 
-fn second_of(place: &Place) -> Operand
+fn second_of(place: &AlternateOperand) -> Operand
     ensures { result ≡ second_of place.now }
 {
     match place {
-        Place::Register(rs2, _) => Operand::Register(*rs2),
-        Place::Immediate(number) => Operand::Immediate(*number),
+        AlternateOperand::Register(rs2, _) => Operand::Register(*rs2),
+        AlternateOperand::Immediate(number) => Operand::Immediate(*number),
     }
 }
 
-fn space_of(place: &Place) -> Space
+fn space_of(place: &AlternateOperand) -> Space
     ensures { result ≡ space_of place.now }
 {
     match place {
-        Place::Register(_, asi) => Space::Alternate(*asi),
-        Place::Immediate(_) => Space::Missing,
+        AlternateOperand::Register(_, asi) => Space::Alternate(*asi),
+        AlternateOperand::Immediate(_) => Space::Missing,
     }
 }
 

@@ -10,7 +10,7 @@ use Rattle.v8_loaded.specs.Layout.{Pages, IsLoaded}
 use Rattle.v8_loaded.specs.Board.{Device, board}
 use Rattle.v8_loaded.specs.Areas.{HasFrame, IsFrame, SameBut, area_of}
 use Rattle.v8_loaded.specs.Places.{entered_window}
-use Rattle.v8_loaded.specs.Turns.{after}
+use Rattle.v8_loaded.specs.Turns.{world_after}
 use Rattle.v8_loaded.specs.Users.{AsksFor, IsHandled, RunsUser}
 
 -- ---- before
@@ -59,7 +59,7 @@ pub record Refilled (n : ℕ) (g : Pages) (words : List ℕ) (old new : World n 
 -- 24 turns: the trap of window_underflow, and 23 that run and load
 pub record Handled (n : ℕ) (g : Pages) (words : List ℕ) (mmu : MmuRegs) (old : World n Device) (i : ℕ) : Type 0 where
   pub turns : IsHandled n words mmu old i 6 (stack_pointer n old.cpu) false
-  pub refilled : Refilled n g words old (after board n mmu 24 old) i
+  pub refilled : Refilled n g words old (world_after board n mmu 24 old) i
 
 abbrev pub UnderflowLaw : Type 0
 UnderflowLaw =

@@ -15,12 +15,12 @@ use Rattle.sbx_text.specs.declared.scanning.Step.TheVariants.{Emit, Refuse}
 use Rattle.sbx_text.specs.Tokens.{front, number_at, number_of}
 use Rattle.v8_formats.specs.Spelling.{spelling}
 use Rattle.v8_formats.specs.Table.{meaning}
-use Rattle.v8_syntax.specs.declared.word.Word.TheVariants as words
-use Rattle.v8_syntax.specs.declared.word.Word.{Word}
+use Rattle.v8_syntax.specs.declared.word.StatementToken.TheVariants as words
+use Rattle.v8_syntax.specs.declared.word.StatementToken.{StatementToken}
 use Rattle.v8_syntax.specs.declared.fault.SyntaxFault.TheVariants.{UnknownMnemonic}
 use Rattle.v8_forms.specs.Forms.{Form, natives, synthetics}
 use Rattle.v8_forms.specs.Text.{hexadecimal, native_of, shown, text_of}
-use Rattle.v8_syntax.specs.Statements.{word_of, words_of, named_meaning}
+use Rattle.v8_syntax.specs.Statements.{statement_token, statement_tokens, named_meaning}
 use Rattle.v8_rereading.specs.Laws.{IsNotRead, RefusesEachBareWord}
 use Rattle.v8_rereading.proofs.Bytes.{Below, at_below, all, run, name_front}
 use Rattle.v8_rereading.proofs.Hearing.{Heard, ended, spaced, closed, tokened, token_scanned, between}
@@ -78,12 +78,12 @@ number_heard w =
     (tokened (kinds.Number (digits_value 16 (hexadecimal w))) (48 ∷ 120 ∷ hexadecimal w) (λ _. words.Number (digits_value 16 (hexadecimal w)))
     (hexadecimal_front (hexadecimal w) (omega arith) (all_digits w) small) (omega arith) (omega arith) (λ _. refl) ended)
 
-unknown : (values : List ℕ → Option ℕ) (here : ℕ) (line : List ℕ) (ws : List Word) → named_meaning values here line (codes ".word") ws ≡ Err UnknownMnemonic
+unknown : (values : List ℕ → Option ℕ) (here : ℕ) (line : List ℕ) (ws : List StatementToken) → named_meaning values here line (codes ".word") ws ≡ Err UnknownMnemonic
 unfolding named_meaning natives synthetics
 unknown values here line ws = refl
 
 bare_word : (w : ℕ) → IsNotRead (codes ".word" ++ behind w)
-unfolding word_of
+unfolding statement_token
 bare_word w =
     let h = spaced (number_heard w) in
     let scanned =
@@ -93,8 +93,8 @@ bare_word w =
       scanned,
       λ values here.
           let line : List ℕ = codes ".word" ++ behind w in
-          ap (λ name. named_meaning values here line name (words_of line (h.marks (0 + 5)))) (between line [] (codes ".word") (behind w) 0 refl refl)
-          ∙ unknown values here line (words_of line (h.marks (0 + 5))),
+          ap (λ name. named_meaning values here line name (statement_tokens line (h.marks (0 + 5)))) (between line [] (codes ".word") (behind w) 0 refl refl)
+          ∙ unknown values here line (statement_tokens line (h.marks (0 + 5))),
     )
 
 by_native : (o : Option Form) (word : ℕ) → o ≡ None → IsNotRead (shown o word)

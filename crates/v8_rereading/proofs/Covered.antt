@@ -4,9 +4,9 @@ use Rattle.std.specs.Prelude.{◌≢◌}
 use Rattle.std.specs.List.{find}
 use Rattle.std.proofs.lemmas.Bool.{false≢true, eq-eqb}
 use Rattle.v8_word.specs.Word.{bits_of, sign_extend}
-use Rattle.v8_word.specs.Conditions.{code_of, cond_of}
+use Rattle.v8_word.specs.Conditions.{cond_number, cond_of}
 use Rattle.v8_formats.specs.declared.instr.Operand.TheVariants as operands
-use Rattle.v8_formats.specs.declared.instr.Place.TheVariants as places
+use Rattle.v8_formats.specs.declared.instr.AlternateOperand.TheVariants as places
 use Rattle.v8_formats.specs.declared.instr.Three.{Three}
 use Rattle.v8_formats.specs.declared.instr.Two.{Two}
 use Rattle.v8_formats.specs.declared.instr.Alternate.{Alternate}
@@ -152,19 +152,19 @@ store_elsewhere_has {name} C n b at s pair u small e h =
 
 -- ---- state registers
 
-read_has : (C : ℕ → Instr) (k : ℕ) → k < 4 → text.code_of (special_of k) ≡ k → ((r : ℕ) → spelling (C r) ≡ spell_fields 2 (0x28 + k) r 0 0) → Has (λ w. C (rd w))
+read_has : (C : ℕ → Instr) (k : ℕ) → k < 4 → text.special_number (special_of k) ≡ k → ((r : ℕ) → spelling (C r) ≡ spell_fields 2 (0x28 + k) r 0 0) → Has (λ w. C (rd w))
 unfolding natives
 read_has C k in_4 code s u small e h =
     let d : ℕ = rd u in
     let sum : 2 * 2 ^ 30 + d * 2 ^ 25 + (0x28 + k) * 2 ^ 19 + 0 * 2 ^ 14 + 0 ≡ u = sym (s (rd u)) ∙ e in
     let within : d < 32 = omega arith in
     let low : bits_of u 19 2 ≡ k = omega arith in
-    let coded : text.code_of (special_of (bits_of u 19 2)) ≡ k = ap (λ m. text.code_of (special_of m)) low ∙ code in
-    let x : ℕ = text.code_of (special_of (bits_of u 19 2)) in
+    let coded : text.special_number (special_of (bits_of u 19 2)) ≡ k = ap (λ m. text.special_number (special_of m)) low ∙ code in
+    let x : ℕ = text.special_number (special_of (bits_of u 19 2)) in
     let is : plus 0x81400000 (plus (0 * 2 ^ 25) (plus (x * 2 ^ 19) (plus (d * 2 ^ 25) 0))) ≡ u = omega arith in
     by_form 62 _ u refl is
 
-write_has : (C : Two → Instr) (k : ℕ) → k < 4 → text.code_of (special_of k) ≡ k → ((f : Two) → spelling (C f) ≡ spell_two (0x30 + k) f) → Has (λ w. C (two w))
+write_has : (C : Two → Instr) (k : ℕ) → k < 4 → text.special_number (special_of k) ≡ k → ((f : Two) → spelling (C f) ≡ spell_two (0x30 + k) f) → Has (λ w. C (two w))
 unfolding natives
 write_has C k in_4 code s u small e h =
     let r : ℕ = rs1 u in
@@ -173,8 +173,8 @@ write_has C k in_4 code s u small e h =
     let within : r < 32 = omega arith in
     let bound : o < 2 ^ 14 = operand_small u (eqb (bits_of u 13 1) 1) in
     let low : bits_of u 19 2 ≡ k = omega arith in
-    let coded : text.code_of (special_of (bits_of u 19 2)) ≡ k = ap (λ m. text.code_of (special_of m)) low ∙ code in
-    let x : ℕ = text.code_of (special_of (bits_of u 19 2)) in
+    let coded : text.special_number (special_of (bits_of u 19 2)) ≡ k = ap (λ m. text.special_number (special_of m)) low ∙ code in
+    let x : ℕ = text.special_number (special_of (bits_of u 19 2)) in
     let is : plus 0x81800000 (plus (0 * 2 ^ 25) (plus (r * 2 ^ 14) (plus o (plus (x * 2 ^ 19) 0)))) ≡ u = omega arith in
     by_form 63 _ u refl is
 
@@ -202,7 +202,7 @@ trap_has u small e h =
     let c : ℕ = bits_of u 25 4 in
     let r : ℕ = rs1 u in
     let o : ℕ = spell_operand (operand_in ranges.Trap u) in
-    let coded : ℕ = code_of (cond_of (bits_of u 25 4)) in
+    let coded : ℕ = cond_number (cond_of (bits_of u 25 4)) in
     let back : coded ≡ c = code-cond (bits_of u 25 4) (omega arith) in
     let sum : 2 * 2 ^ 30 + coded * 2 ^ 25 + 0x3a * 2 ^ 19 + r * 2 ^ 14 + o ≡ u = e in
     let is : plus 0x81D00000 (plus (c * 2 ^ 25) (plus (r * 2 ^ 14 + o) 0)) ≡ u = omega arith in
@@ -239,7 +239,7 @@ branch_has u small e h =
     let c : ℕ = bits_of u 25 4 in
     let d : ℕ = text.near u in
     let a : ℕ = text.annul_bit (text.annuls u) in
-    let coded : ℕ = code_of (cond_of (bits_of u 25 4)) in
+    let coded : ℕ = cond_number (cond_of (bits_of u 25 4)) in
     let back : coded ≡ c = code-cond (bits_of u 25 4) (omega arith) in
     let sum : a + coded * 2 ^ 25 + 2 * 2 ^ 22 + d % 2 ^ 22 ≡ u = e in
     let is : plus 0x00800000 (plus (c * 2 ^ 25) (plus (a + d % 2 ^ 22) 0)) ≡ u = omega arith in

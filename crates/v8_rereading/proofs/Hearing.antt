@@ -8,19 +8,19 @@ use Rattle.sbx_text.specs.declared.Token.{Token}
 use Rattle.sbx_text.specs.declared.Kind.{Kind}
 use Rattle.sbx_text.specs.declared.Kind.TheVariants as kinds
 use Rattle.sbx_text.specs.declared.scanning.Step.TheVariants.{Emit}
-use Rattle.sbx_text.specs.Tokens.{front, tokens_at, after, before}
-use Rattle.v8_syntax.specs.declared.word.Word.{Word}
-use Rattle.v8_syntax.specs.declared.word.Word.TheVariants as words
-use Rattle.v8_syntax.specs.Statements.{bytes_between, word_at, word_of, words_of, percent_word, name_kind}
+use Rattle.sbx_text.specs.Tokens.{front, tokens_at, tokens_behind, before}
+use Rattle.v8_syntax.specs.declared.word.StatementToken.{StatementToken}
+use Rattle.v8_syntax.specs.declared.word.StatementToken.TheVariants as words
+use Rattle.v8_syntax.specs.Statements.{bytes_between, token_at, statement_token, statement_tokens, percent_token, name_kind}
 
 -- what a token of that kind and text is, at a place
-abbrev pub word_like : List ℕ → ℕ → ℕ → Kind → Word
+abbrev pub word_like : List ℕ → ℕ → ℕ → Kind → StatementToken
 word_like text start stop kinds.Name = words.Name (name_kind text) start stop
-word_like text start stop kinds.Percent = percent_word (drop 1 text)
+word_like text start stop kinds.Percent = percent_token (drop 1 text)
 word_like text start stop (kinds.Number n) = words.Number n
 word_like text start stop kinds.Sign = words.Sign (get_or text 0 0)
 
-like_word : (line : List ℕ) (start stop : ℕ) (kind : Kind) → word_at line start stop kind ≡ word_like (bytes_between line start stop) start stop kind
+like_word : (line : List ℕ) (start stop : ℕ) (kind : Kind) → token_at line start stop kind ≡ word_like (bytes_between line start stop) start stop kind
 like_word line start stop kinds.Name = refl
 like_word line start stop kinds.Percent = refl
 like_word line start stop (kinds.Number n) = refl
@@ -40,10 +40,10 @@ between line pre text rest at e p =
     ∙ take-append_seam text rest
 
 -- Some bytes have tokens wherever they end a line, and these are those words: at most so many tokens and blanks.
-pub record Heard (count : ℕ) (bytes : List ℕ) (words : ℕ → List Word) : Type 0 where
+pub record Heard (count : ℕ) (bytes : List ℕ) (words : ℕ → List StatementToken) : Type 0 where
   pub marks : ℕ → List Token
   pub scanned : (k at : ℕ) → length bytes ≤ k → tokens_at k at bytes ≡ Ok (marks at)
-  pub said : (line pre : List ℕ) (at : ℕ) → line ≡ pre ++ bytes → at ≡ length pre → words_of line (marks at) ≡ words at
+  pub said : (line pre : List ℕ) (at : ℕ) → line ≡ pre ++ bytes → at ≡ length pre → statement_tokens line (marks at) ≡ words at
   pub short : length bytes ≤ 16 * count
 
 -- ---- the end
@@ -64,7 +64,7 @@ unfolding tokens_at
 blank_scanned bytes marks h zero at room = absurd (omega arith)
 blank_scanned bytes marks h (suc k) at room = h k (at + 1) (omega arith)
 
-pub spaced : {count : ℕ} {bytes : List ℕ} {words : ℕ → List Word} → Heard count bytes words → Heard (suc count) (32 ∷ bytes) (λ at. words (at + 1))
+pub spaced : {count : ℕ} {bytes : List ℕ} {words : ℕ → List StatementToken} → Heard count bytes words → Heard (suc count) (32 ∷ bytes) (λ at. words (at + 1))
 spaced {count} {bytes} {words} h = record {
   marks = λ at. h.marks (at + 1);
   scanned = blank_scanned bytes h.marks h.scanned;
@@ -82,24 +82,24 @@ token_scanned kind text bytes marks f some h zero at room = let l = length-appen
 token_scanned kind text bytes marks f some h (suc k) at room =
     let l = length-append text bytes in
     let fits : length bytes ≤ k = omega arith in
-    ap (after (tokens_at k) at (text ++ bytes)) f
+    ap (tokens_behind (tokens_at k) at (text ++ bytes)) f
     ∙ ap (λ xs. before (record { kind = kind; start = at; stop = at + length text }) (tokens_at k (at + length text) xs)) (drop-append_seam text bytes)
     ∙ ap (before (record { kind = kind; start = at; stop = at + length text })) (h k (at + length text) fits)
 
-token_said : (kind : Kind) (text bytes : List ℕ) (word : ℕ → Word) (marks : ℕ → List Token) (words : ℕ → List Word)
+token_said : (kind : Kind) (text bytes : List ℕ) (word : ℕ → StatementToken) (marks : ℕ → List Token) (words : ℕ → List StatementToken)
     → ((at : ℕ) → word_like text at (at + length text) kind ≡ word at)
-    → ((line pre : List ℕ) (at : ℕ) → line ≡ pre ++ bytes → at ≡ length pre → words_of line (marks at) ≡ words at)
+    → ((line pre : List ℕ) (at : ℕ) → line ≡ pre ++ bytes → at ≡ length pre → statement_tokens line (marks at) ≡ words at)
     → (line pre : List ℕ) (at : ℕ) → line ≡ pre ++ (text ++ bytes) → at ≡ length pre
-    → words_of line (record { kind = kind; start = at; stop = at + length text } ∷ marks (at + length text)) ≡ word at ∷ words (at + length text)
-unfolding word_of
+    → statement_tokens line (record { kind = kind; start = at; stop = at + length text } ∷ marks (at + length text)) ≡ word at ∷ words (at + length text)
+unfolding statement_token
 token_said kind text bytes word marks words is h line pre at e p =
     let l = length-append pre text in
     let place : at + length text ≡ length (pre ++ text) = omega arith in
-    let here : word_at line at (at + length text) kind ≡ word at
+    let here : token_at line at (at + length text) kind ≡ word at
     = like_word line at (at + length text) kind ∙ ap (λ t. word_like t at (at + length text) kind) (between line pre text bytes at e p) ∙ is at in
     ap₂ (λ w ws. w ∷ ws) here (h line (pre ++ text) (at + length text) (e ∙ sym (append_assoc pre text bytes)) place)
 
-pub tokened : {count : ℕ} {bytes : List ℕ} {words : ℕ → List Word} (kind : Kind) (text : List ℕ) (word : ℕ → Word) →
+pub tokened : {count : ℕ} {bytes : List ℕ} {words : ℕ → List StatementToken} (kind : Kind) (text : List ℕ) (word : ℕ → StatementToken) →
     front (text ++ bytes) ≡ Emit kind (length text) → 0 < length text → length text ≤ 16
     → ((at : ℕ) → word_like text at (at + length text) kind ≡ word at) → Heard count bytes words → Heard (suc count) (text ++ bytes) (λ at. word at ∷ words (at + length text))
 tokened {count} {bytes} {words} kind text word f some small is h = record {
@@ -110,18 +110,18 @@ tokened {count} {bytes} {words} kind text word f some small is h = record {
 }
 
 -- nothing follows
-pub closed : {count : ℕ} {words : ℕ → List Word} (text : List ℕ) → Heard count (text ++ []) words → Heard count text words
+pub closed : {count : ℕ} {words : ℕ → List StatementToken} (text : List ℕ) → Heard count (text ++ []) words → Heard count text words
 closed {count} {words} text h = subst (λ xs. Heard count xs words) (append-nil text) h
 
 -- fewer than so many
-pub fewer : {count : ℕ} {bytes : List ℕ} {words : ℕ → List Word} → Heard count bytes words → Heard (suc count) bytes words
+pub fewer : {count : ℕ} {bytes : List ℕ} {words : ℕ → List StatementToken} → Heard count bytes words → Heard (suc count) bytes words
 fewer h = record { marks = h.marks; scanned = h.scanned; said = h.said; short = (let s = h.short in omega arith) }
 
-pub regrouped : {count : ℕ} {words : ℕ → List Word} (xs ys zs : List ℕ) → Heard count (xs ++ (ys ++ zs)) words → Heard count ((xs ++ ys) ++ zs) words
+pub regrouped : {count : ℕ} {words : ℕ → List StatementToken} (xs ys zs : List ℕ) → Heard count (xs ++ (ys ++ zs)) words → Heard count ((xs ++ ys) ++ zs) words
 regrouped {count} {words} xs ys zs h = subst (λ bs. Heard count bs words) (sym (append_assoc xs ys zs)) h
 
 pub three_groups : (a b c d : List ℕ) → ((a ++ b) ++ c) ++ d ≡ a ++ (b ++ (c ++ d))
 three_groups a b c d = simp append_assoc
 
-pub regrouped3 : {count : ℕ} {words : ℕ → List Word} (a b c d : List ℕ) → Heard count (a ++ (b ++ (c ++ d))) words → Heard count (((a ++ b) ++ c) ++ d) words
+pub regrouped3 : {count : ℕ} {words : ℕ → List StatementToken} (a b c d : List ℕ) → Heard count (a ++ (b ++ (c ++ d))) words → Heard count (((a ++ b) ++ c) ++ d) words
 regrouped3 {count} {words} a b c d h = subst (λ bs. Heard count bs words) (sym (three_groups a b c d)) h

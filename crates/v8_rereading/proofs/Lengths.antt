@@ -7,8 +7,8 @@ use Rattle.std.proofs.lemmas.Bool.{cond_both}
 use Rattle.v8_formats.specs.declared.instr.Instr.{Instr}
 use Rattle.v8_formats.specs.Table.{meaning}
 use Rattle.v8_forms.specs.declared.part.Range.TheVariants as ranges
-use Rattle.v8_syntax.specs.declared.word.Word.{Word}
-use Rattle.v8_syntax.specs.declared.word.Word.TheVariants as words
+use Rattle.v8_syntax.specs.declared.word.StatementToken.{StatementToken}
+use Rattle.v8_syntax.specs.declared.word.StatementToken.TheVariants as words
 use Rattle.v8_syntax.specs.declared.word.NameKind.{NameKind}
 use Rattle.v8_syntax.specs.declared.word.NameKind.TheVariants as names
 use Rattle.v8_syntax.specs.declared.fault.SyntaxFault.{SyntaxFault}
@@ -17,7 +17,7 @@ use Rattle.v8_syntax.specs.declared.expression.Base.{Base}
 use Rattle.v8_syntax.specs.declared.expression.Base.TheVariants as bases
 use Rattle.v8_syntax.specs.declared.expression.Expression.{Expression}
 use Rattle.v8_forms.specs.Forms.{forms, least, greatest}
-use Rattle.v8_syntax.specs.Statements.{bytes_between, words_of, ◌>>=◌, end, after, plain, less, moved, number_first, register_first, named_expression}
+use Rattle.v8_syntax.specs.Statements.{bytes_between, statement_tokens, ◌>>=◌, end, read_behind, plain, less, moved, number_first, register_first, named_expression}
 use Rattle.v8_syntax.specs.Statements.{expression, word_in, in_range, of_bits, offset_of, set, set_operands, set_instructions, is_symbolic, first_of}
 use Rattle.v8_syntax.specs.Statements.{named_meaning, count_of, name_first}
 use Rattle.v8_rereading.specs.Laws.{CountsInstructions, IsNoStatement}
@@ -37,7 +37,7 @@ read_as x = (bare x.0, x.1)
 
 -- the operands of `set`, and the words after them
 abbrev Operands : Type 0
-Operands = (Expression × ℕ) × List Word
+Operands = (Expression × ℕ) × List StatementToken
 
 abbrev set_as : Operands → Operands
 set_as x = (read_as x.0, x.1)
@@ -65,26 +65,26 @@ moved_bare names.Place v = refl
 moved_bare names.Annul v = refl
 moved_bare names.Plain v = refl
 
-named_bare : (kind : NameKind) (v : Option ℕ) (rest : List Word) → named_expression kind None rest ≡ option_map read_as (named_expression kind v rest)
+named_bare : (kind : NameKind) (v : Option ℕ) (rest : List StatementToken) → named_expression kind None rest ≡ option_map read_as (named_expression kind v rest)
 named_bare kind v rest =
     or_mapped read_as _ _ _ _
     (or_mapped read_as _ _ _ _
-    (mapped read_as (after 43 number_first rest) _ _ (λ x. ap (λ b. (plain b x.0, x.1)) (moved_bare kind v)))
-    (mapped read_as (after 45 number_first rest) _ _ (λ x. ap (λ b. (less b x.0, x.1)) (moved_bare kind v)))) refl
+    (mapped read_as (read_behind 43 number_first rest) _ _ (λ x. ap (λ b. (plain b x.0, x.1)) (moved_bare kind v)))
+    (mapped read_as (read_behind 45 number_first rest) _ _ (λ x. ap (λ b. (less b x.0, x.1)) (moved_bare kind v)))) refl
 
 module _ (values : List ℕ → Option ℕ) (line : List ℕ) where
-  expression_bare : (ws : List Word) → expression (λ _. None) line ws ≡ option_map read_as (expression values line ws)
+  expression_bare : (ws : List StatementToken) → expression (λ _. None) line ws ≡ option_map read_as (expression values line ws)
   unfolding expression
   expression_bare (words.Number n ∷ ws) = refl
   expression_bare (words.Name kind i j ∷ ws) = named_bare kind (values (bytes_between line i j)) ws
-  expression_bare (words.Sign c ∷ ws) = mapped read_as (after 45 number_first (words.Sign c ∷ ws)) _ _ (λ x. refl)
+  expression_bare (words.Sign c ∷ ws) = mapped read_as (read_behind 45 number_first (words.Sign c ∷ ws)) _ _ (λ x. refl)
   expression_bare _ = refl
 
-  set_bare : (ws : List Word) → set_operands (λ _. None) line ws ≡ option_map set_as (set_operands values line ws)
+  set_bare : (ws : List StatementToken) → set_operands (λ _. None) line ws ≡ option_map set_as (set_operands values line ws)
   unfolding set_operands
   set_bare ws =
       then_both set_as read_as (expression values line ws) (expression (λ _. None) line ws) _ _ (expression_bare ws)
-      (λ x. then_over set_as (after 44 register_first x.1) _ _ (λ y. mapped set_as (end y.1) _ _ (λ z. refl)))
+      (λ x. then_over set_as (read_behind 44 register_first x.1) _ _ (λ y. mapped set_as (end y.1) _ _ (λ z. refl)))
 
 -- ---- `set`
 
@@ -143,14 +143,14 @@ one_counts (Ok w) = refl
 one_counts (Err f) = λ _. refl
 
 module _ (values : List ℕ → Option ℕ) (here : ℕ) (line : List ℕ) where
-  name_counts : (t : Bool) (name : List ℕ) (ws : List Word)
+  name_counts : (t : Bool) (name : List ℕ) (ws : List StatementToken)
       → Counts (cond t (set values line ws) (first_of values here line UnknownMnemonic forms name ws >>= λ w. Ok (meaning w ∷ []))) (cond t (count_of (set (λ _. None) line ws)) 1)
   unfolding set
   name_counts true name ws =
       subst (λ o. Counts (set values line ws) (count_of (set_of o))) (sym (set_bare values line ws)) (set_counts (set_operands values line ws))
   name_counts false name ws = one_counts (first_of values here line UnknownMnemonic forms name ws)
 
-  words_count : (ws : List Word) →
+  words_count : (ws : List StatementToken) →
       Counts (option_map_or (λ x. named_meaning values here line x.0 x.1) (name_first line ws) (Err UnknownMnemonic))
       (option_map_or (λ x. cond (bytes_eq x.0 (codes "set")) (count_of (set (λ _. None) line x.1)) 1) (name_first line ws) 1)
   unfolding named_meaning
@@ -158,4 +158,4 @@ module _ (values : List ℕ → Option ℕ) (here : ℕ) (line : List ℕ) where
   words_count _ = λ _. refl
 
 pub counts_instructions : CountsInstructions
-counts_instructions values here line tokens = words_count values here line (words_of line tokens)
+counts_instructions values here line tokens = words_count values here line (statement_tokens line tokens)

@@ -9,7 +9,7 @@ use Rattle.std.proofs.lemmas.Bool.{false≢true, eqb-true, leb-true, ltb-true, l
 use Rattle.v8_word.specs.Word.{bits_of}
 use Rattle.v8_syntax.specs.declared.fault.SyntaxFault.{SyntaxFault}
 use Rattle.v8_syntax.specs.declared.fault.SyntaxFault.TheVariants.{Shape, UnknownMnemonic}
-use Rattle.v8_syntax.specs.declared.word.Word.{Word}
+use Rattle.v8_syntax.specs.declared.word.StatementToken.{StatementToken}
 use Rattle.v8_forms.specs.Forms.{Form, forms, natives, suffixes, synthetics}
 use Rattle.v8_forms.specs.Text.{condition_in, filled, is_word_of, native_of, suffix_text, values}
 use Rattle.v8_syntax.specs.Statements.{◌>>=◌, operands_of, first_of, named, of_condition}
@@ -127,7 +127,7 @@ native_found w f e = sound f w (spelled f w natives e) (found_passes (λ g. is_w
 
 -- ---- the first form of the name that the operands fit
 
-module _ (values_of : List ℕ → Option ℕ) (here : ℕ) (line : List ℕ) (ws : List Word) where
+module _ (values_of : List ℕ → Option ℕ) (here : ℕ) (line : List ℕ) (ws : List StatementToken) where
   passed : (others : SyntaxFault → Result ℕ SyntaxFault) (x : ℕ) (k : Form) (fault : SyntaxFault) (o : Option ℕ) → ((other : SyntaxFault) → others other ≡ Ok x)
       → (operands_of values_of here line k.parts ws ≡ None) ⊎ (o ≡ None) → of_condition values_of here line others fault k ws o ≡ Ok x
   passed others x k fault None go h = go fault

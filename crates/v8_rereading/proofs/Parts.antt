@@ -16,13 +16,13 @@ use Rattle.v8_forms.specs.declared.part.Field.TheVariants as fields
 use Rattle.v8_forms.specs.declared.part.Range.{Range}
 use Rattle.v8_forms.specs.declared.part.Range.TheVariants as ranges
 use Rattle.v8_syntax.specs.declared.fault.SyntaxFault.{SyntaxFault}
-use Rattle.v8_syntax.specs.declared.word.Word.{Word}
-use Rattle.v8_syntax.specs.declared.word.Word.TheVariants as words
+use Rattle.v8_syntax.specs.declared.word.StatementToken.{StatementToken}
+use Rattle.v8_syntax.specs.declared.word.StatementToken.TheVariants as words
 use Rattle.v8_syntax.specs.declared.word.NameKind.TheVariants as names
 use Rattle.v8_forms.specs.Forms.{plus, width}
 use Rattle.v8_forms.specs.Text.{annul_bit, annuls, behind_text, elsewhere_bits, far, lead_text, near, number_in, operand_in, operands_text, part_text}
 use Rattle.v8_forms.specs.Text.{register_in, special_in, target_text, memory_text, value, values}
-use Rattle.v8_syntax.specs.Statements.{bytes_between, ◌>>=◌, added, after, behind, distance, expression, gives, operands_of, offset_of, reached, read, target}
+use Rattle.v8_syntax.specs.Statements.{bytes_between, ◌>>=◌, added, read_behind, behind, distance, expression, gives, operands_of, offset_of, reached, read, target}
 use Rattle.v8_rereading.proofs.Bytes.{Stops}
 use Rattle.v8_rereading.proofs.Hearing.{Heard, ended, spaced, regrouped3}
 use Rattle.v8_rereading.proofs.Pieces.{operand_words, added_words, offset_words, comma, annulling, numbered, registered, state_register, operand_heard, address_heard, memory_heard, target_heard}
@@ -50,7 +50,7 @@ unsigned_part ranges.High h = refl
 unsigned_part ranges.Space h = refl
 unsigned_part ranges.Whole h = absurd (cc)
 
-abbrev pub part_words : Part → ℕ → List Word
+abbrev pub part_words : Part → ℕ → List StatementToken
 part_words (parts.Register f) w = words.Register (register_in f w) ∷ []
 part_words parts.State w = words.Special (special_in w) ∷ []
 part_words (parts.Second range) w = operand_words (operand_in range w)
@@ -61,7 +61,7 @@ part_words parts.Elsewhere w =
 part_words (parts.Number range) w = words.Number (number_in range w) ∷ []
 part_words _ w = []
 
-at_most : {n : ℕ} {bytes : List ℕ} {said : ℕ → List Word} (m : ℕ) → n ≤ m → Heard n bytes said → Heard m bytes said
+at_most : {n : ℕ} {bytes : List ℕ} {said : ℕ → List StatementToken} (m : ℕ) → n ≤ m → Heard n bytes said → Heard m bytes said
 at_most m h heard = record { marks = heard.marks; scanned = heard.scanned; said = heard.said; short = (let s = heard.short in omega arith) }
 
 register_small : (f : Field) (w : ℕ) → register_in f w < 32
@@ -71,7 +71,7 @@ register_small fields.Rs2 w = omega arith
 register_small fields.Rs1AndRd w = omega arith
 register_small fields.Rs2AndRd w = omega arith
 
-module _ {count : ℕ} {bytes : List ℕ} {ws : List Word} (w : ℕ) (s : Stops bytes) (h : Heard count bytes (λ _. ws)) where
+module _ {count : ℕ} {bytes : List ℕ} {ws : List StatementToken} (w : ℕ) (s : Stops bytes) (h : Heard count bytes (λ _. ws)) where
   memory_said : Heard (7 + count) (part_text parts.Memory w ++ bytes) (λ _. part_words parts.Memory w ++ ws)
   memory_said =
       subst (λ more. Heard (7 + count) (part_text parts.Memory w ++ bytes) (λ _. words.Sign 91 ∷ words.Register (bits_of w 14 5) ∷ more))
@@ -101,12 +101,12 @@ module _ {count : ℕ} {bytes : List ℕ} {ws : List Word} (w : ℕ) (s : Stops 
   part_heard parts.Branch k = absurd (cc)
 
 abbrev Read : Type 0
-Read = Option (Result ℕ SyntaxFault × List Word)
+Read = Option (Result ℕ SyntaxFault × List StatementToken)
 
 abbrev closed_by : Read → Read
-closed_by a = option_and_then (λ x. after 93 (gives x.0) x.1) a
+closed_by a = option_and_then (λ x. read_behind 93 (gives x.0) x.1) a
 
-module _ (values_of : List ℕ → Option ℕ) (here : ℕ) (line : List ℕ) (w : ℕ) (ws : List Word) where
+module _ (values_of : List ℕ → Option ℕ) (here : ℕ) (line : List ℕ) (w : ℕ) (ws : List StatementToken) where
   memory_read : read values_of here line parts.Memory (part_words parts.Memory w ++ ws) ≡ Some (Ok (value parts.Memory w), ws)
   unfolding read
   memory_read =
@@ -151,7 +151,7 @@ others_plain : (t u : Bool) → cond t u false ≡ true → u ≡ true
 others_plain true u h = h
 others_plain false u h = absurd (false≢true h)
 
-abbrev behind_words : List Part → ℕ → List Word
+abbrev behind_words : List Part → ℕ → List StatementToken
 behind_words [] w = []
 behind_words (p ∷ ps) w = words.Sign 44 ∷ (part_words p w ++ behind_words ps w)
 
@@ -184,13 +184,13 @@ shut _ _ = false
 
 -- the text of operands as words of a line, which are read back as the word's values, and by no form that is shut to them
 pub record Operands (ps : List Part) (w : ℕ) : Type 0 where
-  pub said : ℕ → List Word
+  pub said : ℕ → List StatementToken
   pub heard : Heard 40 (operands_text ps w) said
   pub stops : Stops (operands_text ps w)
   pub reads : (values_of : List ℕ → Option ℕ) (here : ℕ) (line : List ℕ) (at : ℕ) → operands_of values_of here line ps (said at) ≡ Some (Ok (values ps w), [])
   pub refuses : (ks : List Part) → shut ks ps ≡ true → (values_of : List ℕ → Option ℕ) (here : ℕ) (line : List ℕ) (at : ℕ) → operands_of values_of here line ks (said at) ≡ None
 
-shut_words : (ks : List Part) (p : Part) (ps : List Part) (w : ℕ) (ws : List Word) → shut ks (p ∷ ps) ≡ true
+shut_words : (ks : List Part) (p : Part) (ps : List Part) (w : ℕ) (ws : List StatementToken) → shut ks (p ∷ ps) ≡ true
     → (values_of : List ℕ → Option ℕ) (here : ℕ) (line : List ℕ) → operands_of values_of here line ks (part_words p w ++ ws) ≡ None
 unfolding read expression
 shut_words (parts.Number range ∷ ks) (parts.Address other) ps w ws h values_of here line = refl
@@ -213,7 +213,7 @@ plain_operands p ps w lead k h few = record {
 away_is_word : (d : ℕ) → bytes_away d < 2 ^ 32
 away_is_word d = omega arith
 
-abbrev target_words : ℕ → ℕ → ℕ → List Word
+abbrev target_words : ℕ → ℕ → ℕ → List StatementToken
 target_words d i j = words.Name names.Place i j ∷ offset_words (ltb (bytes_away d) (2 ^ 31)) (bytes_away d)
 
 heard_target : (d : ℕ) → Heard 3 (target_text d) (λ at. target_words d at (at + 1))
@@ -265,7 +265,7 @@ call_operands w = record {
   refuses = λ ks s values_of here line at. absurd (no_target ks (parts.Call ∷ []) (call_open ks) s);
 }
 
-abbrev branch_words : ℕ → Bool → ℕ → List Word
+abbrev branch_words : ℕ → Bool → ℕ → List StatementToken
 branch_words w t at =
     cond t (words.Sign 44 ∷ words.Name names.Annul (at + 1) (at + 1 + 1) ∷ target_words (near w) (at + 1 + 1 + 1) (at + 1 + 1 + 1 + 1)) (target_words (near w) (at + 1) (at + 1 + 1))
 

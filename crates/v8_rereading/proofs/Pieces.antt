@@ -10,10 +10,10 @@ use Rattle.v8_formats.specs.declared.instr.Operand.{Operand}
 use Rattle.v8_formats.specs.declared.instr.Operand.TheVariants as operands
 use Rattle.v8_forms.specs.declared.part.Special.{Special}
 use Rattle.v8_forms.specs.declared.part.Special.TheVariants as specials
-use Rattle.v8_syntax.specs.declared.word.Word.{Word}
-use Rattle.v8_syntax.specs.declared.word.Word.TheVariants as words
+use Rattle.v8_syntax.specs.declared.word.StatementToken.{StatementToken}
+use Rattle.v8_syntax.specs.declared.word.StatementToken.TheVariants as words
 use Rattle.v8_syntax.specs.declared.word.NameKind.TheVariants as names
-use Rattle.v8_syntax.specs.Statements.{percent_word}
+use Rattle.v8_syntax.specs.Statements.{percent_token}
 use Rattle.v8_forms.specs.Text.{register_text, special_text, operand_text, address_text, memory_text}
 use Rattle.v8_forms.proofs.Decimal.{ten_digits}
 use Rattle.v8_rereading.proofs.Bytes.{Stops, is_name, name_front, percent_front, number_front, some_digits, Below, at_below}
@@ -21,7 +21,7 @@ use Rattle.v8_rereading.proofs.Hearing.{Heard, tokened, closed, fewer, regrouped
 
 -- ---- the rest of a line, whose words are the same at each place
 
-module _ {count : ℕ} {bytes : List ℕ} {said : ℕ → List Word} (h : Heard count bytes said) where
+module _ {count : ℕ} {bytes : List ℕ} {said : ℕ → List StatementToken} (h : Heard count bytes said) where
   pub comma : Heard (suc count) (44 ∷ bytes) (λ at. words.Sign 44 ∷ said (at + 1))
   comma = tokened kinds.Sign (44 ∷ []) (λ _. words.Sign 44) refl (omega arith) (omega arith) (λ _. refl) h
 
@@ -55,7 +55,7 @@ module _ {count : ℕ} {bytes : List ℕ} {said : ℕ → List Word} (h : Heard 
 abbrev IsNamed : ℕ → Type 0
 IsNamed r =
     (register_text r ≡ 37 ∷ drop 1 (register_text r)) × (is_name (drop 1 (register_text r)) ≡ true)
-    × (percent_word (drop 1 (register_text r)) ≡ words.Register r) × (leb (length (register_text r)) 16 ≡ true)
+    × (percent_token (drop 1 (register_text r)) ≡ words.Register r) × (leb (length (register_text r)) 16 ≡ true)
 
 thirty_two : Below IsNamed 32
 thirty_two = (
@@ -144,7 +144,7 @@ thirty_two = (
   (refl, refl, refl, refl),
 )
 
-pub registered : {count : ℕ} {bytes : List ℕ} {said : ℕ → List Word} (r : ℕ) → r < 32 → Stops bytes → Heard count bytes said
+pub registered : {count : ℕ} {bytes : List ℕ} {said : ℕ → List StatementToken} (r : ℕ) → r < 32 → Stops bytes → Heard count bytes said
     → Heard (suc count) (register_text r ++ bytes) (λ at. words.Register r ∷ said (at + length (register_text r)))
 registered {count} {bytes} {said} r small s h =
     let is = at_below IsNamed 32 r thirty_two small in
@@ -153,7 +153,7 @@ registered {count} {bytes} {said} r small s h =
     let some : 0 < length (register_text r) = (let l : length (register_text r) ≡ suc (length (drop 1 (register_text r))) = ap length is.0 in omega arith) in
     tokened kinds.Percent (register_text r) (λ _. words.Register r) f some (leb-true (length (register_text r)) 16 is.3) (λ _. is.2) h
 
-pub state_register : {count : ℕ} {bytes : List ℕ} {said : ℕ → List Word} (s : Special) → Stops bytes → Heard count bytes said
+pub state_register : {count : ℕ} {bytes : List ℕ} {said : ℕ → List StatementToken} (s : Special) → Stops bytes → Heard count bytes said
     → Heard (suc count) (special_text s ++ bytes) (λ at. words.Special s ∷ said (at + length (special_text s)))
 state_register {bytes = bytes} specials.Y k h = tokened kinds.Percent (codes "%y") (λ _. words.Special specials.Y) (percent_front (codes "y") bytes refl k) (omega arith) (omega arith) (λ _. refl) h
 state_register {bytes = bytes} specials.Psr k h =
@@ -171,40 +171,40 @@ OperandIn P (operands.Register r) = r < 32
 OperandIn P (operands.Immediate n) = P n
 
 -- a word below 2 ^ 31 stands as it is, else `-` and what is left to 2 ^ 32
-abbrev pub signed_words : Bool → ℕ → List Word
+abbrev pub signed_words : Bool → ℕ → List StatementToken
 signed_words t n = cond t (words.Number n ∷ []) (words.Sign 45 ∷ words.Number (2 ^ 32 - n) ∷ [])
 
-abbrev pub offset_words : Bool → ℕ → List Word
+abbrev pub offset_words : Bool → ℕ → List StatementToken
 offset_words t n = cond t (words.Sign 43 ∷ words.Number n ∷ []) (words.Sign 45 ∷ words.Number (2 ^ 32 - n) ∷ [])
 
-abbrev pub operand_words : Operand → List Word
+abbrev pub operand_words : Operand → List StatementToken
 operand_words (operands.Register r) = words.Register r ∷ []
 operand_words (operands.Immediate n) = signed_words (ltb n (2 ^ 31)) n
 
 -- behind the register of an address
-abbrev pub added_words : Operand → List Word
+abbrev pub added_words : Operand → List StatementToken
 added_words (operands.Register r) = words.Sign 43 ∷ words.Register r ∷ []
 added_words (operands.Immediate n) = offset_words (ltb n (2 ^ 31)) n
 
 large : (n : ℕ) → ltb n (2 ^ 31) ≡ false → 0 < n
 large n e = let ge = ltb-false n (2 ^ 31) e in omega arith
 
-signed_heard : {count : ℕ} {bytes : List ℕ} {ws : List Word} (t : Bool) (n : ℕ) → n < 2 ^ 32 → (t ≡ false → 0 < n) → Stops bytes → Heard count bytes (λ _. ws)
+signed_heard : {count : ℕ} {bytes : List ℕ} {ws : List StatementToken} (t : Bool) (n : ℕ) → n < 2 ^ 32 → (t ≡ false → 0 < n) → Stops bytes → Heard count bytes (λ _. ws)
     → Heard (suc (suc count)) (cond t (decimal n) (codes "-" ++ decimal (2 ^ 32 - n)) ++ bytes) (λ _. signed_words t n ++ ws)
 signed_heard true n small some s h = fewer (numbered h n small s)
 signed_heard false n small some s h = let k = some refl in minus (numbered h (2 ^ 32 - n) (omega arith) s)
 
-pub operand_heard : {count : ℕ} {bytes : List ℕ} {ws : List Word} (P : ℕ → Type 0) (o : Operand) → ((n : ℕ) → P n → n < 2 ^ 32) → OperandIn P o → Stops bytes → Heard count bytes (λ _. ws)
+pub operand_heard : {count : ℕ} {bytes : List ℕ} {ws : List StatementToken} (P : ℕ → Type 0) (o : Operand) → ((n : ℕ) → P n → n < 2 ^ 32) → OperandIn P o → Stops bytes → Heard count bytes (λ _. ws)
     → Heard (suc (suc count)) (operand_text o ++ bytes) (λ _. operand_words o ++ ws)
 operand_heard P (operands.Register r) small inside s h = fewer (registered r inside s h)
 operand_heard P (operands.Immediate n) small inside s h = signed_heard (ltb n (2 ^ 31)) n (small n inside) (large n) s h
 
-offset_heard : {count : ℕ} {bytes : List ℕ} {ws : List Word} (rs1 : ℕ) (t : Bool) (n : ℕ) → rs1 < 32 → n < 2 ^ 32 → (t ≡ false → 0 < n) → Stops bytes → Heard count bytes (λ _. ws)
+offset_heard : {count : ℕ} {bytes : List ℕ} {ws : List StatementToken} (rs1 : ℕ) (t : Bool) (n : ℕ) → rs1 < 32 → n < 2 ^ 32 → (t ≡ false → 0 < n) → Stops bytes → Heard count bytes (λ _. ws)
     → Heard (suc (suc (suc count))) (register_text rs1 ++ (cond t (codes "+" ++ decimal n) (codes "-" ++ decimal (2 ^ 32 - n)) ++ bytes)) (λ _. words.Register rs1 ∷ (offset_words t n ++ ws))
 offset_heard rs1 true n base small some s h = registered rs1 base (refl, refl) (plus (numbered h n small s))
 offset_heard rs1 false n base small some s h = let k = some refl in registered rs1 base (refl, refl) (minus (numbered h (2 ^ 32 - n) (omega arith) s))
 
-pub address_heard : {count : ℕ} {bytes : List ℕ} {ws : List Word} (P : ℕ → Type 0) (rs1 : ℕ) (o : Operand) → ((n : ℕ) → P n → n < 2 ^ 32) → rs1 < 32 →
+pub address_heard : {count : ℕ} {bytes : List ℕ} {ws : List StatementToken} (P : ℕ → Type 0) (rs1 : ℕ) (o : Operand) → ((n : ℕ) → P n → n < 2 ^ 32) → rs1 < 32 →
     OperandIn P o → Stops bytes → Heard count bytes (λ _. ws)
     → Heard (suc (suc (suc count))) (address_text rs1 o ++ bytes) (λ _. words.Register rs1 ∷ (added_words o ++ ws))
 address_heard {bytes = bytes} P rs1 (operands.Register r) small base inside s h =
@@ -213,7 +213,8 @@ address_heard {bytes = bytes} P rs1 (operands.Immediate n) small base inside s h
     regrouped (register_text rs1) (cond (ltb n (2 ^ 31)) (codes "+" ++ decimal n) (codes "-" ++ decimal (2 ^ 32 - n))) bytes
     (offset_heard rs1 (ltb n (2 ^ 31)) n base (small n inside) (large n) s h)
 
-pub memory_heard : {count : ℕ} {bytes : List ℕ} {ws : List Word} (P : ℕ → Type 0) (rs1 : ℕ) (o : Operand) → ((n : ℕ) → P n → n < 2 ^ 32) → rs1 < 32 → OperandIn P o → Heard count bytes (λ _. ws)
+pub memory_heard : {count : ℕ} {bytes : List ℕ} {ws : List StatementToken} (P : ℕ → Type 0) (rs1 : ℕ) (o : Operand) → ((n : ℕ) → P n → n < 2 ^ 32) → rs1 < 32 →
+    OperandIn P o → Heard count bytes (λ _. ws)
     → Heard (suc (suc (suc (suc (suc count))))) (memory_text rs1 o ++ bytes) (λ _. words.Sign 91 ∷ words.Register rs1 ∷ (added_words o ++ words.Sign 93 ∷ ws))
 memory_heard {bytes = bytes} P rs1 o small base inside h = opening (regrouped (address_text rs1 o) (93 ∷ []) bytes (address_heard P rs1 o small base inside (refl, refl) (closing h)))
 

@@ -8,8 +8,8 @@ use Rattle.v8_formats.specs.declared.instr.Operand.{Operand}
 use Rattle.v8_formats.specs.declared.instr.Operand.TheVariants as operands
 use Rattle.v8_forms.specs.declared.part.Range.{Range}
 use Rattle.v8_forms.specs.declared.part.Range.TheVariants as ranges
-use Rattle.v8_syntax.specs.declared.word.Word.{Word}
-use Rattle.v8_syntax.specs.declared.word.Word.TheVariants as words
+use Rattle.v8_syntax.specs.declared.word.StatementToken.{StatementToken}
+use Rattle.v8_syntax.specs.declared.word.StatementToken.TheVariants as words
 use Rattle.v8_syntax.specs.declared.word.NameKind.TheVariants as names
 use Rattle.v8_syntax.specs.declared.fault.SyntaxFault.{SyntaxFault}
 use Rattle.v8_syntax.specs.declared.fault.SyntaxFault.TheVariants.{Immediate, Target}
@@ -139,25 +139,25 @@ operand_inside range w k =
 -- ---- operands and addresses
 
 module _ (values : List ℕ → Option ℕ) (line : List ℕ) where
-  signed_read : (range : Range) (t : Bool) (n : ℕ) (ws : List Word)
+  signed_read : (range : Range) (t : Bool) (n : ℕ) (ws : List StatementToken)
       → second values line range (signed_words t n ++ ws) ≡ Some (immediate range (signed_expression t n), ws)
   unfolding second expression
   signed_read range true n ws = refl
   signed_read range false n ws = refl
 
-  pub second_read : (range : Range) (o : Operand) (ws : List Word) → OperandIn (In range) o → second values line range (operand_words o ++ ws) ≡ Some (Ok o, ws)
+  pub second_read : (range : Range) (o : Operand) (ws : List StatementToken) → OperandIn (In range) o → second values line range (operand_words o ++ ws) ≡ Some (Ok o, ws)
   unfolding second
   second_read range (operands.Register r) ws h = refl
   second_read range (operands.Immediate n) ws h =
       signed_read range (ltb n (2 ^ 31)) n ws ∙ ap (λ r. Some (r >>= λ m. Ok (operands.Immediate m), ws)) (worth range n h)
 
-  offset_read : (range : Range) (rs1 : ℕ) (t : Bool) (n : ℕ) (ws : List Word)
+  offset_read : (range : Range) (rs1 : ℕ) (t : Bool) (n : ℕ) (ws : List StatementToken)
       → address values line range (words.Register rs1 ∷ (offset_words t n ++ ws)) ≡ Some (sum_of rs1 (immediate range (signed_expression t n)), ws)
   unfolding address added_second second expression
   offset_read range rs1 true n ws = refl
   offset_read range rs1 false n ws = refl
 
-  pub address_read : (range : Range) (rs1 : ℕ) (o : Operand) (ws : List Word) → OperandIn (In range) o
+  pub address_read : (range : Range) (rs1 : ℕ) (o : Operand) (ws : List StatementToken) → OperandIn (In range) o
       → address values line range (words.Register rs1 ∷ (added_words o ++ ws)) ≡ Some (Ok (sum_bits rs1 o), ws)
   unfolding address added_second second
   address_read range rs1 (operands.Register r) ws h = refl

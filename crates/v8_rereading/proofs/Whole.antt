@@ -16,7 +16,7 @@ use Rattle.v8_syntax.specs.declared.fault.SyntaxFault.{SyntaxFault}
 use Rattle.v8_syntax.specs.declared.fault.SyntaxFault.TheVariants.{UnknownMnemonic}
 use Rattle.v8_forms.specs.Forms.{Form, forms}
 use Rattle.v8_forms.specs.Text.{native_of, operands_text, shown, suffix_text, text_of}
-use Rattle.v8_syntax.specs.Statements.{word_of, words_of, ◌>>=◌, first_of, named_meaning, set, source_meaning}
+use Rattle.v8_syntax.specs.Statements.{statement_token, statement_tokens, ◌>>=◌, first_of, named_meaning, set, source_meaning}
 use Rattle.v8_rereading.specs.Laws.{IsReadAs, ReadsEachTextBack}
 use Rattle.v8_rereading.proofs.Bytes.{is_name, name_front}
 use Rattle.v8_rereading.proofs.Covered.{has_form}
@@ -36,12 +36,12 @@ module _ (f : Form) (w : ℕ) (found : native_of w ≡ Some f) (known : Found f 
   name : List ℕ
   name = f.name ++ suffix_text f.conditional w
 
-  spoken_at : (ts : List Token) (values_of : List ℕ → Option ℕ) (here at : ℕ) → words_of (name ++ operands_text f.parts w) ts ≡ told.said at
+  spoken_at : (ts : List Token) (values_of : List ℕ → Option ℕ) (here at : ℕ) → statement_tokens (name ++ operands_text f.parts w) ts ≡ told.said at
       → source_meaning values_of here (name ++ operands_text f.parts w) (record { kind = kinds.Name; start = 0; stop = 0 + length name } ∷ ts) ≡ Ok (meaning w ∷ [])
-  unfolding name named_meaning word_of
+  unfolding name named_meaning statement_token
   spoken_at ts values_of here at e =
       let line : List ℕ = name ++ operands_text f.parts w in
-      ap (λ n. named_meaning values_of here line n (words_of line ts)) (between line [] name (operands_text f.parts w) 0 refl refl)
+      ap (λ n. named_meaning values_of here line n (statement_tokens line ts)) (between line [] name (operands_text f.parts w) 0 refl refl)
       ∙ ap (named_meaning values_of here line name) e
       ∙ no_set_meaning (bytes_eq name (codes "set")) (set values_of line (told.said at)) (first_of values_of here line UnknownMnemonic forms name (told.said at)) w known.no_set
       (first_is values_of here line (told.said at) f w name found known (told.reads values_of here line at) refl (λ ks s. told.refuses ks s values_of here line at))

@@ -2,8 +2,8 @@
 use Rattle.std.specs.Prelude.{◌≡◌, ℕ, ◌^◌, ◌<◌, List, [], ◌∷◌, length, Option, None, Ok, Err, MatchResult}
 use Rattle.sbx_text.specs.declared.Token.{Token}
 use Rattle.sbx_text.specs.Tokens.{tokens_of}
-use Rattle.v8_formats.specs.declared.instr.Place.{Place}
-use Rattle.v8_formats.specs.declared.instr.Place.TheVariants as places
+use Rattle.v8_formats.specs.declared.instr.AlternateOperand.{AlternateOperand}
+use Rattle.v8_formats.specs.declared.instr.AlternateOperand.TheVariants as places
 use Rattle.v8_formats.specs.declared.instr.Instr.{Instr}
 use Rattle.v8_formats.specs.declared.instr.Instr.TheVariants.{LoadAlternate, LoadUnsignedByteAlternate}
 use Rattle.v8_formats.specs.declared.instr.Instr.TheVariants.{LoadUnsignedHalfAlternate, LoadDoubleAlternate}
@@ -21,7 +21,7 @@ use Rattle.v8_forms.specs.Text.{native_of, text_of}
 use Rattle.v8_syntax.specs.Statements.{source_meaning, statement_length}
 
 -- an address in another space has a syntax where it is two registers (appendix A, "asi")
-abbrev pub IsPair : Place → Type 0
+abbrev pub IsPair : AlternateOperand → Type 0
 IsPair (places.Register r asi) = Unit {0}
 IsPair (places.Immediate n) = ⊥
 

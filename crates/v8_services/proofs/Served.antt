@@ -23,7 +23,7 @@ use Rattle.v8_loaded.specs.Layout.{Pages, IsLoaded}
 use Rattle.v8_loaded.specs.Board.{Device, board, gets, got_from}
 use Rattle.v8_loaded.specs.Input.{next_byte}
 use Rattle.v8_loaded.specs.Places.{code_marked, table_marked}
-use Rattle.v8_loaded.specs.Turns.{Leads, TurnsTo, after}
+use Rattle.v8_loaded.specs.Turns.{Leads, TurnsTo, world_after}
 use Rattle.v8_loaded.specs.Users.{RunsUser, in_vector}
 use Rattle.v8_loaded.proofs.Fetches.{device_kept, table_kept}
 use Rattle.v8_loaded.proofs.Leading.{leads_more, leads_one}
@@ -305,19 +305,19 @@ module _ (n : ℕ) (g : Pages) (words : List ℕ) (mmu : MmuRegs) (x : World n D
   abbrev at_device : ℕ → ℕ → World n Device
   at_device t a = world n (in_vector n c t vector (following a) (following (following a))) ram2 d
 
-  then_to : (k : ℕ) (mid new : World n Device) (event : Event) → after board n mmu k x ≡ mid → TurnsTo n g mmu mid event new → after board n mmu (suc k) x ≡ new
+  then_to : (k : ℕ) (mid new : World n Device) (event : Event) → world_after board n mmu k x ≡ mid → TurnsTo n g mmu mid event new → world_after board n mmu (suc k) x ≡ new
   then_to k mid new event before turn = ap (λ w. (next board n mmu w).1) before ∙ turn.is
 
   abbrev in_system : ℕ → Type 0
-  in_system k = (after board n mmu k x).cpu.control.s ≡ true
+  in_system k = (world_after board n mmu k x).cpu.control.s ≡ true
 
   pub exit_system : Calls words i 0 → (k : ℕ) → k < 2 → in_system (suc k)
   exit_system asks k less = by_turn k less
     where
-      first : after board n mmu 1 x ≡ at_vector 0x80 0xF0000800
+      first : world_after board n mmu 1 x ≡ at_vector 0x80 0xF0000800
       first = (trap_turn n g words mmu x i u (calls 0) 0x80 asks (exit_traps n c)).is
 
-      second : after board n mmu 2 x ≡ at_device 0x80 0xF0000800
+      second : world_after board n mmu 2 x ≡ at_device 0x80 0xF0000800
       second = then_to 1 (at_vector 0x80 0xF0000800) (at_device 0x80 0xF0000800) Ran first (set_turn 0x80 512 0xF0000800 (omega arith) refl exit_0)
 
       by_turn : (k : ℕ) → k < 2 → in_system (suc k)
@@ -334,16 +334,16 @@ module _ (n : ℕ) (g : Pages) (words : List ℕ) (mmu : MmuRegs) (x : World n D
       fourth_world : World n Device
       fourth_world = world n (in_vector n c 0x81 given 0xF000081C npc) (ram4 false) after_get
 
-      first : after board n mmu 1 x ≡ at_vector 0x81 0xF0000810
+      first : world_after board n mmu 1 x ≡ at_vector 0x81 0xF0000810
       first = (trap_turn n g words mmu x i u (calls 1) 0x81 asks (get_traps n c)).is
 
-      second : after board n mmu 2 x ≡ at_device 0x81 0xF0000810
+      second : world_after board n mmu 2 x ≡ at_device 0x81 0xF0000810
       second = then_to 1 (at_vector 0x81 0xF0000810) (at_device 0x81 0xF0000810) Ran first (set_turn 0x81 516 0xF0000810 (omega arith) refl get_0)
 
-      third : after board n mmu 3 x ≡ third_world
+      third : world_after board n mmu 3 x ≡ third_world
       third = then_to 2 (at_device 0x81 0xF0000810) third_world Ran second get_turn
 
-      fourth : after board n mmu 4 x ≡ fourth_world
+      fourth : world_after board n mmu 4 x ≡ fourth_world
       fourth = then_to 3 third_world fourth_world Ran third
           (jump_turn 0x81 518 0xF0000818 given (ram3 false) after_get (loaded3 false) (gets_running d u.running)
           (reads_npc_after n v pc npc u.file pc_word u.npc_word (gets d).0) (omega arith) refl get_2)
@@ -364,16 +364,16 @@ module _ (n : ℕ) (g : Pages) (words : List ℕ) (mmu : MmuRegs) (x : World n D
       fourth_world : World n Device
       fourth_world = world n (in_vector n c 0x82 vector 0xF000082C npc) (ram4 true) after_put
 
-      first : after board n mmu 1 x ≡ at_vector 0x82 0xF0000820
+      first : world_after board n mmu 1 x ≡ at_vector 0x82 0xF0000820
       first = (trap_turn n g words mmu x i u (calls 2) 0x82 asks (put_traps n c)).is
 
-      second : after board n mmu 2 x ≡ at_device 0x82 0xF0000820
+      second : world_after board n mmu 2 x ≡ at_device 0x82 0xF0000820
       second = then_to 1 (at_vector 0x82 0xF0000820) (at_device 0x82 0xF0000820) Ran first (set_turn 0x82 520 0xF0000820 (omega arith) refl put_0)
 
-      third : after board n mmu 3 x ≡ third_world
+      third : world_after board n mmu 3 x ≡ third_world
       third = then_to 2 (at_device 0x82 0xF0000820) third_world Ran second put_turn
 
-      fourth : after board n mmu 4 x ≡ fourth_world
+      fourth : world_after board n mmu 4 x ≡ fourth_world
       fourth = then_to 3 third_world fourth_world Ran third
           (jump_turn 0x82 522 0xF0000828 vector (ram3 true) after_put (loaded3 true) u.running (reads_npc n v pc npc u.file pc_word u.npc_word) (omega arith) refl put_2)
 

@@ -10,7 +10,7 @@ use Rattle.v8_loaded.specs.Layout.{Pages, IsLoaded}
 use Rattle.v8_loaded.specs.Board.{Device, board}
 use Rattle.v8_loaded.specs.Areas.{HasFrame, HasRoom, IsFrame, SameBut, area_of}
 use Rattle.v8_loaded.specs.Places.{entered_window}
-use Rattle.v8_loaded.specs.Turns.{after}
+use Rattle.v8_loaded.specs.Turns.{world_after}
 use Rattle.v8_loaded.specs.Users.{AsksFor, IsHandled, RunsUser}
 
 -- ---- before
@@ -55,7 +55,7 @@ pub record Spilled (n : ℕ) (g : Pages) (words : List ℕ) (old new : World n D
 -- 24 turns: the trap of window_overflow, and 23 that run and store
 pub record Handled (n : ℕ) (g : Pages) (words : List ℕ) (mmu : MmuRegs) (old : World n Device) (i : ℕ) : Type 0 where
   pub turns : IsHandled n words mmu old i 5 (stack_pointer n old.cpu) true
-  pub spilled : Spilled n g words old (after board n mmu 24 old) i
+  pub spilled : Spilled n g words old (world_after board n mmu 24 old) i
 
 abbrev pub OverflowLaw : Type 0
 OverflowLaw =

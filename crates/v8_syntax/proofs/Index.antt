@@ -14,7 +14,7 @@ use Rattle.v8_forms.specs.Text.{filled}
 use Rattle.v8_syntax.specs.declared.letters.TheConstants.{BY_LETTER}
 use Rattle.v8_syntax.specs.declared.fault.SyntaxFault.{SyntaxFault}
 use Rattle.v8_syntax.specs.declared.fault.SyntaxFault.TheVariants.{Shape}
-use Rattle.v8_syntax.specs.declared.word.Word.{Word}
+use Rattle.v8_syntax.specs.declared.word.StatementToken.{StatementToken}
 use Rattle.v8_syntax.specs.Statements.{bytes_between, ◌>>=◌, first_of, named, of_condition, operands_of}
 
 abbrev pub begins : ℕ → Form → Bool
@@ -43,7 +43,7 @@ skipped f name h = by f.conditional
 abbrev none : Form
 none = record { name = []; conditional = false; parts = []; word = 0 }
 
-module _ (values : List ℕ → Option ℕ) (here : ℕ) (line name : List ℕ) (ws : List Word) where
+module _ (values : List ℕ → Option ℕ) (here : ℕ) (line name : List ℕ) (ws : List StatementToken) where
   alike : (others others' : SyntaxFault → Result ℕ SyntaxFault) → ((g : SyntaxFault) → others g ≡ others' g) → (fault : SyntaxFault) (f : Form) (o : Option ℕ)
       → of_condition values here line others fault f ws o ≡ of_condition values here line others' fault f ws o
   alike others others' h fault f (Some c) = ap (option_map_or (λ x. x.0 >>= λ n. Ok (filled f c n)) (operands_of values here line f.parts ws)) (h Shape)

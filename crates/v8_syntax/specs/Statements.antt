@@ -13,9 +13,9 @@ use Rattle.v8_formats.specs.Spelling.{spell_operand}
 use Rattle.v8_formats.specs.Table.{meaning}
 use Rattle.v8_forms.specs.declared.part.{Part.Part, Range.Range, Special.Special}
 use Rattle.v8_forms.specs.Forms.{Form, suffixes, forms, scale, least, greatest, width, plus}
-use Rattle.v8_forms.specs.Text.{code_of, sum_bits, elsewhere_bits, annul_bit, filled}
+use Rattle.v8_forms.specs.Text.{special_number, sum_bits, elsewhere_bits, annul_bit, filled}
 use Rattle.v8_syntax.specs.declared.fault.SyntaxFault.{SyntaxFault}
-use Rattle.v8_syntax.specs.declared.word.{Word.Word, NameKind.NameKind}
+use Rattle.v8_syntax.specs.declared.word.{StatementToken.StatementToken, NameKind.NameKind}
 use Rattle.v8_syntax.specs.declared.expression.{Base.Base, Expression.Expression}
 
 -- the bytes of a line from one place up to another, and none where the line has no such bytes
@@ -57,26 +57,26 @@ specials = (codes "y", Special.Y) ∷ (codes "psr", Special.Psr) ∷ (codes "wim
 -- ---- the word of each token
 
 -- what stands behind a `%`
-abbrev pub percent_word : List ℕ → Word
-percent_word name =
-    unwrap_or (option_or (option_map Word.Register (register_named name))
-    (option_map Word.Special (beside name specials))) Word.Unknown
+abbrev pub percent_token : List ℕ → StatementToken
+percent_token name =
+    unwrap_or (option_or (option_map StatementToken.Register (register_named name))
+    (option_map StatementToken.Special (beside name specials))) StatementToken.Unknown
 
 -- `a` annuls, `.` is the place, and another name is a symbol
 abbrev pub name_kind : List ℕ → NameKind
 name_kind name = unwrap_or (beside name ((codes "a", NameKind.Annul) ∷ (codes ".", NameKind.Place) ∷ [])) NameKind.Plain
 
-abbrev pub word_at : List ℕ → ℕ → ℕ → Kind → Word
-word_at line start stop Kind.Name = Word.Name (name_kind (bytes_between line start stop)) start stop
-word_at line start stop Kind.Percent = percent_word (drop 1 (bytes_between line start stop))
-word_at line start stop (Kind.Number n) = Word.Number n
-word_at line start stop Kind.Sign = Word.Sign (slice_index (bytes_between line start stop) 0)
+abbrev pub token_at : List ℕ → ℕ → ℕ → Kind → StatementToken
+token_at line start stop Kind.Name = StatementToken.Name (name_kind (bytes_between line start stop)) start stop
+token_at line start stop Kind.Percent = percent_token (drop 1 (bytes_between line start stop))
+token_at line start stop (Kind.Number n) = StatementToken.Number n
+token_at line start stop Kind.Sign = StatementToken.Sign (slice_index (bytes_between line start stop) 0)
 
-unfoldable pub word_of : List ℕ → Token → Word
-word_of line t = word_at line t.start t.stop t.kind
+unfoldable pub statement_token : List ℕ → Token → StatementToken
+statement_token line t = token_at line t.start t.stop t.kind
 
-abbrev pub words_of : List ℕ → List Token → List Word
-words_of line tokens = map (word_of line) tokens
+abbrev pub statement_tokens : List ℕ → List Token → List StatementToken
+statement_tokens line tokens = map (statement_token line) tokens
 
 -- what is done next, where there is no fault
 infixl 10 ◌>>=◌
@@ -87,7 +87,7 @@ abbrev pub ◌>>=◌ : {A B : Type 0} → Result A SyntaxFault → (A → Result
 -- ---- readings: what stands at the front of some words, and the words after it
 
 abbrev pub Reading : Type 0 → Type 0
-Reading A = List Word → Option (A × List Word)
+Reading A = List StatementToken → Option (A × List StatementToken)
 
 infixl 30 ◌and_then◌
 abbrev pub ◌and_then◌ : {A B : Type 0} → Reading A → (A → Reading B) → Reading B
@@ -109,33 +109,33 @@ abbrev pub end : Reading (Unit {0})
 end [] = Some (tt, [])
 end _ = None
 
-abbrev pub after_sign : ℕ → List Word → Option (List Word)
-after_sign b (Word.Sign c ∷ ws) = if c == b then Some ws else None
+abbrev pub after_sign : ℕ → List StatementToken → Option (List StatementToken)
+after_sign b (StatementToken.Sign c ∷ ws) = if c == b then Some ws else None
 after_sign b _ = None
 
 -- a reading behind a sign
-abbrev pub after : {A : Type 0} → ℕ → Reading A → Reading A
-after b p = λ ws. option_and_then p (after_sign b ws)
+abbrev pub read_behind : {A : Type 0} → ℕ → Reading A → Reading A
+read_behind b p = λ ws. option_and_then p (after_sign b ws)
 
 abbrev pub number_first : Reading ℕ
-number_first (Word.Number n ∷ ws) = Some (n, ws)
+number_first (StatementToken.Number n ∷ ws) = Some (n, ws)
 number_first _ = None
 
 abbrev pub register_first : Reading ℕ
-register_first (Word.Register r ∷ ws) = Some (r, ws)
+register_first (StatementToken.Register r ∷ ws) = Some (r, ws)
 register_first _ = None
 
 abbrev pub special_first : Reading Special
-special_first (Word.Special s ∷ ws) = Some (s, ws)
+special_first (StatementToken.Special s ∷ ws) = Some (s, ws)
 special_first _ = None
 
 abbrev pub annul_first : Reading Bool
-annul_first (Word.Name NameKind.Annul i j ∷ ws) = Some (true, ws)
+annul_first (StatementToken.Name NameKind.Annul i j ∷ ws) = Some (true, ws)
 annul_first _ = None
 
 -- a name of the line
 abbrev pub name_first : List ℕ → Reading (List ℕ)
-name_first line (Word.Name kind i j ∷ ws) = Some (bytes_between line i j, ws)
+name_first line (StatementToken.Name kind i j ∷ ws) = Some (bytes_between line i j, ws)
 name_first line _ = None
 
 -- ---- expressions: a number, `-` number, a symbol, a symbol with `+` or `-` number
@@ -147,7 +147,7 @@ abbrev pub less : Base → ℕ → Expression
 less base n = record { base = base; negative = true; number = n }
 
 abbrev pub negative : Base → Reading Expression
-negative base = after 45 number_first giving less base
+negative base = read_behind 45 number_first giving less base
 
 -- `.` before a sign is the place of the instruction; else it is a symbol, as other names are
 abbrev pub moved : NameKind → Option ℕ → Base
@@ -156,7 +156,7 @@ moved _ value = Base.Symbol value
 
 abbrev pub named_expression : NameKind → Option ℕ → Reading Expression
 named_expression kind value =
-    after 43 number_first giving plain (moved kind value) or_else negative (moved kind value) or_else gives
+    read_behind 43 number_first giving plain (moved kind value) or_else negative (moved kind value) or_else gives
     (plain (Base.Symbol value) 0)
 
 -- ---- their values: whole numbers, without wrapping
@@ -209,7 +209,7 @@ sum_of rs1 o = o >>= λ operand2. Ok (sum_bits rs1 operand2)
 
 -- a register behind `+`, else %g0
 abbrev pub added_register : Reading ℕ
-added_register = after 43 register_first or_else gives 0
+added_register = read_behind 43 register_first or_else gives 0
 
 -- ---- names
 
@@ -245,8 +245,8 @@ is_symbolic _ = true
 -- what the symbols are worth, and the line
 module _ (values : List ℕ → Option ℕ) (line : List ℕ) where
   unfoldable pub expression : Reading Expression
-  expression (Word.Number n ∷ ws) = Some (plain Base.Number n, ws)
-  expression (Word.Name kind i j ∷ ws) = named_expression kind (values (bytes_between line i j)) ws
+  expression (StatementToken.Number n ∷ ws) = Some (plain Base.Number n, ws)
+  expression (StatementToken.Name kind i j ∷ ws) = named_expression kind (values (bytes_between line i j)) ws
   expression ws = negative Base.Number ws
 
   unfoldable pub second : Range → Reading (Result Operand SyntaxFault)
@@ -255,7 +255,7 @@ module _ (values : List ℕ → Option ℕ) (line : List ℕ) where
   -- such a one behind `+`, a number behind `-`, else %g0
   unfoldable pub added_second : Range → Reading (Result Operand SyntaxFault)
   added_second range =
-      after 43 (second range) or_else negative Base.Number giving immediate range or_else gives
+      read_behind 43 (second range) or_else negative Base.Number giving immediate range or_else gives
       (Ok (Operand.Register 0))
 
   -- a register and such a one; an expression, and a register behind it
@@ -266,9 +266,9 @@ module _ (values : List ℕ → Option ℕ) (line : List ℕ) where
 
   -- `set`: `value,register`
   unfoldable pub set_operands : Reading (Expression × ℕ)
-  set_operands = expression and_then λ e. after 44 register_first and_then λ rd. end giving λ _. (e, rd)
+  set_operands = expression and_then λ e. read_behind 44 register_first and_then λ rd. end giving λ _. (e, rd)
 
-  unfoldable pub set : List Word → Result (List Instr) SyntaxFault
+  unfoldable pub set : List StatementToken → Result (List Instr) SyntaxFault
   set ws = option_map_or
       (λ x. word_in Range.Whole x.0.0 >>= λ w. Ok (set_instructions (is_symbolic x.0.0.base) w x.0.1)) (set_operands ws)
       (Err SyntaxFault.Shape)
@@ -284,40 +284,40 @@ module _ (values : List ℕ → Option ℕ) (here : ℕ) (line : List ℕ) where
 
   unfoldable pub read : Part → Reading (Result ℕ SyntaxFault)
   read (Part.Register f) = register_first giving λ r. Ok (r * scale f)
-  read Part.State = special_first giving λ s. Ok (code_of s * 2 ^ 19)
+  read Part.State = special_first giving λ s. Ok (special_number s * 2 ^ 19)
   read (Part.Second range) = second values line range giving λ o. o >>= λ operand2. Ok (spell_operand operand2)
   read (Part.Address range) = address values line range
-  read Part.Memory = after 91 (address values line Range.Signed) and_then λ x. after 93 (gives x)
+  read Part.Memory = read_behind 91 (address values line Range.Signed) and_then λ x. read_behind 93 (gives x)
   read Part.Elsewhere =
-      after 91 register_first and_then λ rs1. added_register and_then λ rs2.
-      after 93 (expression values line) giving λ e. word_in Range.Space e >>= λ asi. Ok
+      read_behind 91 register_first and_then λ rs1. added_register and_then λ rs2.
+      read_behind 93 (expression values line) giving λ e. word_in Range.Space e >>= λ asi. Ok
       (elsewhere_bits rs1 rs2 (asi % 2 ^ 8))
   read (Part.Number range) = expression values line giving λ e. word_in range e >>= λ n. Ok (n % 2 ^ width range)
   read Part.Call = target (2 ^ 31) false
-  read Part.Branch = (after 44 annul_first or_else gives false) and_then target (2 ^ 23)
+  read Part.Branch = (read_behind 44 annul_first or_else gives false) and_then target (2 ^ 23)
 
   -- operands with commas between them, to the end
 
   abbrev pub behind : List Part → Reading (Result ℕ SyntaxFault)
   behind [] = end giving λ _. Ok 0
-  behind (p ∷ ps) = after 44 (read p) and_then λ x. behind ps giving added x
+  behind (p ∷ ps) = read_behind 44 (read p) and_then λ x. behind ps giving added x
 
   abbrev pub operands_of : List Part → Reading (Result ℕ SyntaxFault)
   operands_of [] = end giving λ _. Ok 0
   operands_of (p ∷ ps) = read p and_then λ x. behind ps giving added x
 
   -- the word of the first of some forms that has the name and that the operands fit, else the fault
-  abbrev pub of_condition : (SyntaxFault → Result ℕ SyntaxFault) → SyntaxFault → Form → List Word → Option ℕ →
+  abbrev pub of_condition : (SyntaxFault → Result ℕ SyntaxFault) → SyntaxFault → Form → List StatementToken → Option ℕ →
       Result ℕ SyntaxFault
   of_condition others fault f ws (Some condition) =
       option_map_or (λ x. x.0 >>= λ n. Ok (filled f condition n)) (operands_of f.parts ws) (others SyntaxFault.Shape)
   of_condition others fault f ws None = others fault
 
-  abbrev pub first_of : SyntaxFault → List Form → List ℕ → List Word → Result ℕ SyntaxFault
+  abbrev pub first_of : SyntaxFault → List Form → List ℕ → List StatementToken → Result ℕ SyntaxFault
   first_of fault [] name ws = Err fault
   first_of fault (f ∷ fs) name ws = of_condition (λ other. first_of other fs name ws) fault f ws (named f name)
 
-  unfoldable pub named_meaning : List ℕ → List Word → Result (List Instr) SyntaxFault
+  unfoldable pub named_meaning : List ℕ → List StatementToken → Result (List Instr) SyntaxFault
   named_meaning name ws =
       if bytes_eq name (codes "set") then set values line ws
       else (first_of SyntaxFault.UnknownMnemonic forms name ws >>= λ w. Ok (meaning w ∷ []))
@@ -325,7 +325,7 @@ module _ (values : List ℕ → Option ℕ) (here : ℕ) (line : List ℕ) where
 -- the instructions of a statement, a name first, or its fault
 abbrev pub source_meaning : (List ℕ → Option ℕ) → ℕ → List ℕ → List Token → Result (List Instr) SyntaxFault
 source_meaning values here line tokens =
-    option_map_or (λ x. named_meaning values here line x.0 x.1) (name_first line (words_of line tokens))
+    option_map_or (λ x. named_meaning values here line x.0 x.1) (name_first line (statement_tokens line tokens))
     (Err SyntaxFault.UnknownMnemonic)
 
 -- ---- how many instructions a statement takes, whatever its symbols are worth
@@ -339,4 +339,4 @@ count_of (Err fault) = 1
 abbrev pub statement_length : List ℕ → List Token → ℕ
 statement_length line tokens =
     option_map_or (λ x. if bytes_eq x.0 (codes "set") then count_of (set (λ _. None) line x.1) else 1)
-    (name_first line (words_of line tokens)) 1
+    (name_first line (statement_tokens line tokens)) 1

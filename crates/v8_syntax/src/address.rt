@@ -1,6 +1,7 @@
 // Second operands and addresses, and the bits that they fill.
 ghost use Rattle.std.specs.Prelude.{◌≡◌, ℕ, ◌+◌, ◌*◌, ◌%◌, ◌^◌, ◌<◌, ◌≤◌, List, MatchOption, Some, None};
-ghost use Rattle.v8_syntax.specs.Statements.{words_of, added_register, added_second, address, immediate, read, second};
+ghost use Rattle.v8_syntax.specs.Statements.{statement_tokens, added_register, added_second, address, immediate, read};
+ghost use Rattle.v8_syntax.specs.Statements.{second};
 ghost use Rattle.v8_syntax.specs.Statements.{sum_of};
 ghost use Rattle.v8_forms.specs.declared.part.Part.TheVariants as parts;
 
@@ -35,7 +36,8 @@ fn sum_of(rs1: Reg, operand2: Fitted) -> Filled
 
 /// A register behind `+`, else %g0.
 fn added_register<'t>(line: &[u8], tokens: &'t [Token]) -> (Reg, &'t [Token])
-    ensures { added_register (words_of line.now tokens.now) ≡ Some (result.0, words_of line.now result.1.now) }
+    ensures { added_register (statement_tokens line.now tokens.now) ≡
+        Some (result.0, statement_tokens line.now result.1.now) }
 {
     if let Some(more) = after_sign(b'+', line, tokens)
         && let Some((register, rest)) = register_first(line, more)
@@ -54,9 +56,10 @@ pub fn read_second<'t, S: Symbols>(
     line: &[u8],
     tokens: &'t [Token],
 ) -> Read<'t, Fitted>
-    ensures { MatchOption result (second (S.values symbols.now) line.now range (words_of line.now tokens.now) ≡ None)
-        (λ x. second (S.values symbols.now) line.now range (words_of line.now tokens.now) ≡
-        Some (x.0, words_of line.now x.1.now)) }
+    ensures { MatchOption result (second (S.values symbols.now) line.now range (statement_tokens line.now tokens.now) ≡
+        None)
+        (λ x. second (S.values symbols.now) line.now range (statement_tokens line.now tokens.now) ≡
+        Some (x.0, statement_tokens line.now x.1.now)) }
 {
     if let Some((register, rest)) = register_first(line, tokens) {
         return Some((Ok(Operand::Register(register)), rest));
@@ -73,8 +76,8 @@ fn added_second<'t, S: Symbols>(
     line: &[u8],
     tokens: &'t [Token],
 ) -> (Fitted, &'t [Token])
-    ensures { added_second (S.values symbols.now) line.now range (words_of line.now tokens.now) ≡
-        Some (result.0, words_of line.now result.1.now) }
+    ensures { added_second (S.values symbols.now) line.now range (statement_tokens line.now tokens.now) ≡
+        Some (result.0, statement_tokens line.now result.1.now) }
 {
     if let Some(more) = after_sign(b'+', line, tokens)
         && let Some((operand2, rest)) = read_second(range, symbols, line, more)
@@ -95,9 +98,10 @@ pub fn read_address<'t, S: Symbols>(
     line: &[u8],
     tokens: &'t [Token],
 ) -> Read<'t, Filled>
-    ensures { MatchOption result (address (S.values symbols.now) line.now range (words_of line.now tokens.now) ≡ None)
-        (λ x. address (S.values symbols.now) line.now range (words_of line.now tokens.now) ≡
-        Some (x.0, words_of line.now x.1.now)) }
+    ensures { MatchOption result (address (S.values symbols.now) line.now range (statement_tokens line.now tokens.now) ≡
+        None)
+        (λ x. address (S.values symbols.now) line.now range (statement_tokens line.now tokens.now) ≡
+        Some (x.0, statement_tokens line.now x.1.now)) }
 {
     if let Some((rs1, more)) = register_first(line, tokens) {
         let (operand2, rest) = added_second(range, symbols, line, more);
@@ -116,9 +120,9 @@ pub fn read_memory<'t, S: Symbols>(
     tokens: &'t [Token],
 ) -> Read<'t, Filled>
     ensures { MatchOption result
-        (read (S.values symbols.now) (S.place symbols.now) line.now parts.Memory (words_of line.now tokens.now) ≡ None)
-        (λ x. read (S.values symbols.now) (S.place symbols.now) line.now parts.Memory (words_of line.now tokens.now) ≡
-        Some (x.0, words_of line.now x.1.now)) }
+        (read (S.values symbols.now) (S.place symbols.now) line.now parts.Memory (statement_tokens line.now tokens.now) ≡ None)
+        (λ x. read (S.values symbols.now) (S.place symbols.now) line.now parts.Memory (statement_tokens line.now tokens.now) ≡
+        Some (x.0, statement_tokens line.now x.1.now)) }
 {
     let inner = after_sign(b'[', line, tokens)?;
     let (sum, behind) = read_address(Range::Signed, symbols, line, inner)?;
@@ -134,9 +138,9 @@ pub fn read_elsewhere<'t, S: Symbols>(
     tokens: &'t [Token],
 ) -> Read<'t, Filled>
     ensures { MatchOption result
-        (read (S.values symbols.now) (S.place symbols.now) line.now parts.Elsewhere (words_of line.now tokens.now) ≡
+        (read (S.values symbols.now) (S.place symbols.now) line.now parts.Elsewhere (statement_tokens line.now tokens.now) ≡
         None) (λ x. read (S.values symbols.now) (S.place symbols.now) line.now parts.Elsewhere
-        (words_of line.now tokens.now) ≡ Some (x.0, words_of line.now x.1.now)) }
+        (statement_tokens line.now tokens.now) ≡ Some (x.0, statement_tokens line.now x.1.now)) }
 {
     let inner = after_sign(b'[', line, tokens)?;
     let Some((rs1, more)) = register_first(line, inner) else {

@@ -1,14 +1,17 @@
 // Expressions, and the values of these in their ranges.
 ghost use Rattle.std.specs.Prelude.{◌≡◌, ℕ, ◌+◌, ◌-◌, ◌*◌, ◌/◌, ◌%◌, ◌^◌, ◌<◌, ◌≤◌, pos, negsuc, ℤ, ◌≤ℤ◌, int_le, List};
 ghost use Rattle.std.specs.Prelude.{MatchOption, Some, None};
-ghost use Rattle.v8_syntax.specs.Statements.{words_of, ◌>>=◌ as ◌then◌, after, after_sign, based, distance, expression};
+ghost use Rattle.v8_syntax.specs.Statements.{statement_tokens, ◌>>=◌ as ◌then◌, read_behind, after_sign, based};
+ghost use Rattle.v8_syntax.specs.Statements.{distance};
+ghost use Rattle.v8_syntax.specs.Statements.{expression};
 ghost use Rattle.v8_syntax.specs.Statements.{in_range, less, moved, named_expression, number_first, offset_of, plain};
 ghost use Rattle.v8_syntax.specs.Statements.{reached, register_first, special_first, word_in, of_bits};
 
 use crate::fault::SyntaxFault;
 use crate::symbols::Symbols;
 use crate::word::{
-    NameKind, Word, after_first, bytes_between, bytes_of, front, register_named, sign_byte,
+    NameKind, StatementToken, after_first, bytes_between, bytes_of, front, register_named,
+    sign_byte,
 };
 use sbx_text::{Kind, Token};
 use v8_forms::{Range, Special, greatest, least};
@@ -35,10 +38,10 @@ pub struct Expression {
 pub type Read<'t, T> = Option<(T, &'t [Token])>;
 
 /// What follows a sign.
-#[tactic(auto, unfolding(crate::specs::Statements::word_of))]
+#[tactic(auto, unfolding(crate::specs::Statements::statement_token))]
 pub fn after_sign<'t>(sign: u8, line: &[u8], tokens: &'t [Token]) -> Option<&'t [Token]>
-    ensures { MatchOption result (after_sign sign (words_of line.now tokens.now) ≡ None)
-        (λ rest. after_sign sign (words_of line.now tokens.now) ≡ Some (words_of line.now rest.now)) }
+    ensures { MatchOption result (after_sign sign (statement_tokens line.now tokens.now) ≡ None)
+        (λ rest. after_sign sign (statement_tokens line.now tokens.now) ≡ Some (statement_tokens line.now rest.now)) }
 {
     let (first, rest) = tokens.split_first()?;
     match first.kind {
@@ -48,10 +51,10 @@ pub fn after_sign<'t>(sign: u8, line: &[u8], tokens: &'t [Token]) -> Option<&'t 
 }
 
 /// A number, and what follows it.
-#[tactic(auto, unfolding(crate::specs::Statements::word_of))]
+#[tactic(auto, unfolding(crate::specs::Statements::statement_token))]
 pub fn number_first<'t>(line: &[u8], tokens: &'t [Token]) -> Read<'t, u64>
-    ensures { MatchOption result (number_first (words_of line.now tokens.now) ≡ None)
-        (λ x. number_first (words_of line.now tokens.now) ≡ Some (x.0, words_of line.now x.1.now)) }
+    ensures { MatchOption result (number_first (statement_tokens line.now tokens.now) ≡ None)
+        (λ x. number_first (statement_tokens line.now tokens.now) ≡ Some (x.0, statement_tokens line.now x.1.now)) }
 {
     let (first, rest) = tokens.split_first()?;
     match first.kind {
@@ -61,10 +64,10 @@ pub fn number_first<'t>(line: &[u8], tokens: &'t [Token]) -> Read<'t, u64>
 }
 
 /// A register, and what follows it.
-#[tactic(auto, unfolding(crate::specs::Statements::word_of), using(crate::proofs::Tokens::no_register))]
+#[tactic(auto, unfolding(crate::specs::Statements::statement_token), using(crate::proofs::Tokens::no_register))]
 pub fn register_first<'t>(line: &[u8], tokens: &'t [Token]) -> Read<'t, Reg>
-    ensures { MatchOption result (register_first (words_of line.now tokens.now) ≡ None)
-        (λ x. register_first (words_of line.now tokens.now) ≡ Some (x.0, words_of line.now x.1.now)) }
+    ensures { MatchOption result (register_first (statement_tokens line.now tokens.now) ≡ None)
+        (λ x. register_first (statement_tokens line.now tokens.now) ≡ Some (x.0, statement_tokens line.now x.1.now)) }
 {
     let (first, rest) = tokens.split_first()?;
     match first.kind {
@@ -75,19 +78,19 @@ pub fn register_first<'t>(line: &[u8], tokens: &'t [Token]) -> Read<'t, Reg>
 
 /// A state register, and what follows it.
 pub fn special_first<'t>(line: &[u8], tokens: &'t [Token]) -> Read<'t, Special>
-    ensures { MatchOption result (special_first (words_of line.now tokens.now) ≡ None)
-        (λ x. special_first (words_of line.now tokens.now) ≡ Some (x.0, words_of line.now x.1.now)) }
+    ensures { MatchOption result (special_first (statement_tokens line.now tokens.now) ≡ None)
+        (λ x. special_first (statement_tokens line.now tokens.now) ≡ Some (x.0, statement_tokens line.now x.1.now)) }
 {
     match front(line, tokens) {
-        Some((Word::Special(special), rest)) => Some((special, rest)),
+        Some((StatementToken::Special(special), rest)) => Some((special, rest)),
         _ => None,
     }
 }
 
 /// A number behind a sign, and what follows it.
 pub fn number_after<'t>(sign: u8, line: &[u8], tokens: &'t [Token]) -> Read<'t, u64>
-    ensures { MatchOption result (after sign number_first (words_of line.now tokens.now) ≡ None)
-        (λ x. after sign number_first (words_of line.now tokens.now) ≡ Some (x.0, words_of line.now x.1.now)) }
+    ensures { MatchOption result (read_behind sign number_first (statement_tokens line.now tokens.now) ≡ None)
+        (λ x. read_behind sign number_first (statement_tokens line.now tokens.now) ≡ Some (x.0, statement_tokens line.now x.1.now)) }
 {
     number_first(line, after_sign(sign, line, tokens)?)
 }
@@ -128,8 +131,8 @@ fn named_expression<'t>(
     line: &[u8],
     tokens: &'t [Token],
 ) -> (Expression, &'t [Token])
-    ensures { named_expression kind value (words_of line.now tokens.now) ≡
-        Some (result.0, words_of line.now result.1.now) }
+    ensures { named_expression kind value (statement_tokens line.now tokens.now) ≡
+        Some (result.0, statement_tokens line.now result.1.now) }
 {
     if let Some((number, rest)) = number_after(b'+', line, tokens) {
         return (plain(moved(kind, value), number), rest);
@@ -147,17 +150,18 @@ pub fn read_expression<'t, S: Symbols>(
     line: &[u8],
     tokens: &'t [Token],
 ) -> Read<'t, Expression>
-    ensures { MatchOption result (expression (S.values symbols.now) line.now (words_of line.now tokens.now) ≡ None)
-        (λ x. expression (S.values symbols.now) line.now (words_of line.now tokens.now) ≡
-        Some (x.0, words_of line.now x.1.now)) }
+    ensures { MatchOption result (expression (S.values symbols.now) line.now (statement_tokens line.now tokens.now) ≡
+        None)
+        (λ x. expression (S.values symbols.now) line.now (statement_tokens line.now tokens.now) ≡
+        Some (x.0, statement_tokens line.now x.1.now)) }
 {
     match front(line, tokens) {
-        Some((Word::Number(number), rest)) => Some((plain(Base::Number, number), rest)),
-        Some((Word::Name(kind, start, stop), rest)) => {
+        Some((StatementToken::Number(number), rest)) => Some((plain(Base::Number, number), rest)),
+        Some((StatementToken::Name(kind, start, stop), rest)) => {
             let value = symbols.value(bytes_between(line, start, stop));
             Some(named_expression(kind, value, line, rest))
         }
-        Some((Word::Sign(b'-'), more)) => {
+        Some((StatementToken::Sign(b'-'), more)) => {
             let (number, rest) = number_first(line, more)?;
             Some((less(Base::Number, number), rest))
         }

@@ -16,6 +16,6 @@ pub use fault::SyntaxFault;
 pub use statement::{length_of, parse_instr};
 pub use symbols::Symbols;
 pub use word::{
-    NameKind, Word, after_first, beside, bytes_between, front, is_same, register_named, sign_byte,
-    word_of,
+    NameKind, StatementToken, after_first, beside, bytes_between, front, is_same, register_named,
+    sign_byte, statement_token,
 };

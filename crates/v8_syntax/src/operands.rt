@@ -2,8 +2,10 @@
 ghost use Rattle.std.specs.Prelude.{◌≡◌, ℕ, ◌+◌, ◌*◌, ◌/◌, ◌%◌, ◌^◌, ◌<◌, ◌≤◌, List, [], MatchOption, Some, None};
 ghost use Rattle.std.specs.Prelude.{false, true, Ok};
 ghost use Rattle.v8_forms.specs.Forms.{plus, width};
-ghost use Rattle.v8_syntax.specs.Statements.{words_of, added, after, annul_first, behind, operands_of, read, target};
-ghost use Rattle.v8_forms.specs.Text.{annul_bit, code_of};
+ghost use Rattle.v8_syntax.specs.Statements.{statement_tokens, added, read_behind, annul_first, behind, operands_of};
+ghost use Rattle.v8_syntax.specs.Statements.{read};
+ghost use Rattle.v8_syntax.specs.Statements.{target};
+ghost use Rattle.v8_forms.specs.Text.{annul_bit, special_number};
 ghost use Rattle.v8_forms.specs.declared.part.Part.TheVariants as parts;
 
 use crate::address::{Filled, read_address, read_elsewhere, read_memory, read_second};
@@ -11,17 +13,17 @@ use crate::expression::{
     Read, after_sign, displacement, read_expression, register_first, special_first, word_in,
 };
 use crate::symbols::Symbols;
-use crate::word::{NameKind, Word, front};
+use crate::word::{NameKind, StatementToken, front};
 use sbx_text::Token;
-use v8_forms::{Part, annul_bit, code_of, low_bits, operand_bits, scale};
+use v8_forms::{Part, annul_bit, low_bits, operand_bits, scale, special_number};
 
 /// What follows `,a`, which annuls.
 fn after_annul<'t>(line: &[u8], tokens: &'t [Token]) -> Option<&'t [Token]>
-    ensures { MatchOption result (after 44 annul_first (words_of line.now tokens.now) ≡ None)
-        (λ rest. after 44 annul_first (words_of line.now tokens.now) ≡ Some (true, words_of line.now rest.now)) }
+    ensures { MatchOption result (read_behind 44 annul_first (statement_tokens line.now tokens.now) ≡ None)
+        (λ rest. read_behind 44 annul_first (statement_tokens line.now tokens.now) ≡ Some (true, statement_tokens line.now rest.now)) }
 {
     match front(line, after_sign(b',', line, tokens)?) {
-        Some((Word::Name(NameKind::Annul, _, _), rest)) => Some(rest),
+        Some((StatementToken::Name(NameKind::Annul, _, _), rest)) => Some(rest),
         _ => None,
     }
 }
@@ -36,9 +38,9 @@ fn read_target<'t, S: Symbols>(
 ) -> Read<'t, Filled>
     requires { 2 ≤ reach }
     ensures { MatchOption result
-        (target (S.values symbols.now) (S.place symbols.now) line.now reach annul (words_of line.now tokens.now) ≡ None)
-        (λ x. target (S.values symbols.now) (S.place symbols.now) line.now reach annul (words_of line.now tokens.now) ≡
-        Some (x.0, words_of line.now x.1.now)) }
+        (target (S.values symbols.now) (S.place symbols.now) line.now reach annul (statement_tokens line.now tokens.now) ≡ None)
+        (λ x. target (S.values symbols.now) (S.place symbols.now) line.now reach annul (statement_tokens line.now tokens.now) ≡
+        Some (x.0, statement_tokens line.now x.1.now)) }
 {
     let (place, rest) = read_expression(symbols, line, tokens)?;
     let words = displacement(reach, symbols.here(), place);
@@ -49,9 +51,9 @@ fn read_target<'t, S: Symbols>(
 #[tactic(auto, unfolding(crate::specs::Statements::read))]
 fn read_branch<'t, S: Symbols>(symbols: &S, line: &[u8], tokens: &'t [Token]) -> Read<'t, Filled>
     ensures { MatchOption result
-        (read (S.values symbols.now) (S.place symbols.now) line.now parts.Branch (words_of line.now tokens.now) ≡ None)
-        (λ x. read (S.values symbols.now) (S.place symbols.now) line.now parts.Branch (words_of line.now tokens.now) ≡
-        Some (x.0, words_of line.now x.1.now)) }
+        (read (S.values symbols.now) (S.place symbols.now) line.now parts.Branch (statement_tokens line.now tokens.now) ≡ None)
+        (λ x. read (S.values symbols.now) (S.place symbols.now) line.now parts.Branch (statement_tokens line.now tokens.now) ≡
+        Some (x.0, statement_tokens line.now x.1.now)) }
 {
     match after_annul(line, tokens) {
         Some(rest) => read_target(0x80_0000, true, symbols, line, rest),
@@ -67,9 +69,9 @@ fn read<'t, S: Symbols>(
     tokens: &'t [Token],
 ) -> Read<'t, Filled>
     ensures { MatchOption result
-        (read (S.values symbols.now) (S.place symbols.now) line.now part.now (words_of line.now tokens.now) ≡ None)
-        (λ x. read (S.values symbols.now) (S.place symbols.now) line.now part.now (words_of line.now tokens.now) ≡
-        Some (x.0, words_of line.now x.1.now)) }
+        (read (S.values symbols.now) (S.place symbols.now) line.now part.now (statement_tokens line.now tokens.now) ≡ None)
+        (λ x. read (S.values symbols.now) (S.place symbols.now) line.now part.now (statement_tokens line.now tokens.now) ≡
+        Some (x.0, statement_tokens line.now x.1.now)) }
 {
     match part {
         Part::Register(field) => match register_first(line, tokens) {
@@ -81,7 +83,7 @@ fn read<'t, S: Symbols>(
         },
         Part::State => {
             let (special, rest) = special_first(line, tokens)?;
-            Some((Ok(code_of(special) * 0x8_0000), rest))
+            Some((Ok(special_number(special) * 0x8_0000), rest))
         }
         Part::Second(range) => match read_second(*range, symbols, line, tokens) {
             Some((operand2, rest)) => Some((operand2.map(|o| operand_bits(&o)), rest)),
@@ -109,8 +111,8 @@ fn added(first: Filled, second: Filled) -> Filled
 /// The operands behind commas, to the end of the statement.
 fn behind<S: Symbols>(parts: &[Part], symbols: &S, line: &[u8], tokens: &[Token]) -> Option<Filled>
     ensures { MatchOption result
-        (behind (S.values symbols.now) (S.place symbols.now) line.now parts.now (words_of line.now tokens.now) ≡ None)
-        (λ x. behind (S.values symbols.now) (S.place symbols.now) line.now parts.now (words_of line.now tokens.now) ≡
+        (behind (S.values symbols.now) (S.place symbols.now) line.now parts.now (statement_tokens line.now tokens.now) ≡ None)
+        (λ x. behind (S.values symbols.now) (S.place symbols.now) line.now parts.now (statement_tokens line.now tokens.now) ≡
         Some (x, [])) }
 {
     match parts.split_first() {
@@ -131,9 +133,9 @@ pub fn operands_of<S: Symbols>(
     tokens: &[Token],
 ) -> Option<Filled>
     ensures { MatchOption result
-        (operands_of (S.values symbols.now) (S.place symbols.now) line.now parts.now (words_of line.now tokens.now) ≡
+        (operands_of (S.values symbols.now) (S.place symbols.now) line.now parts.now (statement_tokens line.now tokens.now) ≡
         None) (λ x. operands_of (S.values symbols.now) (S.place symbols.now) line.now parts.now
-        (words_of line.now tokens.now) ≡ Some (x, [])) }
+        (statement_tokens line.now tokens.now) ≡ Some (x, [])) }
 {
     match parts.split_first() {
         Some((part, parts)) => {

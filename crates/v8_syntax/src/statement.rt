@@ -2,7 +2,7 @@
 ghost use Rattle.std.specs.Prelude.{◌≡◌, ℕ, ◌+◌, ◌*◌, ◌/◌, ◌%◌, ◌^◌, ◌<◌, List, All, Option, MatchOption, MatchResult};
 ghost use Rattle.std.specs.Prelude.{[], ◌∷◌, get_or, map, Ok, Err, Some, None};
 ghost use Rattle.v8_forms.specs.Forms.{Form, forms};
-ghost use Rattle.v8_syntax.specs.Statements.{words_of, count_of, first_of, is_symbolic, named_meaning, or, set};
+ghost use Rattle.v8_syntax.specs.Statements.{statement_tokens, count_of, first_of, is_symbolic, named_meaning, or, set};
 ghost use Rattle.v8_syntax.specs.Statements.{set_instructions, set_operands, sethi, source_meaning, statement_length};
 ghost use Rattle.v8_syntax.specs.declared.fault.SyntaxFault.TheVariants.{UnknownMnemonic};
 
@@ -66,8 +66,9 @@ fn is_symbolic(base: Base) -> bool
 
 #[tactic(auto, unfolding(crate::specs::Statements::set_operands))]
 fn set_operands<S: Symbols>(symbols: &S, line: &[u8], tokens: &[Token]) -> Option<(Expression, Reg)>
-    ensures { MatchOption result (set_operands (S.values symbols.now) line.now (words_of line.now tokens.now) ≡ None)
-        (λ x. set_operands (S.values symbols.now) line.now (words_of line.now tokens.now) ≡ Some (x, [])) }
+    ensures { MatchOption result (set_operands (S.values symbols.now) line.now (statement_tokens line.now tokens.now) ≡
+        None)
+        (λ x. set_operands (S.values symbols.now) line.now (statement_tokens line.now tokens.now) ≡ Some (x, [])) }
 {
     let (value, after) = read_expression(symbols, line, tokens)?;
     let more = after_sign(b',', line, after)?;
@@ -79,8 +80,9 @@ fn set_operands<S: Symbols>(symbols: &S, line: &[u8], tokens: &[Token]) -> Optio
 
 #[tactic(auto, unfolding(crate::specs::Statements::set))]
 fn set<S: Symbols>(symbols: &S, line: &[u8], tokens: &[Token]) -> Result<Instructions, SyntaxFault>
-    ensures { MatchResult result (λ v. set (S.values symbols.now) line.now (words_of line.now tokens.now) ≡ Ok v.items)
-        (λ f. set (S.values symbols.now) line.now (words_of line.now tokens.now) ≡ Err f) }
+    ensures { MatchResult result (λ v. set (S.values symbols.now) line.now (statement_tokens line.now tokens.now) ≡
+        Ok v.items)
+        (λ f. set (S.values symbols.now) line.now (statement_tokens line.now tokens.now) ≡ Err f) }
 {
     let Some((value, rd)) = set_operands(symbols, line, tokens) else {
         return Err(SyntaxFault::Shape);
@@ -101,7 +103,7 @@ fn first_of<S: Symbols>(
     requires { All (λ k. k < 111) numbers.now }
     ensures { (d : Form) →
         result ≡ first_of (S.values symbols.now) (S.place symbols.now) line.now fault
-        (map (λ k. get_or forms k d) numbers.now) name.now (words_of line.now tokens.now) }
+        (map (λ k. get_or forms k d) numbers.now) name.now (statement_tokens line.now tokens.now) }
 {
     let mut fault = fault;
     for number in numbers {
@@ -125,7 +127,7 @@ fn word_of_statement<S: Symbols>(
     tokens: &[Token],
 ) -> Result<u32, SyntaxFault>
     ensures { result ≡ first_of (S.values symbols.now) (S.place symbols.now) line.now UnknownMnemonic forms name.now
-        (words_of line.now tokens.now) }
+        (statement_tokens line.now tokens.now) }
 {
     let numbers = numbers_from(sign_byte(name));
     let fault = SyntaxFault::UnknownMnemonic;
@@ -141,9 +143,9 @@ fn named_meaning<S: Symbols>(
 ) -> Result<Instructions, SyntaxFault>
     ensures { MatchResult result
         (λ v. named_meaning (S.values symbols.now) (S.place symbols.now) line.now name.now
-        (words_of line.now tokens.now) ≡ Ok v.items)
+        (statement_tokens line.now tokens.now) ≡ Ok v.items)
         (λ f. named_meaning (S.values symbols.now) (S.place symbols.now) line.now name.now
-        (words_of line.now tokens.now) ≡ Err f) }
+        (statement_tokens line.now tokens.now) ≡ Err f) }
 {
     if is_same(name, b"set") {
         return set(symbols, line, tokens);
@@ -190,7 +192,7 @@ impl Symbols for Unresolved {
 
 /// How many instructions `set` takes.
 fn set_length(line: &[u8], tokens: &[Token]) -> usize
-    ensures { result ≡ count_of (set (λ _. None) line.now (words_of line.now tokens.now)) }
+    ensures { result ≡ count_of (set (λ _. None) line.now (statement_tokens line.now tokens.now)) }
 {
     match set(&Unresolved, line, tokens) {
         Ok(list) => list.len(),

@@ -3,7 +3,7 @@ ghost use Rattle.std.specs.Prelude.{◌≡◌, ℕ, ◌+◌, ◌-◌, ◌*◌, �
 ghost use Rattle.std.specs.Prelude.{◌∷◌, slice_index, drop, map};
 ghost use Rattle.std.specs.Str.{bytes_eq};
 ghost use Rattle.v8_syntax.specs.Statements.{name_first, beside, bytes_between, groups, small_number, register_named};
-ghost use Rattle.v8_syntax.specs.Statements.{percent_word, name_kind, word_of, words_of};
+ghost use Rattle.v8_syntax.specs.Statements.{percent_token, name_kind, statement_token, statement_tokens};
 
 use sbx_text::{Kind, Token};
 use v8_forms::Special;
@@ -19,7 +19,7 @@ pub enum NameKind {
 
 /// A token by what it is. A name has its bytes' place in the line; a sign is its byte.
 #[derive(Clone, Copy)]
-pub enum Word {
+pub enum StatementToken {
     Register(Reg),
     Special(Special),
     Name(NameKind, usize, usize),
@@ -123,14 +123,14 @@ pub fn register_named(name: &[u8]) -> Option<Reg>
     }
 }
 
-fn percent_word(name: &[u8]) -> Word
-    ensures { result ≡ percent_word name.now }
+fn percent_token(name: &[u8]) -> StatementToken
+    ensures { result ≡ percent_token name.now }
 {
     match register_named(name) {
-        Some(register) => Word::Register(register),
+        Some(register) => StatementToken::Register(register),
         None => match beside(name, &SPECIALS) {
-            Some(special) => Word::Special(special),
-            None => Word::Unknown,
+            Some(special) => StatementToken::Special(special),
+            None => StatementToken::Unknown,
         },
     }
 }
@@ -162,24 +162,28 @@ pub fn after_first<T>(items: &[T]) -> &[T]
 }
 
 /// What a token is.
-#[tactic(auto, unfolding(crate::specs::Statements::word_of))]
-pub fn word_of(line: &[u8], token: &Token) -> Word
-    ensures { result ≡ word_of line.now token.now }
+#[tactic(auto, unfolding(crate::specs::Statements::statement_token))]
+pub fn statement_token(line: &[u8], token: &Token) -> StatementToken
+    ensures { result ≡ statement_token line.now token.now }
 {
     let Token { kind, start, stop } = *token;
     match kind {
-        Kind::Name => Word::Name(name_kind(bytes_between(line, start, stop)), start, stop),
-        Kind::Percent => percent_word(after_first(bytes_between(line, start, stop))),
-        Kind::Number(number) => Word::Number(number),
-        Kind::Sign => Word::Sign(sign_byte(bytes_between(line, start, stop))),
+        Kind::Name => StatementToken::Name(
+            name_kind(bytes_between(line, start, stop)),
+            start,
+            stop,
+        ),
+        Kind::Percent => percent_token(after_first(bytes_between(line, start, stop))),
+        Kind::Number(number) => StatementToken::Number(number),
+        Kind::Sign => StatementToken::Sign(sign_byte(bytes_between(line, start, stop))),
     }
 }
 
 /// The bytes of the name that comes first, and the tokens after it.
-#[tactic(auto, unfolding(crate::specs::Statements::word_of))]
+#[tactic(auto, unfolding(crate::specs::Statements::statement_token))]
 pub fn name_first<'l, 't>(line: &'l [u8], tokens: &'t [Token]) -> Option<(&'l [u8], &'t [Token])>
-    ensures { MatchOption result (name_first line.now (words_of line.now tokens.now) ≡ None)
-        (λ x. name_first line.now (words_of line.now tokens.now) ≡ Some (x.0.now, words_of line.now x.1.now)) }
+    ensures { MatchOption result (name_first line.now (statement_tokens line.now tokens.now) ≡ None)
+        (λ x. name_first line.now (statement_tokens line.now tokens.now) ≡ Some (x.0.now, statement_tokens line.now x.1.now)) }
 {
     let (first, rest) = tokens.split_first()?;
     match first.kind {
@@ -189,10 +193,10 @@ pub fn name_first<'l, 't>(line: &'l [u8], tokens: &'t [Token]) -> Option<(&'l [u
 }
 
 /// The first word, and the tokens after it.
-pub fn front<'t>(line: &[u8], tokens: &'t [Token]) -> Option<(Word, &'t [Token])>
-    ensures { MatchOption result (words_of line.now tokens.now ≡ [])
-        (λ x. words_of line.now tokens.now ≡ x.0 ∷ words_of line.now x.1.now) }
+pub fn front<'t>(line: &[u8], tokens: &'t [Token]) -> Option<(StatementToken, &'t [Token])>
+    ensures { MatchOption result (statement_tokens line.now tokens.now ≡ [])
+        (λ x. statement_tokens line.now tokens.now ≡ x.0 ∷ statement_tokens line.now x.1.now) }
 {
     let (first, rest) = tokens.split_first()?;
-    Some((word_of(line, first), rest))
+    Some((statement_token(line, first), rest))
 }

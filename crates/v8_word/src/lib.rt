@@ -6,7 +6,7 @@
 ghost use Rattle.std.specs.Prelude.{◌≡◌, ℕ, ◌+◌, ◌-◌, ◌*◌, ◌/◌, ◌%◌, ◌^◌, ◌<◌, ◌≤◌, IfSome};
 ghost use Rattle.std.specs.Option.{SomeIff};
 ghost use Rattle.v8_word.specs.Word.{bits_of, flag_at, sign_extend};
-ghost use Rattle.v8_word.specs.Conditions.{code_of, cond_of, holds};
+ghost use Rattle.v8_word.specs.Conditions.{cond_number, cond_of, holds};
 ghost use Rattle.v8_word.specs.Sizes.{bytes_in};
 
 use std::marker::Model;
@@ -256,7 +256,7 @@ pub fn cond_at(word: u32) -> Cond
 impl Cond {
     /// The number of the condition, 0 to 15, as the field cond has it.
     pub fn code(self) -> u8
-        ensures value { result ≡ code_of self }
+        ensures value { result ≡ cond_number self }
         ensures bound { result < 16 }
     {
         self as u8

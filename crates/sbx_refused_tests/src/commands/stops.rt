@@ -1,10 +1,10 @@
 //! The line of a stop over a writer that takes a byte a call, and fails at one.
 use super::Writer;
-use sbx_command::Stop;
+use sbx_command::CommandStop;
 use sbx_rules::{Cause, Refusal};
 
 /// The longest stop: a refusal at the last word of the last function.
-const LONGEST: Stop = Stop::Refused(Refusal {
+const LONGEST: CommandStop = CommandStop::Refused(Refusal {
     function: u16::MAX,
     address: u32::MAX,
     cause: Cause::TagOverflow,

@@ -2,8 +2,8 @@
 // of GNU as that the repository has are in the program v8_vectors.
 use crate::rows::each_holds;
 use v8_formats::{
-    Alternate, Branch, Instr, Operand, Place, Three, Trap, Upper, decode, encode, is_canonical,
-    rows_are_apart,
+    Alternate, AlternateOperand, Branch, Instr, Operand, Three, Trap, Upper, decode, encode,
+    is_canonical, rows_are_apart,
 };
 use v8_word::{Cond, Reg, reg_at};
 
@@ -80,7 +80,7 @@ fn worked() -> [(u32, Instr); 11] {
             Instr::LoadUnsignedByteAlternate(Alternate {
                 rd: Reg::I7,
                 rs1: Reg::O7,
-                place: Place::Register(Reg::I7, 255),
+                place: AlternateOperand::Register(Reg::I7, 255),
             }),
         ),
         (0, Instr::default()),

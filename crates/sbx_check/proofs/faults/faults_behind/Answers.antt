@@ -1,7 +1,7 @@
 use Rattle.std.proofs.Common.{◌≡◌, ℕ, ◌+◌, List, [], ◌∷◌, ◌++◌, ap, drop, ◌∙◌, arith}
 use Rattle.sbx_asm.specs.declared.fault.AsmFault.{AsmFault}
 use Rattle.sbx_asm.specs.Items.{Item, each}
-use Rattle.sbx_places.specs.declared.place.Place.{Place}
+use Rattle.sbx_places.specs.declared.place.LocationCounter.{LocationCounter}
 use Rattle.sbx_places.specs.Kept.{worth}
 use Rattle.sbx_check.specs.Alone.{found_at}
 use Rattle.sbx_check.proofs.Walks.{all_given, one_more}
@@ -24,7 +24,7 @@ loop-line-preserved c =
       stands = c.after-place.ensures so_far.before so_far.stands;
       found = one_more gives c.loop-line.found.items c.push_found.new.found.items
           (each gives [] lines) so_far.before lines c.loop-line.line-index c.line-item.result c.loop-line-test.true c.line-item.is
-          (c.in_ok-push_found.ensures so_far.before (drop (c.loop-line.line-index + 1) lines) (ap (λ (p : Place). p.next_word) so_far.stands)) so_far.found;
+          (c.in_ok-push_found.ensures so_far.before (drop (c.loop-line.line-index + 1) lines) (ap (λ (p : LocationCounter). p.next_word) so_far.stands)) so_far.found;
     }
 
 pub returns : goal.returns

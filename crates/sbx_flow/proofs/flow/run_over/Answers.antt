@@ -1,6 +1,6 @@
 use Rattle.std.proofs.Common.{ap, subst, arith}
 use Rattle.sbx_flow.specs.Flows.{StopsSo}
-use Rattle.sbx_flow.specs.declared.flow.Stop.{Stop}
+use Rattle.sbx_flow.specs.declared.flow.RunEnd.{RunEnd}
 use Rattle.sbx_paced.specs.declared.tally.Tally.{Tally}
 use Rattle.sbx_flow.proofs.Flowing.{advanced, few_turns, flowed_so, no_beginning, not_lost}
 use Rattle.sbx_flow.proofs.flow.run_over.Goals as goal
@@ -33,7 +33,7 @@ returns-in-Err-Ended-clause-whole g c =
     let writer_now = g.W.Write.contents c.exchange.new.writer in
     let went = c.advance-halt.new.self in
     let met = c.rounds.met in
-    let stops = subst (λ (s : Stop). StopsSo s met went reader writer c.exchange.new.course reader_now writer_now) c.in-Err-Ended.field-0-is c.in-Err-Ended.ensures.stops in
+    let stops = subst (λ (s : RunEnd). StopsSo s met went reader writer c.exchange.new.course reader_now writer_now) c.in-Err-Ended.field-0-is c.in-Err-Ended.ensures.stops in
     let so = advanced met c.rounds.course went reader writer c.advance-halt.ensures.goes c.args.accepted.now c.args.windows first written_first c.rounds.invariant.goes in
     flowed_so c.args.accepted.now c.args.windows met first written_first reader_now writer_now c.exchange.new.course
     (record { status = c.in-Err-Ended.status; counts = c.tally.result.traffic }) stops.0
@@ -48,7 +48,7 @@ returns-in-Err-Fault-clause-part g c =
     let went = c.advance-halt.new.self in
     let met = c.rounds.met in
     let so = advanced met c.rounds.course went reader writer c.advance-halt.ensures.goes c.args.accepted.now c.args.windows first written_first c.rounds.invariant.goes in
-    (subst (λ (s : Stop). StopsSo s met went reader writer c.exchange.new.course (g.R.Read.remaining c.exchange.new.reader)
+    (subst (λ (s : RunEnd). StopsSo s met went reader writer c.exchange.new.course (g.R.Read.remaining c.exchange.new.reader)
     (g.W.Write.contents c.exchange.new.writer)) c.in-Err-Fault.field-0-is c.in-Err-Fault.ensures.stops) c.args.accepted.now c.args.windows first
     written_first so
 

@@ -3,4 +3,4 @@ use Rattle.sbx_parts.specs.Rules.{each}
 use Rattle.sbx_parts.proofs.lists.check_each.Given as goal
 
 abbrev pub invariant-loop-item : goal.invariant-loop-item
-invariant-loop-item g l = each (g.T.Checked.keeps l.setting) l.state (drop l.item-index l.items) ≡ each (g.T.Checked.keeps l.setting) l.fn.first l.items
+invariant-loop-item g l = each (g.T.HasRules.keeps l.setting) l.state (drop l.item-index l.items) ≡ each (g.T.HasRules.keeps l.setting) l.fn.first l.items

@@ -2,7 +2,7 @@
 use Rattle.std.proofs.Common.{◌≡◌, IfOk, sym, subst}
 use Rattle.std.proofs.lemmas.Result.{IfOk-weaker}
 use Rattle.v8_board.specs.Seen.{State}
-use Rattle.v8_board.specs.Runs.{IsRun, after}
+use Rattle.v8_board.specs.Runs.{IsRun, state_after}
 use Rattle.sbx_bench.specs.declared.ways.Way.TheVariants as ways
 use Rattle.sbx_bench.specs.Ways.{IsToldBy, register_of}
 use Rattle.sbx_bench.proofs.ways.Way.drive.Goals as goal
@@ -12,7 +12,7 @@ pub returns-in_ok-begun-in-Step : goal.returns-in_ok-begun-in-Step
 returns-in_ok-begun-in-Step c =
     let start = c.in_ok-begun-in-Step.field-0.state in
     subst (λ way. IfOk c.step.result (IsToldBy way c.args.image.now c.args.turns)) (sym c.in-Step.is)
-    (IfOk-weaker c.step.result (λ told. told ≡ register_of (after 8 c.args.turns start)) (IsToldBy ways.Step c.args.image.now c.args.turns)
+    (IfOk-weaker c.step.result (λ told. told ≡ register_of (state_after 8 c.args.turns start)) (IsToldBy ways.Step c.args.image.now c.args.turns)
     (λ told e. (start, c.in_ok-begun-in-Step.ensures.begun, e)) c.step.ensures)
 
 -- src/ways.rt:118:5

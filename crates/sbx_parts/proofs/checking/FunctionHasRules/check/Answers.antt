@@ -1,7 +1,7 @@
 use Rattle.std.proofs.lemmas.Grind.{common_steps}
 use Rattle.sbx_parts.specs.Rules.{function_keeps}
 use Rattle.std.proofs.Common.{rules, arith}
-use Rattle.sbx_parts.proofs.checking.FunctionChecked.check.Goals as goal
+use Rattle.sbx_parts.proofs.checking.FunctionHasRules.check.Goals as goal
 
 pub returns-in_err-check_each : goal.returns-in_err-check_each
 unfolding function_keeps

@@ -5,7 +5,7 @@ use Rattle.sbx_asm.specs.declared.context.Context.{Context}
 use Rattle.sbx_asm.specs.Rules.{Values, when, line_rules}
 use Rattle.sbx_asm.specs.Kept.{worth, noted}
 use Rattle.sbx_asm.proofs.Noting.{all_noted}
-use Rattle.sbx_asm.proofs.checking.Checked.add_line.Goals as goal
+use Rattle.sbx_asm.proofs.checking.CheckedLines.add_line.Goals as goal
 
 pub returns : goal.returns
 returns c = λ before h.

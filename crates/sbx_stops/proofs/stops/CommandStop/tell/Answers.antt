@@ -4,7 +4,7 @@ use Rattle.std.specs.Io.KnownBytes.{Appends}
 use Rattle.sbx_put.specs.Fronts.{WroteSome}
 use Rattle.sbx_stops.specs.Stops.{whole_line}
 use Rattle.sbx_stops.proofs.Lines.{line_is}
-use Rattle.sbx_stops.proofs.stops.Stop.tell.Goals as goal
+use Rattle.sbx_stops.proofs.stops.CommandStop.tell.Goals as goal
 
 pub returns-in-Ok-clause-whole : goal.returns-in-Ok-clause-whole
 returns-in-Ok-clause-whole g c =
