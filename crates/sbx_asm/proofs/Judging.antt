@@ -8,7 +8,7 @@ use Rattle.sbx_asm.specs.Items.{Item, items_of, each}
 use Rattle.sbx_asm.specs.Addresses.{values_of}
 use Rattle.sbx_asm.specs.Images.{image_of, judged, source_image, Gives}
 use Rattle.sbx_asm.proofs.Views.{all_labels}
-use Rattle.sbx_asm.proofs.Surveys.{fold_append}
+use Rattle.std.proofs.lemmas.List.Sums.{fold-append}
 
 -- the fault that is told of the labels, and then of the lines, is the least of all
 pub all_told : (items : List Item) (values : Values) (first all : Option AsmFault) → values ≡ values_of items →
@@ -17,7 +17,7 @@ pub all_told : (items : List Item) (values : Values) (first all : Option AsmFaul
 all_told items values first all v f e =
     e
     ∙ (λ j. fold told (f j) (each (faults_at (v j)) [] items))
-    ∙ sym (fold_append told None (duplicates [] (all_labels items)) (each (faults_at (values_of items)) [] items))
+    ∙ sym (fold-append told None (duplicates [] (all_labels items)) (each (faults_at (values_of items)) [] items))
 
 module _ (source : List ℕ) (items : List Item) (lines : items ≡ items_of source) where
   pub is_told : (f : AsmFault) → Some f ≡ least_of (faults_of items) → source_image source ≡ Err f

@@ -1,6 +1,6 @@
 mod FirstLines
 mod Keeping
-mod Walks
+pub mod Walks
 mod Tables
 mod Names
 mod Copies

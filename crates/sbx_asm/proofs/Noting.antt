@@ -12,12 +12,12 @@ use Rattle.sbx_asm.specs.Rules.{at, told, Values, when, acts, line_rules, faults
 use Rattle.sbx_asm.specs.Items.{Item, count, up_to, is_region, has_bytes, ends_block, begins_block}
 use Rattle.sbx_asm.specs.Kept.{noted}
 use Rattle.sbx_asm.proofs.Views.{leaves_region}
-use Rattle.sbx_asm.proofs.Surveys.{fold_append}
+use Rattle.std.proofs.lemmas.List.Sums.{fold-append}
 
 noted_more : (n : Notes) (xs ys : List Cause) → noted ys (noted xs n) ≡ noted (xs ++ ys) n
 noted_more n xs ys =
     ap (λ (o : Option AsmFault). let m : Notes = record { line = n.line; fault = o } in m)
-    (sym (fold_append told n.fault (map (at n.line) xs) (map (at n.line) ys)) ∙ ap (fold told n.fault) (sym (map-append (at n.line) xs ys)))
+    (sym (fold-append told n.fault (map (at n.line) xs) (map (at n.line) ys)) ∙ ap (fold told n.fault) (sym (map-append (at n.line) xs ys)))
 
 module _ (n : Notes) (xs ys zs ws : List Cause) where
   four : noted ws (noted zs (noted ys (noted xs n))) ≡ noted (xs ++ (ys ++ (zs ++ ws))) n

@@ -9,17 +9,13 @@ use Rattle.std.proofs.lemmas.List.{append-nil, take_more}
 use Rattle.std.proofs.lemmas.Slice.Eq.{bytes_eq-Decides}
 use Rattle.sbx_asm.specs.declared.fault.AsmFault.{AsmFault}
 use Rattle.sbx_asm.specs.declared.fault.Cause.TheVariants as causes
-use Rattle.sbx_asm.specs.Rules.{told, at, duplicates}
+use Rattle.sbx_asm.specs.Rules.{at, duplicates}
 use Rattle.sbx_asm.specs.Items.{Item, Said, each}
 use Rattle.sbx_asm.proofs.Views.{behind, is_called, told_again}
 use Rattle.sbx_asm.specs.Addresses.{Label, labelled, labels_at, worth_in, names_said, label_address, code_address}
 use Rattle.sbx_asm.specs.declared.survey.Survey.{Survey}
 use Rattle.sbx_asm.specs.Kept.{IsSurvey}
 use Rattle.sbx_asm.proofs.Tables.{same_values}
-
-pub fold_append : {A B : Type 0} (f : B → A → B) (a : B) (xs ys : List A) → fold f a (xs ++ ys) ≡ fold f (fold f a xs) ys
-fold_append f a [] ys = refl
-fold_append f a (x ∷ xs) ys = fold_append f (f a x) xs ys
 
 -- ---- what a name is worth
 
@@ -70,24 +66,24 @@ more_labels front (l ∷ before) after =
     ∙ ap (λ (ls : List Label). duplicates (front ++ l ∷ []) before ++ duplicates ls after) (append_assoc front (l ∷ []) before))
     ∙ sym (append_assoc again (duplicates (front ++ l ∷ []) before) (duplicates (front ++ l ∷ before) after))
 
-one_told : (ls : List Label) (l : Label) → fold told (fold told None (duplicates [] ls)) (told_again (list_any (is_called l.name) ls) l.line ++ []) ≡ fold told None (duplicates [] (ls ++ l ∷ []))
-one_told ls l = sym (fold_append told None (duplicates [] ls) (duplicates ls (l ∷ []))) ∙ ap (fold told None) (sym (more_labels [] ls (l ∷ [])))
-
 -- one more label, whose name has a value
 module _ (ls : List Label) (l : Label) (v : ℕ) (h : worth_in ls l.name ≡ Some v) where
   pub worth_stays : worth_in ls ≡ worth_in (ls ++ l ∷ [])
   worth_stays = same_values (worth_in ls) (worth_in (ls ++ l ∷ [])) (λ q. keeps_at ls l.name l.address v h q (bytes_eq l.name q) refl ∙ sym (worth_push ls l q))
 
-  pub told_twice : told (fold told None (duplicates [] ls)) (at l.line causes.DuplicateLabel) ≡ fold told None (duplicates [] (ls ++ l ∷ []))
-  told_twice = ap (fold told (fold told None (duplicates [] ls))) (sym (ap (λ (t : Bool). told_again t l.line ++ []) (known ls l.name ∙ ap is_some h))) ∙ one_told ls l
+  pub told_twice : duplicates [] ls ++ at l.line causes.DuplicateLabel ∷ [] ≡ duplicates [] (ls ++ l ∷ [])
+  told_twice = ap (λ (t : Bool). duplicates [] ls ++ (told_again t l.line ++ [])) (sym (known ls l.name ∙ ap is_some h)) ∙ sym (more_labels [] ls (l ∷ []))
 
 -- and one whose name has none
 module _ (ls : List Label) (l : Label) (h : worth_in ls l.name ≡ None) where
   pub worth_taken : update bytes_eq (worth_in ls) l.name (Some l.address) ≡ worth_in (ls ++ l ∷ [])
   worth_taken = same_values (update bytes_eq (worth_in ls) l.name (Some l.address)) (worth_in (ls ++ l ∷ [])) (λ q. takes_at ls l.name l.address h q (bytes_eq l.name q) refl ∙ sym (worth_push ls l q))
 
-  pub told_once : fold told None (duplicates [] ls) ≡ fold told None (duplicates [] (ls ++ l ∷ []))
-  told_once = ap (fold told (fold told None (duplicates [] ls))) (sym (ap (λ (t : Bool). told_again t l.line ++ []) (known ls l.name ∙ ap is_some h))) ∙ one_told ls l
+  pub told_once : duplicates [] ls ≡ duplicates [] (ls ++ l ∷ [])
+  told_once =
+      sym (append-nil (duplicates [] ls))
+      ∙ ap (λ (t : Bool). duplicates [] ls ++ (told_again t l.line ++ [])) (sym (known ls l.name ∙ ap is_some h))
+      ∙ sym (more_labels [] ls (l ∷ []))
 
 -- ---- the labels of a line, and of lines
 

@@ -45,3 +45,8 @@ told_more gives got more total before is k i rest h e r m so_far =
     (λ j. fold told ((m ∙ (λ l. fold told got (gives before i (r l)))) j) (each gives (i ∷ before) after))
     ∙ sym (fold-append told got (gives before i after) (each gives (i ∷ before) after))
     ∙ goes_on (λ js. fold told got (each gives before js)) total is k i h e so_far
+
+-- likewise what all lines give, behind the last one
+pub each_given : {A : Type 0} (gives : List Item → Item → List Item → List A) (got total : List A) (before is : List Item) (k : ℕ)
+    → length is ≤ k → got ++ each gives before (drop k is) ≡ total → got ≡ total
+each_given gives got total before is k h so_far = sym (append-nil got) ∙ sym (at_drop_all (λ (js : List Item). got ++ each gives before js) is k h) ∙ so_far

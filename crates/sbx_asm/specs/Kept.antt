@@ -1,5 +1,5 @@
 -- What the passes keep of the lines so far, for their own contracts.
-use Rattle.std.specs.Prelude.{◌≡◌, ℕ, min, List, [], ◌++◌, length, map, get_or, None}
+use Rattle.std.specs.Prelude.{◌≡◌, ℕ, min, List, [], ◌++◌, length, map, get_or}
 use Rattle.std.specs.List.{list_any, flat_map, fold}
 use Rattle.std.specs.Str.{bytes_eq}
 use Rattle.std.specs.HashMap.{get_by}
@@ -34,9 +34,9 @@ place_at before =
       region_bytes = data_offset before;
     }
 
--- a survey of some labels has the worth of each, and the fault that is told of those that stand twice
+-- a survey of some labels has the worth of each, and the faults of those that stand twice
 abbrev pub IsSurvey : List Label → Survey → Type 0
-IsSurvey labels s = (worth s.table ≡ worth_in labels) × (s.fault ≡ fold told None (duplicates [] labels))
+IsSurvey labels s = (worth s.table ≡ worth_in labels) × (s.repeats.items ≡ duplicates [] labels)
 
 -- some more causes at the line of the notes
 abbrev pub noted : List Cause → Notes → Notes

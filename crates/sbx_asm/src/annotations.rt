@@ -26,7 +26,7 @@ pub struct Heading {
 }
 
 /// The signature that some lines say. Without a depth it is 0; of several the first counts.
-pub fn signature_of(alloc: Global, lines: &[Line<'_>]) -> Result<Signature, AllocError>
+pub fn signature_of(alloc: Global, lines: &[Line<'_, '_>]) -> Result<Signature, AllocError>
     ensures { IfOk result (λ found. (found.params ≡ flat_map params lines.now)
         × (found.results ≡ flat_map results lines.now) × (found.depth ≡ get_or (flat_map depths lines.now) 0 0)) }
 {
@@ -49,7 +49,7 @@ pub fn signature_of(alloc: Global, lines: &[Line<'_>]) -> Result<Signature, Allo
 }
 
 /// The block that begins at an address and has some lines. Without a fuel it is 0; of several the first counts.
-pub fn block_with(alloc: Global, address: u32, lines: &[Line<'_>]) -> Result<Block, AllocError>
+pub fn block_with(alloc: Global, address: u32, lines: &[Line<'_, '_>]) -> Result<Block, AllocError>
     ensures { IfOk result (λ block. block ≡ block_with address lines.now) }
 {
     let mut fuel = None;
@@ -74,7 +74,7 @@ pub fn block_with(alloc: Global, address: u32, lines: &[Line<'_>]) -> Result<Blo
 /// The services and the pages of stack that are said first, and the version of the image format: the one that has
 /// depths or, else, regions, where there are some.
 #[tactic(auto, using(crate::proofs::Firsts::with_depths, crate::proofs::Firsts::with_regions))]
-pub fn heading_of(lines: &[Line<'_>]) -> Heading
+pub fn heading_of(lines: &[Line<'_, '_>]) -> Heading
     ensures { (result.version ≡
         (if list_any (has depths) lines.now then 3 else (if list_any is_region lines.now then 2 else 1)))
         × (result.services ≡ get_or (flat_map services lines.now) 0 (record { 0 = 0 }))

@@ -4,7 +4,7 @@ ghost use Rattle.sbx_asm.specs.Items.{items_of};
 ghost use Rattle.sbx_asm.specs.Images.{source_image, Gives, IsOfTheWhole};
 
 use crate::checking::check;
-use crate::fault::AsmFault;
+use crate::fault::{AsmFault, least_of};
 use crate::finish::judged;
 use crate::parts::parts_of;
 use crate::reading::Line;
@@ -14,11 +14,12 @@ use sbx_image::Image;
 use std::alloc::Global;
 
 /// The image that lines of a source mean.
-fn image_of(alloc: Global, lines: &[Line<'_>]) -> Result<Image, AsmFault>
+fn image_of(alloc: Global, lines: &[Line<'_, '_>]) -> Result<Image, AsmFault>
     ensures { (source : List ℕ) → lines.now ≡ items_of source → Gives result (source_image source) }
 {
     let survey = survey_lines(alloc, lines)?;
-    let checked = check(alloc, &survey.table, survey.fault, lines)?;
+    let repeated = least_of(survey.repeats.as_slice());
+    let checked = check(alloc, &survey.table, repeated, lines)?;
     match checked.fault {
         Some(fault) => Err(fault),
         None => {

@@ -26,7 +26,7 @@ pub struct CheckedLines {
 }
 
 /// Whether a region has bytes in some lines, up to a `.text` or another one.
-fn have_bytes(lines: &[Line<'_>]) -> bool
+fn have_bytes(lines: &[Line<'_, '_>]) -> bool
     ensures { result ≡ list_any has_bytes (up_to (λ j. is_text j || is_region j) lines.now) }
 {
     for line in lines {
@@ -41,7 +41,7 @@ fn have_bytes(lines: &[Line<'_>]) -> bool
 }
 
 /// Whether a line acts in some lines, up to the end of the block.
-fn any_acts(table: &Table<'_>, lines: &[Line<'_>]) -> bool
+fn any_acts(table: &Table<'_>, lines: &[Line<'_, '_>]) -> bool
     ensures { result ≡ list_any (acts (worth table.now)) (up_to ends_block lines.now) }
 {
     for line in lines {
@@ -56,7 +56,7 @@ fn any_acts(table: &Table<'_>, lines: &[Line<'_>]) -> bool
 }
 
 /// Whether a line begins a region without bytes.
-fn is_empty_region(line: &Line<'_>, behind: &[Line<'_>]) -> bool
+fn is_empty_region(line: &Line<'_, '_>, behind: &[Line<'_, '_>]) -> bool
     ensures { result ≡
         (is_region line.now && not (list_any has_bytes (up_to (λ j. is_text j || is_region j) behind.now))) }
 {
@@ -64,7 +64,12 @@ fn is_empty_region(line: &Line<'_>, behind: &[Line<'_>]) -> bool
 }
 
 /// Whether a line begins a block in which no line acts.
-fn is_idle_block(table: &Table<'_>, context: Context, line: &Line<'_>, behind: &[Line<'_>]) -> bool
+fn is_idle_block(
+    table: &Table<'_>,
+    context: Context,
+    line: &Line<'_, '_>,
+    behind: &[Line<'_, '_>],
+) -> bool
     ensures { (before : List Item) → context ≡ context_at (worth table.now) before →
         result ≡ (begins_block before line.now
         && not (list_any (acts (worth table.now)) (up_to ends_block behind.now))) }
@@ -78,8 +83,8 @@ impl CheckedLines {
         &mut self,
         table: &Table<'_>,
         context: Context,
-        line: &Line<'_>,
-        behind: &[Line<'_>],
+        line: &Line<'_, '_>,
+        behind: &[Line<'_, '_>],
     ) -> Result<bool, AllocError>
         ensures { IfOk result (λ is_acting. (before : List Item) → context ≡ context_at (worth table.now) before
             → (is_acting ≡ acts (worth table.now) line.now)
@@ -110,7 +115,7 @@ pub fn check(
     alloc: Global,
     table: &Table<'_>,
     told_before: Option<AsmFault>,
-    lines: &[Line<'_>],
+    lines: &[Line<'_, '_>],
 ) -> Result<CheckedLines, AllocError>
     ensures { IfOk result (λ c. (c.fault ≡ fold told told_before (each (faults_at (worth table.now)) [] lines.now))
         × (c.words.items ≡ each (words_at (worth table.now)) [] lines.now)) }

@@ -74,7 +74,7 @@ pub struct Context {
     pub block: BlockContext,
 }
 
-fn has_services(line: &Line<'_>) -> bool
+fn has_services(line: &Line<'_, '_>) -> bool
     ensures { result ≡ has services line.now }
 {
     matches!(
@@ -83,31 +83,31 @@ fn has_services(line: &Line<'_>) -> bool
     )
 }
 
-fn has_stack(line: &Line<'_>) -> bool
+fn has_stack(line: &Line<'_, '_>) -> bool
     ensures { result ≡ has stacks line.now }
 {
     matches!(line.said(), Ok(Statement::Directive(Directive::Stack(_))))
 }
 
-fn has_depth(line: &Line<'_>) -> bool
+fn has_depth(line: &Line<'_, '_>) -> bool
     ensures { result ≡ has depths line.now }
 {
     matches!(line.said(), Ok(Statement::Directive(Directive::Depth(_))))
 }
 
-fn has_fuel(line: &Line<'_>) -> bool
+fn has_fuel(line: &Line<'_, '_>) -> bool
     ensures { result ≡ has fuels line.now }
 {
     matches!(line.said(), Ok(Statement::Directive(Directive::Fuel(_))))
 }
 
-fn is_param(line: &Line<'_>) -> bool
+fn is_param(line: &Line<'_, '_>) -> bool
     ensures { result ≡ has params line.now }
 {
     matches!(line.said(), Ok(Statement::Directive(Directive::Param(_))))
 }
 
-fn is_result(line: &Line<'_>) -> bool
+fn is_result(line: &Line<'_, '_>) -> bool
     ensures { result ≡ has results line.now }
 {
     matches!(line.said(), Ok(Statement::Directive(Directive::Result(_))))
@@ -143,7 +143,7 @@ impl Locations {
     }
 
     /// With a line that may be a cell.
-    fn with_cell(self, line: &Line<'_>) -> Locations
+    fn with_cell(self, line: &Line<'_, '_>) -> Locations
         ensures { (own : List Cell) → self ≡ locations_of 64 (map (λ (c : Cell). c.location) own) →
             result ≡ locations_of 64 (map (λ (c : Cell). c.location) (cells line.now ++ own)) }
     {
@@ -154,7 +154,7 @@ impl Locations {
     }
 
     /// With a line that may be a term.
-    fn with_term(self, line: &Line<'_>) -> Locations
+    fn with_term(self, line: &Line<'_, '_>) -> Locations
         ensures { (own : List Term) → self ≡ locations_of 8 (map (λ (t : Term). t.location) own) →
             result ≡ locations_of 8 (map (λ (t : Term). t.location) (terms line.now ++ own)) }
     {
@@ -181,7 +181,7 @@ impl Totals {
     }
 
     /// With one more line.
-    fn after(self, line: &Line<'_>, begins: bool) -> Totals
+    fn after(self, line: &Line<'_, '_>, begins: bool) -> Totals
         ensures { (values : Values) (before : List Item) → self ≡ (context_at values before).totals →
             begins ≡ begins_block before line.now → result ≡ (context_at values (line.now ∷ before)).totals }
     {
@@ -211,7 +211,7 @@ impl FunctionContext {
     }
 
     /// With one more line.
-    fn after(self, line: &Line<'_>) -> FunctionContext
+    fn after(self, line: &Line<'_, '_>) -> FunctionContext
         ensures { (values : Values) (before : List Item) → self ≡ (context_at values before).function →
             result ≡ (context_at values (line.now ∷ before)).function }
     {
@@ -251,7 +251,7 @@ impl BlockContext {
     /// With one more line, of which it is known whether it acts and what it means to the block.
     fn after(
         self,
-        line: &Line<'_>,
+        line: &Line<'_, '_>,
         is_acting: bool,
         begins: bool,
         is_annotated: bool,
@@ -289,7 +289,7 @@ impl Context {
     }
 
     /// Whether a line begins a block: a `.function`, or a `.block` in one.
-    pub fn begins_block(self, line: &Line<'_>) -> bool
+    pub fn begins_block(self, line: &Line<'_, '_>) -> bool
         ensures { (values : Values) (before : List Item) → self ≡ context_at values before →
             result ≡ begins_block before line.now }
     {
@@ -313,7 +313,7 @@ impl Context {
     }
 
     /// Behind one more line, of which it is known whether it acts.
-    pub fn after(self, line: &Line<'_>, is_acting: bool) -> Context
+    pub fn after(self, line: &Line<'_, '_>, is_acting: bool) -> Context
         ensures { (values : Values) (before : List Item) → self ≡ context_at values before →
             is_acting ≡ acts values line.now → result ≡ context_at values (line.now ∷ before) }
     {

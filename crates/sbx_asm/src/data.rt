@@ -58,7 +58,7 @@ impl Data {
         alloc: Global,
         table: &Table<'_>,
         place: LocationCounter,
-        line: &Line<'_>,
+        line: &Line<'_, '_>,
     ) -> Result<(), AllocError>
         ensures { IfOk result (λ _. (before after : List Item) → place ≡ place_at before →
             regions_with (worth table.now) self.new (line.now ∷ before) after ≡
@@ -87,7 +87,7 @@ impl Data {
 pub fn regions_of(
     alloc: Global,
     table: &Table<'_>,
-    lines: &[Line<'_>],
+    lines: &[Line<'_, '_>],
 ) -> Result<Items<Region>, AllocError>
     ensures { IfOk result (λ regions. regions ≡ regions_of (worth table.now) lines.now) }
 {

@@ -1,6 +1,6 @@
 //! Why a source has no image.
 ghost use Rattle.std.specs.Prelude.{◌≡◌, Some};
-ghost use Rattle.sbx_asm.specs.Rules.{at, code_of, shown, rank, is_earlier, told};
+ghost use Rattle.sbx_asm.specs.Rules.{at, code_of, shown, rank, is_earlier, told, least_of};
 ghost use Rattle.sbx_asm.specs.declared.fault.Cause.TheVariants.{Memory};
 ghost use Rattle.want.specs.Wants.{refused};
 
@@ -109,4 +109,15 @@ pub fn told(first: Option<AsmFault>, second: AsmFault) -> Option<AsmFault>
         }
         None => Some(second),
     }
+}
+
+/// Which of some faults is told, if there are any.
+pub fn least_of(faults: &[AsmFault]) -> Option<AsmFault>
+    ensures { result ≡ least_of faults.now }
+{
+    let mut least = None;
+    for fault in faults {
+        least = told(least, *fault);
+    }
+    least
 }

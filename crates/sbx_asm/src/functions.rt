@@ -18,7 +18,7 @@ fn push_block(
     blocks: &mut Vec<Block>,
     alloc: Global,
     address: u32,
-    after: &[Line<'_>],
+    after: &[Line<'_, '_>],
 ) -> Result<(), AllocError>
     ensures { IfOk result
         (λ _. blocks.new.items ≡ blocks.old.items ++ block_with address (up_to ends_block after.now) ∷ []) }
@@ -31,9 +31,9 @@ fn push_block(
 fn push_named_block(
     blocks: &mut Vec<Block>,
     alloc: Global,
-    line: &Line<'_>,
+    line: &Line<'_, '_>,
     place: LocationCounter,
-    after: &[Line<'_>],
+    after: &[Line<'_, '_>],
 ) -> Result<(), AllocError>
     ensures { IfOk result (λ _. (before : List Item) → place ≡ place_at before →
         blocks.new.items ≡ blocks.old.items ++ block_at before line.now after.now) }
@@ -48,9 +48,9 @@ fn push_named_block(
 /// The blocks of a function, which begins with a line at a place and has some more: the first begins with the function.
 fn blocks_of(
     alloc: Global,
-    first: &Line<'_>,
+    first: &Line<'_, '_>,
     place: LocationCounter,
-    own: &[Line<'_>],
+    own: &[Line<'_, '_>],
 ) -> Result<Items<Block>, AllocError>
     ensures { IfOk result (λ blocks. (before : List Item) → place ≡ place_at before →
         blocks ≡ block_with (code_address before) (up_to ends_block own.now)
@@ -70,9 +70,9 @@ fn blocks_of(
 fn push_function(
     functions: &mut Vec<Function>,
     alloc: Global,
-    line: &Line<'_>,
+    line: &Line<'_, '_>,
     place: LocationCounter,
-    after: &[Line<'_>],
+    after: &[Line<'_, '_>],
 ) -> Result<(), AllocError>
     ensures { IfOk result (λ _. (before : List Item) → place ≡ place_at before →
         functions.new.items ≡ functions.old.items ++ function_at before line.now after.now) }
@@ -108,7 +108,7 @@ fn push_function(
 }
 
 /// The functions of all lines.
-pub fn functions_of(alloc: Global, lines: &[Line<'_>]) -> Result<Items<Function>, AllocError>
+pub fn functions_of(alloc: Global, lines: &[Line<'_, '_>]) -> Result<Items<Function>, AllocError>
     ensures { IfOk result (λ functions. functions ≡ each function_at [] lines.now) }
 {
     let mut functions = Vec::new(alloc);

@@ -7,7 +7,7 @@ use crate::reading::Line;
 use sbx_directives::{Directive, Keyword, Statement};
 
 /// A `.function`.
-pub fn starts_function(line: &Line<'_>) -> bool
+pub fn starts_function(line: &Line<'_, '_>) -> bool
     ensures { result ≡ starts_function line.now }
 {
     matches!(
@@ -17,14 +17,14 @@ pub fn starts_function(line: &Line<'_>) -> bool
 }
 
 /// A `.function`, whatever its operands: it ends the function before it.
-pub fn ends_function(line: &Line<'_>) -> bool
+pub fn ends_function(line: &Line<'_, '_>) -> bool
     ensures { result ≡ ends_function line.now }
 {
     starts_function(line) || matches!(line.said(), Ok(Statement::Malformed(Keyword::Function, _)))
 }
 
 /// A `.block`, whatever its operands.
-pub fn is_block(line: &Line<'_>) -> bool
+pub fn is_block(line: &Line<'_, '_>) -> bool
     ensures { result ≡ is_block line.now }
 {
     matches!(
@@ -34,28 +34,28 @@ pub fn is_block(line: &Line<'_>) -> bool
 }
 
 /// A block ends where another one or a function begins.
-pub fn ends_block(line: &Line<'_>) -> bool
+pub fn ends_block(line: &Line<'_, '_>) -> bool
     ensures { result ≡ ends_block line.now }
 {
     ends_function(line) || is_block(line)
 }
 
 /// A `.text`.
-pub fn is_text(line: &Line<'_>) -> bool
+pub fn is_text(line: &Line<'_, '_>) -> bool
     ensures { result ≡ is_text line.now }
 {
     matches!(line.said(), Ok(Statement::Directive(Directive::Text)))
 }
 
 /// A `.data`.
-pub fn is_data(line: &Line<'_>) -> bool
+pub fn is_data(line: &Line<'_, '_>) -> bool
     ensures { result ≡ is_data line.now }
 {
     matches!(line.said(), Ok(Statement::Directive(Directive::Data)))
 }
 
 /// A `.region`.
-pub fn is_region(line: &Line<'_>) -> bool
+pub fn is_region(line: &Line<'_, '_>) -> bool
     ensures { result ≡ is_region line.now }
 {
     matches!(
@@ -65,7 +65,7 @@ pub fn is_region(line: &Line<'_>) -> bool
 }
 
 /// A list of values, or zeros; at the start of a region `.align` gives none.
-pub fn has_bytes(line: &Line<'_>) -> bool
+pub fn has_bytes(line: &Line<'_, '_>) -> bool
     ensures { result ≡ has_bytes line.now }
 {
     match line.said() {

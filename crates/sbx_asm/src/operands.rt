@@ -22,7 +22,7 @@ pub fn push_line_values(
     bytes: &mut Vec<u8>,
     table: &Table<'_>,
     width: Width,
-    line: &Line<'_>,
+    line: &Line<'_, '_>,
 ) -> Result<(), AllocError>
     ensures { IfOk result
         (λ _. bytes.new.items ≡
@@ -37,7 +37,7 @@ pub fn push_line_values(
 }
 
 /// Why the values of a line have no bytes, where it has values and they have none.
-pub fn value_fault(table: &Table<'_>, line: &Line<'_>) -> Option<DataFault>
+pub fn value_fault(table: &Table<'_>, line: &Line<'_, '_>) -> Option<DataFault>
     ensures { result ≡ value_fault_of (worth table.now) line.now }
 {
     match line.said() {
@@ -50,7 +50,7 @@ pub fn value_fault(table: &Table<'_>, line: &Line<'_>) -> Option<DataFault>
 }
 
 /// Whether a line acts, where it is known why its values have no bytes.
-pub fn acts(line: &Line<'_>, fault: Option<DataFault>) -> bool
+pub fn acts(line: &Line<'_, '_>, fault: Option<DataFault>) -> bool
     ensures { (values : Values) → fault ≡ value_fault_of values line.now → result ≡ acts values line.now }
 {
     matches!(line.said(), Err(_) | Ok(Statement::Instruction))
@@ -72,7 +72,7 @@ pub fn push_words(
     words: &mut Vec<u32>,
     table: &Table<'_>,
     here: u32,
-    line: &Line<'_>,
+    line: &Line<'_, '_>,
 ) -> Result<Option<SyntaxFault>, AllocError>
     ensures { IfOk result (λ fault. (before after : List Item) → here ≡ code_address before →
         (fault ≡ syntax_fault_of (worth table.now) before line.now)

@@ -6,7 +6,7 @@ use crate::kinds::{ends_block, ends_function};
 use crate::reading::Line;
 
 /// The lines up to the next `.function`.
-pub fn up_to_function<'l, 'a>(lines: &'l [Line<'a>]) -> &'l [Line<'a>]
+pub fn up_to_function<'l, 'a, 't>(lines: &'l [Line<'a, 't>]) -> &'l [Line<'a, 't>]
     ensures { result.now ≡ up_to ends_function lines.now }
 {
     for (at, line) in lines.iter().enumerate() {
@@ -18,7 +18,7 @@ pub fn up_to_function<'l, 'a>(lines: &'l [Line<'a>]) -> &'l [Line<'a>]
 }
 
 /// The lines up to the next `.block` or `.function`.
-pub fn up_to_block<'l, 'a>(lines: &'l [Line<'a>]) -> &'l [Line<'a>]
+pub fn up_to_block<'l, 'a, 't>(lines: &'l [Line<'a, 't>]) -> &'l [Line<'a, 't>]
     ensures { result.now ≡ up_to ends_block lines.now }
 {
     for (at, line) in lines.iter().enumerate() {

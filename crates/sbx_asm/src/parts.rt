@@ -19,7 +19,7 @@ pub fn parts_of(
     alloc: Global,
     table: &Table<'_>,
     words: Vec<u32>,
-    lines: &[Line<'_>],
+    lines: &[Line<'_, '_>],
 ) -> Result<Parts, AllocError>
     ensures { IfOk result (λ parts. worth table.now ≡ values_of lines.now →
         words.items ≡ each (words_at (worth table.now)) [] lines.now → parts ≡ image_of lines.now) }

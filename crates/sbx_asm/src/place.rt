@@ -82,7 +82,7 @@ fn fits_behind(offset: u32, bytes: u128) -> bool
 }
 
 /// How many bytes a line adds to so many of the data.
-fn data_length(bytes: u32, line: &Line<'_>) -> u128
+fn data_length(bytes: u32, line: &Line<'_, '_>) -> u128
     ensures { result ≡ data_length bytes line.now.said }
 {
     match line.said() {
@@ -94,7 +94,7 @@ fn data_length(bytes: u32, line: &Line<'_>) -> u128
 }
 
 /// Whether the code is the current section behind a line.
-fn in_code_after(current: bool, line: &Line<'_>) -> bool
+fn in_code_after(current: bool, line: &Line<'_, '_>) -> bool
     ensures { (before : List Item) → current ≡ in_code before → result ≡ in_code (line.now ∷ before) }
 {
     is_text(line) || (current && !is_data(line) && !is_region(line))
@@ -133,7 +133,7 @@ impl LocationCounter {
     }
 
     /// Behind one more line.
-    pub fn after(self, line: &Line<'_>) -> LocationCounter
+    pub fn after(self, line: &Line<'_, '_>) -> LocationCounter
         ensures { (before : List Item) → self ≡ place_at before → result ≡ place_at (line.now ∷ before) }
     {
         let in_code = in_code_after(self.in_code, line);

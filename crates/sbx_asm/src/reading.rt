@@ -22,20 +22,20 @@ enum Told {
     Fault(TextFault),
 }
 
-/// A line of a source. Contracts see the item that it is.
+/// A line of a source, and the tokens that were read of it. Contracts see the item that it is.
 #[derive(Drop)]
-pub struct Line<'a> {
+pub struct Line<'a, 't> {
     /// From 1.
     number: usize,
     bytes: &'a [u8],
     /// None where the line has a fault of its text.
-    tokens: &'a [Token],
+    tokens: &'t [Token],
     /// How many labels its tokens begin with.
     label_count: usize,
     told: Told,
 }
 
-impl<'a> Model for Line<'a> {
+impl<'a, 't> Model for Line<'a, 't> {
     ghost use Rattle.std.specs.Prelude.{◌≡◌, ◌*◌, drop, Ok, Err, ⊤};
     ghost use Rattle.v8_syntax.specs.Statements.{statement_length};
     ghost use Rattle.sbx_directives.specs.declared.directive.Statement.TheVariants as statements;
@@ -70,14 +70,14 @@ fn behind_labels(tokens: &[Token], count: usize) -> &[Token]
     }
 }
 
-impl<'a> Line<'a> {
+impl<'a, 't> Line<'a, 't> {
     /// The line of that number with its tokens.
-    pub fn with_tokens(
+    pub(crate) fn with_tokens(
         alloc: Global,
         number: usize,
         bytes: &'a [u8],
-        tokens: &'a [Token],
-    ) -> Result<Line<'a>, AllocError>
+        tokens: &'t [Token],
+    ) -> Result<Line<'a, 't>, AllocError>
         ensures { IfOk result (λ line. Ok tokens.now ≡ tokens_of bytes.now → line ≡ item_of (number, bytes.now)) }
     {
         let label_count = label_count(bytes, tokens);
@@ -97,7 +97,7 @@ impl<'a> Line<'a> {
     }
 
     /// The line of that number that has no tokens for a fault.
-    pub fn with_fault(number: usize, bytes: &'a [u8], fault: TextFault) -> Line<'a>
+    pub(crate) fn with_fault(number: usize, bytes: &'a [u8], fault: TextFault) -> Line<'a, 't>
         ensures { Err fault ≡ tokens_of bytes.now → result ≡ item_of (number, bytes.now) }
     {
         Line {
@@ -136,14 +136,14 @@ impl<'a> Line<'a> {
     }
 
     /// How many labels it has, and tokens that begin with them.
-    pub fn labels(&self) -> (usize, &'a [Token])
+    pub fn labels(&self) -> (usize, &'t [Token])
         ensures { label_names self.now.bytes result.0 result.1.now ≡ self.now.labels }
     {
         (self.label_count, self.tokens)
     }
 
     /// The tokens behind the labels.
-    pub fn tokens(&self) -> &'a [Token]
+    pub fn tokens(&self) -> &'t [Token]
         ensures { result.now ≡ self.now.tokens }
     {
         behind_labels(self.tokens, self.label_count)

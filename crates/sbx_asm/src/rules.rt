@@ -225,7 +225,7 @@ impl Context {
     pub fn line_rules(
         self,
         notes: Notes,
-        line: &Line<'_>,
+        line: &Line<'_, '_>,
         value_fault: Option<DataFault>,
         syntax_fault: Option<SyntaxFault>,
     ) -> Notes

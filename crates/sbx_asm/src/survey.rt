@@ -5,7 +5,7 @@ ghost use Rattle.sbx_asm.specs.Items.{Item, each, label_names};
 ghost use Rattle.sbx_asm.specs.Addresses.{Label, labelled, labels_at, names_said};
 ghost use Rattle.sbx_asm.specs.Kept.{IsSurvey, place_at};
 
-use crate::fault::{AsmFault, Cause, told};
+use crate::fault::{AsmFault, Cause};
 use crate::place::LocationCounter;
 use crate::reading::Line;
 use crate::table::Table;
@@ -14,11 +14,11 @@ use sbx_text::{TextFault, Token};
 use std::alloc::{AllocError, Global};
 use v8_syntax::after_first;
 
-/// What labels are worth, and the fault that is told of those that stand twice.
+/// What labels are worth, and the faults of those that stand before already, in the order of their lines.
 #[derive(Drop)]
 pub struct Survey<'a> {
     pub table: Table<'a>,
-    pub fault: Option<AsmFault>,
+    pub repeats: Vec<AsmFault>,
 }
 
 /// The name of a function or of a block, whatever else stands there.
@@ -42,11 +42,12 @@ impl<'a> Survey<'a> {
     {
         Survey {
             table: Table::new(alloc),
-            fault: None,
+            repeats: Vec::new(alloc),
         }
     }
 
-    /// One more label. Where its name has a value already, that stays and the label is told at the line of that number.
+    /// One more label. Where its name has a value already, that stays, and the label is a fault of the line of that
+    /// number.
     fn add(&mut self, number: usize, name: &'a [u8], address: u32) -> Result<(), AllocError>
         ensures { IfOk result (λ _. (labels : List Label) → IsSurvey labels self.old →
             IsSurvey (labels ++ labelled number address name.now ∷ []) self.new) }
@@ -57,7 +58,7 @@ impl<'a> Survey<'a> {
                     line: number,
                     cause: Cause::DuplicateLabel,
                 };
-                self.fault = told(self.fault, again);
+                self.repeats.push(again)?;
             }
             None => self.table.put(name, address)?,
         }
@@ -110,7 +111,7 @@ impl<'a> Survey<'a> {
     }
 
     /// The labels of one more line, at its place.
-    fn add_line(&mut self, place: LocationCounter, line: &Line<'a>) -> Result<(), AllocError>
+    fn add_line(&mut self, place: LocationCounter, line: &Line<'a, '_>) -> Result<(), AllocError>
         ensures { IfOk result (λ _. (labels : List Label) (before : List Item) → place ≡ place_at before →
             IsSurvey labels self.old → IsSurvey (labels ++ labels_at before line.now []) self.new) }
     {
@@ -122,8 +123,8 @@ impl<'a> Survey<'a> {
     }
 }
 
-/// The labels of all lines.
-pub fn survey_lines<'a>(alloc: Global, lines: &[Line<'a>]) -> Result<Survey<'a>, AllocError>
+/// The labels of all lines: what each is worth, and which are told.
+pub fn survey_lines<'a>(alloc: Global, lines: &[Line<'a, '_>]) -> Result<Survey<'a>, AllocError>
     ensures { IfOk result (λ survey. IsSurvey (each labels_at [] lines.now) survey) }
 {
     let mut survey = Survey::new(alloc);

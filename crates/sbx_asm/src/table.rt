@@ -16,7 +16,7 @@ pub struct Table<'a> {
 
 impl<'a> Table<'a> {
     /// No labels.
-    pub fn new(alloc: Global) -> Table<'a>
+    pub(crate) fn new(alloc: Global) -> Table<'a>
         ensures { worth result ≡ worth_in [] }
     {
         Table {
@@ -32,7 +32,7 @@ impl<'a> Table<'a> {
     }
 
     /// Puts one more label into the table.
-    pub fn put(&mut self, name: &'a [u8], address: u32) -> Result<(), AllocError>
+    pub(crate) fn put(&mut self, name: &'a [u8], address: u32) -> Result<(), AllocError>
         ensures { IfOk result (λ _. worth self.new ≡ update bytes_eq (worth self.old) name.now (Some address)) }
     {
         self.entries.insert(name, address)?;

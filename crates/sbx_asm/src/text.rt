@@ -71,13 +71,13 @@ impl Kept {
 }
 
 /// The line of that number, whose tokens stand in front of others, and the others.
-fn line_of<'a>(
+fn line_of<'a, 't>(
     alloc: Global,
     number: usize,
     bytes: &'a [u8],
     found: Result<usize, TextFault>,
-    tokens: &'a [Token],
-) -> Result<(Line<'a>, &'a [Token]), AllocError>
+    tokens: &'t [Token],
+) -> Result<(Line<'a, 't>, &'t [Token]), AllocError>
     ensures { IfOk result (λ read. (others : List Token) →
         found ≡ result_map_both length (λ fault. fault) (tokens_of bytes.now) →
         tokens.now ≡ result_unwrap_or (tokens_of bytes.now) [] ++ others
@@ -110,8 +110,8 @@ impl<'a> Text<'a> {
         Ok(Text { source, kept })
     }
 
-    /// Its lines.
-    pub fn lines(&self, alloc: Global) -> Result<Vec<Line<'_>>, AllocError>
+    /// Its lines, in their order.
+    pub fn lines(&self, alloc: Global) -> Result<Vec<Line<'a, '_>>, AllocError>
         ensures { IfOk result (λ lines. lines.items ≡ items_of self.now) }
     {
         let found = self.kept.found.as_slice();

@@ -3,17 +3,16 @@ ghost use Rattle.std.specs.Prelude.{◌≤◌, IfOk, length};
 
 use crate::settings::Setting;
 use crate::texts::text_mark;
-use sbx_asm::Cause;
+use sbx_asm::{Cause, Line};
 use sbx_directives::{Directive, Name, Statement, Width};
 use sbx_operands::{operand_mark, symbol_mark, value_mark};
-use sbx_places::Line;
 use sbx_shapes::{LimitReason, Mark, PlaceReason, Reason, statement_mark};
 use sbx_text::Token;
 use std::alloc::{AllocError, Global};
 use v8_syntax::{Symbols, SyntaxFault, bytes_between};
 
 /// The limit that is passed by a line.
-fn limit_reason(line: &Line<'_>, setting: Setting) -> LimitReason {
+fn limit_reason(line: &Line<'_, '_>, setting: Setting) -> LimitReason {
     if line.number() > 1_000_000 {
         return LimitReason::Lines;
     }
@@ -34,7 +33,7 @@ fn limit_reason(line: &Line<'_>, setting: Setting) -> LimitReason {
 }
 
 /// Why an annotation is out of place.
-fn annotation_reason(line: &Line<'_>, setting: Setting) -> PlaceReason {
+fn annotation_reason(line: &Line<'_, '_>, setting: Setting) -> PlaceReason {
     match line.said() {
         Ok(Statement::Directive(Directive::Block(_))) => PlaceReason::BlockOutside,
         _ if !setting.is_open => PlaceReason::AnnotationOutside,
@@ -71,12 +70,12 @@ fn instruction_reason(setting: Setting) -> PlaceReason {
 }
 
 /// The first token behind a line's labels, and those behind it; none of a line without one.
-fn name_of<'l>(line: &'l Line<'_>) -> Option<(&'l Token, &'l [Token])> {
+fn name_of<'l>(line: &'l Line<'_, '_>) -> Option<(&'l Token, &'l [Token])> {
     line.tokens().split_first()
 }
 
 /// A mark where what stands behind a line's labels begins.
-fn at_statement(line: &Line<'_>, reason: Reason) -> Mark {
+fn at_statement(line: &Line<'_, '_>, reason: Reason) -> Mark {
     let at = match name_of(line) {
         Some((first, _)) => first.start,
         None => 0,
@@ -85,7 +84,12 @@ fn at_statement(line: &Line<'_>, reason: Reason) -> Mark {
 }
 
 /// A value that doesn't fit, or data among the code.
-fn values_mark<S: Symbols>(line: &Line<'_>, width: Width, symbols: &S, setting: Setting) -> Mark {
+fn values_mark<S: Symbols>(
+    line: &Line<'_, '_>,
+    width: Width,
+    symbols: &S,
+    setting: Setting,
+) -> Mark {
     match name_of(line) {
         Some((_, rest)) if !setting.in_code => value_mark(line.bytes(), width, rest, symbols),
         _ => at_statement(line, Reason::Place(PlaceReason::DataInCode)),
@@ -93,7 +97,7 @@ fn values_mark<S: Symbols>(line: &Line<'_>, width: Width, symbols: &S, setting: 
 }
 
 /// Why a directive, or an instruction, is told as A2.
-fn directive_mark<S: Symbols>(line: &Line<'_>, symbols: &S, setting: Setting) -> Mark {
+fn directive_mark<S: Symbols>(line: &Line<'_, '_>, symbols: &S, setting: Setting) -> Mark {
     match line.said() {
         Ok(Statement::Directive(Directive::Values(width, _))) => {
             values_mark(line, width, symbols, setting)
@@ -111,7 +115,7 @@ fn directive_mark<S: Symbols>(line: &Line<'_>, symbols: &S, setting: Setting) ->
 }
 
 /// Why a statement, or a value, is told.
-fn syntax_mark<S: Symbols>(line: &Line<'_>, fault: SyntaxFault, symbols: &S) -> Mark {
+fn syntax_mark<S: Symbols>(line: &Line<'_, '_>, fault: SyntaxFault, symbols: &S) -> Mark {
     match (line.said(), name_of(line)) {
         (Ok(Statement::Directive(_)), Some((_, rest))) => symbol_mark(line.bytes(), rest, symbols),
         _ => statement_mark(line.bytes(), line.tokens(), fault, symbols),
@@ -119,7 +123,7 @@ fn syntax_mark<S: Symbols>(line: &Line<'_>, fault: SyntaxFault, symbols: &S) -> 
 }
 
 /// The name of a function or of a block of a line, if it has one.
-fn name_said(line: &Line<'_>) -> Option<Name> {
+fn name_said(line: &Line<'_, '_>) -> Option<Name> {
     match line.said() {
         Ok(Statement::Directive(Directive::Function { name, .. } | Directive::Block(name))) => {
             Some(name)
@@ -131,7 +135,7 @@ fn name_said(line: &Line<'_>) -> Option<Name> {
 
 /// Where a label stands that stands before already: the first one that is worth another address than the line's, else
 /// the last one.
-fn label_place<S: Symbols>(line: &Line<'_>, symbols: &S) -> usize {
+fn label_place<S: Symbols>(line: &Line<'_, '_>, symbols: &S) -> usize {
     let (count, tokens) = line.labels();
     let mut last = 0;
     for label in 0..count {
@@ -154,7 +158,7 @@ fn label_place<S: Symbols>(line: &Line<'_>, symbols: &S) -> usize {
 /// Why a line is told for a cause, and where.
 fn mark_for<S: Symbols>(
     alloc: Global,
-    line: &Line<'_>,
+    line: &Line<'_, '_>,
     cause: Cause,
     symbols: &S,
     setting: Setting,
@@ -178,7 +182,7 @@ fn mark_for<S: Symbols>(
 /// It fails where memory is refused.
 pub fn mark_of<S: Symbols>(
     alloc: Global,
-    line: &Line<'_>,
+    line: &Line<'_, '_>,
     cause: Cause,
     symbols: &S,
     setting: Setting,

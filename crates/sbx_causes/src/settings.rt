@@ -1,6 +1,6 @@
 //! What stands before a line, as far as its faults ask for it.
+use sbx_asm::Line;
 use sbx_directives::{Directive, Keyword, Statement};
-use sbx_places::Line;
 
 /// What the lines before a line leave.
 #[derive(Clone, Copy)]
@@ -53,7 +53,7 @@ impl Setting {
     }
 
     /// Behind one more line.
-    pub fn after(self, line: &Line<'_>) -> Setting {
+    pub fn after(self, line: &Line<'_, '_>) -> Setting {
         match line.said() {
             Err(_) | Ok(Statement::Instruction) => Setting {
                 has_acted: true,

@@ -1,3 +1,2 @@
 mod Among
 mod Telling
-mod Walks

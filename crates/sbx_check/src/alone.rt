@@ -8,12 +8,11 @@ ghost use Rattle.sbx_asm.specs.declared.fault.AsmFault.{AsmFault};
 ghost use Rattle.sbx_asm.specs.Items.{Item};
 ghost use Rattle.sbx_asm.specs.Addresses.{code_address};
 ghost use Rattle.sbx_asm.specs.Rules.{syntax_fault_of};
-ghost use Rattle.sbx_places.specs.Kept.{worth};
+ghost use Rattle.sbx_asm.specs.Kept.{worth};
 ghost use Rattle.sbx_check.specs.Alone.{cause_alone, value_cause, with_label};
 
-use sbx_asm::{AsmFault, Cause};
+use sbx_asm::{AsmFault, Cause, Line, Scope, Table};
 use sbx_directives::{DataFault, Directive, Statement, value_fault};
-use sbx_places::{Line, Scope, Table};
 use v8_syntax::{SyntaxFault, parse_instr};
 
 /// Whether one of some faults is told at a line.
@@ -35,7 +34,7 @@ fn value_cause(fault: Option<DataFault>) -> Option<Cause>
 }
 
 /// Why an instruction at an address has no words.
-fn syntax_cause(table: &Table<'_>, here: u32, line: &Line<'_>) -> Option<Cause>
+fn syntax_cause(table: &Table<'_>, here: u32, line: &Line<'_, '_>) -> Option<Cause>
     ensures { (before : List Item) → here ≡ code_address before → line.now.said ≡ Ok statements.Instruction →
         result ≡ option_map causes.Syntax (syntax_fault_of (worth table.now) before line.now) }
 {
@@ -47,7 +46,7 @@ fn syntax_cause(table: &Table<'_>, here: u32, line: &Line<'_>) -> Option<Cause>
 }
 
 /// Why a line at an address of the code means nothing by itself.
-pub fn cause_alone(table: &Table<'_>, here: u32, line: &Line<'_>) -> Option<Cause>
+pub fn cause_alone(table: &Table<'_>, here: u32, line: &Line<'_, '_>) -> Option<Cause>
     ensures { (before : List Item) → here ≡ code_address before →
         result ≡ cause_alone (worth table.now) before line.now }
 {

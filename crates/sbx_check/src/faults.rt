@@ -6,14 +6,13 @@ ghost use Rattle.sbx_asm.specs.Items.{Item, each, items_of};
 ghost use Rattle.sbx_asm.specs.Addresses.{code_address, labels_at};
 ghost use Rattle.sbx_asm.specs.Images.{source_image};
 ghost use Rattle.sbx_asm.specs.Rules.{at};
-ghost use Rattle.sbx_places.specs.Kept.{IsSurvey, worth};
+ghost use Rattle.sbx_asm.specs.Kept.{IsSurvey, worth};
 ghost use Rattle.sbx_check.specs.Alone.{cause_behind, found_at};
 ghost use Rattle.sbx_check.specs.Faults.{AreTold, found_behind};
 
 use crate::alone::{cause_alone, is_told, with_label};
-use sbx_asm::{AsmFault, Cause, assemble};
+use sbx_asm::{AsmFault, Cause, Line, LocationCounter, Survey, Text, assemble, survey_lines};
 use sbx_image::Image;
-use sbx_places::{Line, LocationCounter, Survey, lines_in, survey_lines};
 use std::alloc::{AllocError, Global};
 
 /// The faults of a source that means no image.
@@ -26,7 +25,7 @@ pub struct Faults {
 }
 
 /// Why a line at an address of the code is told by itself, if it stands behind another line.
-fn cause_behind(survey: &Survey<'_>, behind: usize, here: u32, line: &Line<'_>) -> Option<Cause>
+fn cause_behind(survey: &Survey<'_>, behind: usize, here: u32, line: &Line<'_, '_>) -> Option<Cause>
     ensures { (before : List Item) → here ≡ code_address before →
         result ≡ cause_behind (worth survey.now.table) survey.now.repeats.items behind before line.now }
 {
@@ -45,7 +44,7 @@ fn push_found(
     survey: &Survey<'_>,
     behind: usize,
     here: u32,
-    line: &Line<'_>,
+    line: &Line<'_, '_>,
 ) -> Result<(), AllocError>
     ensures { IfOk result (λ _. (before after : List Item) → here ≡ code_address before →
         found.new.items ≡
@@ -66,7 +65,7 @@ pub fn faults_behind(
     alloc: Global,
     survey: &Survey<'_>,
     behind: usize,
-    lines: &[Line<'_>],
+    lines: &[Line<'_, '_>],
 ) -> Result<Vec<AsmFault>, AllocError>
     ensures { IfOk result (λ found. IsSurvey (each labels_at [] lines.now) survey.now →
         found.items ≡ found_behind behind lines.now) }
@@ -84,7 +83,8 @@ pub fn faults_behind(
 fn others_behind(alloc: Global, source: &[u8], line: usize) -> Result<Vec<AsmFault>, AllocError>
     ensures { IfOk result (λ others. others.items ≡ found_behind line (items_of source.now)) }
 {
-    let lines = lines_in(alloc, source)?;
+    let text = Text::read(alloc, source)?;
+    let lines = text.lines(alloc)?;
     let survey = survey_lines(alloc, lines.as_slice())?;
     faults_behind(alloc, &survey, line, lines.as_slice())
 }

@@ -5,8 +5,8 @@ use Rattle.sbx_asm.specs.declared.fault.AsmFault.{AsmFault}
 use Rattle.sbx_asm.specs.Images.{source_image}
 use Rattle.sbx_asm.specs.Items.{Item, each, items_of}
 use Rattle.sbx_asm.specs.Rules.{code_of}
-use Rattle.sbx_places.specs.declared.rows.Row.{Row}
-use Rattle.sbx_places.specs.Rows.{row_at}
+use Rattle.sbx_named.specs.declared.rows.Row.{Row}
+use Rattle.sbx_named.specs.Rows.{row_at}
 use Rattle.sbx_check.specs.declared.faults.Faults.{Faults}
 use Rattle.sbx_check.specs.Faults.{AreTold}
 use Rattle.sbx_rules.specs.declared.cause.Refusal.{Refusal}

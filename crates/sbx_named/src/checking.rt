@@ -9,12 +9,12 @@ ghost use Rattle.sbx_named.specs.Findings.{refusal_place};
 use crate::findings::{Code, Finding, findings_of};
 use crate::names::names_of;
 use crate::renaming::{Told, push_renamed};
+use crate::rows::{Row, rows_of};
 use crate::told::push_findings;
-use sbx_asm::AsmFault;
+use sbx_asm::{AsmFault, Line, Text};
 use sbx_check::{Faults, judge};
 use sbx_explain::{push_why, rule_text};
 use sbx_image::Image;
-use sbx_places::{Line, Row, lines_in, rows_of};
 use sbx_rules::Refusal;
 use std::alloc::{AllocError, Global};
 
@@ -51,7 +51,7 @@ fn behind_line(text: &[u8]) -> &[u8] {
 }
 
 /// The column where the statement of a line begins.
-fn statement_column(lines: &[Line<'_>], number: usize) -> usize {
+fn statement_column(lines: &[Line<'_, '_>], number: usize) -> usize {
     let Some(line) = lines.get(number.saturating_sub(1)) else {
         return 1;
     };
@@ -87,7 +87,7 @@ fn line_among(rows: &[Row], address: u32) -> usize
 /// A refusal, at the line of its word.
 fn refusal_finding(
     alloc: Global,
-    lines: &[Line<'_>],
+    lines: &[Line<'_, '_>],
     refusal: Refusal,
 ) -> Result<Finding, AllocError>
     ensures { IfOk result (λ found. finding_place found ≡ refusal_place lines.now refusal) }
@@ -107,7 +107,7 @@ fn refusal_finding(
 fn push_reasons(
     alloc: Global,
     out: &mut String,
-    lines: &[Line<'_>],
+    lines: &[Line<'_, '_>],
     why: &str,
 ) -> Result<(), AllocError> {
     let names = names_of(alloc, lines)?;
@@ -125,7 +125,8 @@ fn refused(
 ) -> Result<(Vec<Finding>, String), AllocError>
     ensures { IfOk result (λ told. map finding_place told.0.items ≡ refusal_place (items_of source.now) refusal ∷ []) }
 {
-    let lines = lines_in(alloc, source)?;
+    let text = Text::read(alloc, source)?;
+    let lines = text.lines(alloc)?;
     let finding = refusal_finding(alloc, lines.as_slice(), refusal)?;
     let mut findings = Vec::new(alloc);
     findings.push(finding)?;
@@ -189,7 +190,8 @@ fn check_faults(
     requires { AreTold source.now faults.now }
     ensures { IfOk result (λ check. IsCheck source.now check.verdict check.findings.items) }
 {
-    let lines = lines_in(alloc, source)?;
+    let text = Text::read(alloc, source)?;
+    let lines = text.lines(alloc)?;
     let findings = findings_of(alloc, lines.as_slice(), faults)?;
     let mut text = String::new(alloc);
     push_findings(&mut text, name, lines.as_slice(), findings.as_slice())?;

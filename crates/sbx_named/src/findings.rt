@@ -2,10 +2,9 @@
 ghost use Rattle.std.specs.Prelude.{◌≡◌, ◌∷◌, ◌++◌, IfOk, OnOk, Some, map};
 ghost use Rattle.sbx_named.specs.Findings.{code_text, fault_place, finding_place};
 
-use sbx_asm::{AsmFault, Cause};
+use sbx_asm::{AsmFault, Cause, Line, LocationCounter, Scope, Survey, survey_lines};
 use sbx_causes::{Setting, mark_of, whole_reason};
 use sbx_check::Faults;
-use sbx_places::{Line, LocationCounter, Scope, Survey, survey_lines};
 use std::alloc::{AllocError, Global};
 use std::fmt::{self, Error, Formatter, Write};
 
@@ -41,15 +40,15 @@ pub struct Finding {
 
 /// Lines of a source that are left, behind those that were passed.
 #[derive(Clone, Copy)]
-struct Walk<'l, 'a> {
-    rest: &'l [Line<'a>],
+struct Walk<'l, 'a, 't> {
+    rest: &'l [Line<'a, 't>],
     place: LocationCounter,
     setting: Setting,
 }
 
-impl<'l, 'a> Walk<'l, 'a> {
+impl<'l, 'a, 't> Walk<'l, 'a, 't> {
     /// At the first line.
-    fn start(lines: &'l [Line<'a>]) -> Self {
+    fn start(lines: &'l [Line<'a, 't>]) -> Self {
         Walk {
             rest: lines,
             place: LocationCounter::start(),
@@ -58,7 +57,7 @@ impl<'l, 'a> Walk<'l, 'a> {
     }
 
     /// Behind a line, at the rest.
-    fn behind(self, line: &Line<'a>, rest: &'l [Line<'a>]) -> Self {
+    fn behind(self, line: &Line<'a, 't>, rest: &'l [Line<'a, 't>]) -> Self {
         Walk {
             rest,
             place: self.place.after(line),
@@ -123,7 +122,7 @@ fn push_each(
     alloc: Global,
     found: &mut Vec<Finding>,
     survey: &Survey<'_>,
-    walk: Walk<'_, '_>,
+    walk: Walk<'_, '_, '_>,
     faults: &[AsmFault],
 ) -> Result<(), AllocError>
     ensures { OnOk result
@@ -141,7 +140,7 @@ fn push_each(
 /// The faults of the source of some lines, each at its place. They stand in the order of their lines.
 pub(crate) fn findings_of(
     alloc: Global,
-    lines: &[Line<'_>],
+    lines: &[Line<'_, '_>],
     faults: &Faults,
 ) -> Result<Vec<Finding>, AllocError>
     ensures { IfOk result

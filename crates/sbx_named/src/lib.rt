@@ -9,6 +9,7 @@ mod map;
 mod names;
 mod reading;
 mod renaming;
+mod rows;
 mod told;
 mod writer;
 

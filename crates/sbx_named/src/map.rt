@@ -1,7 +1,7 @@
 //! The map of a source: where its lines and its labels stand.
 use crate::names::words_of;
+use sbx_asm::{Line, LocationCounter, Text};
 use sbx_directives::{Directive, Statement, text_of};
-use sbx_places::{Line, LocationCounter, lines_in};
 use std::alloc::{AllocError, Global};
 use v8_syntax::bytes_between;
 
@@ -33,7 +33,7 @@ fn push_label(
 fn push_labels(
     out: &mut String,
     place: LocationCounter,
-    line: &Line<'_>,
+    line: &Line<'_, '_>,
 ) -> Result<(), AllocError> {
     let (count, tokens) = line.labels();
     for label in 0..count {
@@ -46,7 +46,7 @@ fn push_labels(
 }
 
 /// The words of a line from an address on.
-fn push_words(out: &mut String, address: u32, line: &Line<'_>) -> Result<(), AllocError> {
+fn push_words(out: &mut String, address: u32, line: &Line<'_, '_>) -> Result<(), AllocError> {
     let number = line.number();
     for word in 0..words_of(line) {
         let address = address.wrapping_add(word.wrapping_mul(4));
@@ -56,7 +56,11 @@ fn push_words(out: &mut String, address: u32, line: &Line<'_>) -> Result<(), All
 }
 
 /// What a line has at its place.
-fn push_line(out: &mut String, place: LocationCounter, line: &Line<'_>) -> Result<(), AllocError> {
+fn push_line(
+    out: &mut String,
+    place: LocationCounter,
+    line: &Line<'_, '_>,
+) -> Result<(), AllocError> {
     push_labels(out, place, line)?;
     let (address, number) = (place.next_word, line.number());
     match line.said() {
@@ -80,7 +84,8 @@ pub fn push_map(
     source: &[u8],
     digest: &str,
 ) -> Result<(), AllocError> {
-    let lines = lines_in(alloc, source)?;
+    let text = Text::read(alloc, source)?;
+    let lines = text.lines(alloc)?;
     writeln!(out, "map of image {digest}")?;
     let mut place = LocationCounter::start();
     for line in &lines {

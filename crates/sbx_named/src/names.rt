@@ -1,6 +1,6 @@
 //! The names of a source's functions and blocks, and the lines of its words.
+use sbx_asm::{Line, LocationCounter, Text};
 use sbx_directives::{Directive, Statement, text_of};
-use sbx_places::{Line, LocationCounter, lines_in};
 use std::alloc::{AllocError, Global};
 use v8_map::CODE_START;
 
@@ -39,7 +39,7 @@ fn next_function(last: Option<&Named<'_>>) -> (usize, usize) {
 }
 
 /// How many words a line has.
-pub(crate) fn words_of(line: &Line<'_>) -> u32 {
+pub(crate) fn words_of(line: &Line<'_, '_>) -> u32 {
     (line.code_length() / 4).min(2) as u32
 }
 
@@ -93,7 +93,7 @@ impl<'a> Names<'a> {
     }
 
     /// What one more line names, and its words.
-    fn push_line(&mut self, place: LocationCounter, line: &Line<'a>) -> Result<(), AllocError> {
+    fn push_line(&mut self, place: LocationCounter, line: &Line<'a, '_>) -> Result<(), AllocError> {
         match line.said() {
             Ok(Statement::Directive(Directive::Function { name, .. })) => {
                 self.push_function(text_of(line.bytes(), name), place.next_word)
@@ -106,7 +106,7 @@ impl<'a> Names<'a> {
     }
 
     /// The words of a line, of which there are two at most.
-    fn push_words(&mut self, line: &Line<'a>) -> Result<(), AllocError> {
+    fn push_words(&mut self, line: &Line<'a, '_>) -> Result<(), AllocError> {
         for _ in 0..words_of(line) {
             self.push_word(line.number())?;
         }
@@ -142,7 +142,7 @@ impl<'a> Names<'a> {
 }
 
 /// The names of a source, which means an image, by its lines.
-pub(crate) fn names_of<'a>(alloc: Global, lines: &[Line<'a>]) -> Result<Names<'a>, AllocError> {
+pub(crate) fn names_of<'a>(alloc: Global, lines: &[Line<'a, '_>]) -> Result<Names<'a>, AllocError> {
     let mut names = Names::none(alloc);
     let mut place = LocationCounter::start();
     for line in lines {
@@ -154,6 +154,7 @@ pub(crate) fn names_of<'a>(alloc: Global, lines: &[Line<'a>]) -> Result<Names<'a
 
 /// The names of a source, which means an image.
 pub fn names_in<'a>(alloc: Global, source: &'a [u8]) -> Result<Names<'a>, AllocError> {
-    let lines = lines_in(alloc, source)?;
+    let text = Text::read(alloc, source)?;
+    let lines = text.lines(alloc)?;
     names_of(alloc, lines.as_slice())
 }

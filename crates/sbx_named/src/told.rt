@@ -1,6 +1,6 @@
 //! Findings in words, each with the line that it speaks of and a mark at its place.
 use crate::findings::Finding;
-use sbx_places::Line;
+use sbx_asm::Line;
 use std::alloc::AllocError;
 
 /// How much of a line is shown, in bytes.
@@ -55,7 +55,7 @@ fn push_marked(out: &mut String, bytes: &[u8], at: usize) -> Result<(), AllocErr
 fn push_finding(
     out: &mut String,
     name: &str,
-    lines: &[Line<'_>],
+    lines: &[Line<'_, '_>],
     finding: Finding,
 ) -> Result<(), AllocError> {
     let (number, column) = (finding.line, finding.column);
@@ -72,7 +72,7 @@ fn push_finding(
 pub(crate) fn push_findings(
     out: &mut String,
     name: &str,
-    lines: &[Line<'_>],
+    lines: &[Line<'_, '_>],
     findings: &[Finding],
 ) -> Result<(), AllocError> {
     for finding in findings {

@@ -1,6 +1,6 @@
 use Rattle.std.proofs.Common.{◌≡◌, List, ◌++◌, [], drop}
 use Rattle.sbx_asm.specs.Items.{Item, each}
-use Rattle.sbx_places.specs.Kept.{place_at, worth}
+use Rattle.sbx_asm.specs.Kept.{place_at, worth}
 use Rattle.sbx_check.specs.Alone.{found_at}
 use Rattle.sbx_check.proofs.faults.faults_behind.Given as goal
 

@@ -1,10 +1,10 @@
-use Rattle.std.proofs.Common.{◌+◌, List, [], ◌∷◌, ◌++◌, ap, drop, arith}
+use Rattle.std.proofs.Common.{◌+◌, List, [], ◌∷◌, ◌++◌, refl, ap, drop, arith}
 use Rattle.std.proofs.lemmas.Grind.{common_steps}
 use Rattle.sbx_asm.specs.Items.{Item, each}
-use Rattle.sbx_places.specs.declared.rows.Row.{Row}
-use Rattle.sbx_places.specs.Rows.{row_at}
-use Rattle.sbx_places.proofs.Walks.{one_more}
-use Rattle.sbx_places.proofs.rows.rows_of.Goals as goal
+use Rattle.sbx_named.specs.declared.rows.Row.{Row}
+use Rattle.sbx_named.specs.Rows.{row_at}
+use Rattle.sbx_asm.proofs.Walks.{one_more}
+use Rattle.sbx_named.proofs.rows.rows_of.Goals as goal
 
 pub loop-line-init : goal.loop-line-init
 loop-line-init c = record {
@@ -20,7 +20,8 @@ loop-line-preserved c =
     record {
       before = c.line-item.result ∷ so_far.before;
       stands = c.after-place.ensures so_far.before so_far.stands;
-      rows = one_more row_at c.loop-line.rows.items c.push_row.new.rows.items (each row_at [] lines) so_far.before lines c.loop-line.line-index c.line-item.result c.loop-line-test.true c.line-item.is
+      rows = one_more row_at c.loop-line.rows.items c.push_row.new.rows.items (each row_at [] lines) so_far.before lines c.loop-line.line-index c.line-item.result
+          (drop (c.loop-line.line-index + 1) lines) c.loop-line-test.true c.line-item.is refl
           (c.in_ok-push_row.ensures so_far.before (drop (c.loop-line.line-index + 1) lines) so_far.stands) so_far.rows;
     }
 

@@ -1,8 +1,8 @@
 use Rattle.std.proofs.Common.{◌≡◌, List, ◌++◌, [], drop}
 use Rattle.sbx_asm.specs.Items.{Item, each}
-use Rattle.sbx_places.specs.Kept.{place_at}
-use Rattle.sbx_places.specs.Rows.{row_at}
-use Rattle.sbx_places.proofs.rows.rows_of.Given as goal
+use Rattle.sbx_asm.specs.Kept.{place_at}
+use Rattle.sbx_named.specs.Rows.{row_at}
+use Rattle.sbx_named.proofs.rows.rows_of.Given as goal
 
 abbrev pub invariant-loop-line : goal.invariant-loop-line
 invariant-loop-line l = record {

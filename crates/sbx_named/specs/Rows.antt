@@ -3,7 +3,7 @@ use Rattle.std.specs.Prelude.{List, [], ◌∷◌, Ok}
 use Rattle.sbx_directives.specs.declared.directive.Statement.TheVariants as statements
 use Rattle.sbx_asm.specs.Items.{Item}
 use Rattle.sbx_asm.specs.Addresses.{code_address}
-use Rattle.sbx_places.specs.declared.rows.Row.{Row}
+use Rattle.sbx_named.specs.declared.rows.Row.{Row}
 
 -- a statement of the code has its words from the address on that a label of its line has
 abbrev pub row_at : List Item → Item → List Item → List Row

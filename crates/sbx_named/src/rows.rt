@@ -1,11 +1,10 @@
 //! Which line the words of an image come from.
 ghost use Rattle.std.specs.Prelude.{◌≡◌, ◌++◌, [], IfOk, List};
 ghost use Rattle.sbx_asm.specs.Items.{Item, each};
-ghost use Rattle.sbx_places.specs.Rows.{row_at};
-ghost use Rattle.sbx_places.specs.Kept.{place_at};
+ghost use Rattle.sbx_named.specs.Rows.{row_at};
+ghost use Rattle.sbx_asm.specs.Kept.{place_at};
 
-use crate::place::LocationCounter;
-use crate::reading::Line;
+use sbx_asm::{Line, LocationCounter};
 use sbx_directives::Statement;
 use std::alloc::{AllocError, Global};
 
@@ -19,7 +18,11 @@ pub struct Row {
 }
 
 /// Adds the row of a line at its place, if it has words.
-fn push_row(rows: &mut Vec<Row>, place: LocationCounter, line: &Line<'_>) -> Result<(), AllocError>
+fn push_row(
+    rows: &mut Vec<Row>,
+    place: LocationCounter,
+    line: &Line<'_, '_>,
+) -> Result<(), AllocError>
     ensures { IfOk result (λ _. (before after : List Item) → place ≡ place_at before →
         rows.new.items ≡ rows.old.items ++ row_at before line.now after) }
 {
@@ -36,7 +39,7 @@ fn push_row(rows: &mut Vec<Row>, place: LocationCounter, line: &Line<'_>) -> Res
 }
 
 /// The rows of some lines, which are all of a source from its first on: one for each that is a statement of the code.
-pub fn rows_of(alloc: Global, lines: &[Line<'_>]) -> Result<Vec<Row>, AllocError>
+pub fn rows_of(alloc: Global, lines: &[Line<'_, '_>]) -> Result<Vec<Row>, AllocError>
     ensures { IfOk result (λ rows. rows.items ≡ each row_at [] lines.now) }
 {
     let mut rows = Vec::new(alloc);

@@ -1,8 +1,0 @@
-mod FirstLines
-mod Counting
-mod Names
-mod Rooms
-mod Surveys
-mod Tables
-mod Views
-mod Walks
