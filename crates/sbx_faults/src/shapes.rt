@@ -8,7 +8,7 @@ ghost use Rattle.sbx_rules.specs.Rules.{suits};
 use crate::kinds::is_framed;
 use sbx_image::{Function, Kind, Services};
 use sbx_rules::{declares, service_of};
-use v8_formats::{Instr, Operand, decode, encode};
+use v8_formats::{Instr, Operand, encode};
 use v8_meaning::{Operation, is_ret};
 use v8_word::Reg;
 
@@ -26,12 +26,12 @@ fn spells(instr: &Instr, word: u32) -> bool
     encode(instr) == word
 }
 
-/// Whether a word is undefined or has an unused bit set.
-pub fn is_no_instruction(word: u32) -> bool
+/// Whether a word, of which this is the instruction, is undefined or has an unused bit set.
+pub fn is_no_instruction(instr: &Instr, word: u32) -> bool
+    requires { instr.now ≡ meaning word }
     ensures { IsTrue result ↔ (IsTrue (is_undefined (meaning word)) ⊎ (IsCanonical word → ⊥)) }
 {
-    let instr = decode(word);
-    is_undefined(&instr) || !spells(&instr, word)
+    is_undefined(instr) || !spells(instr, word)
 }
 
 fn is_minus(frame: u32, operand2: Operand) -> bool

@@ -1,5 +1,5 @@
 -- One word of a block of an image, with what the word before it asks for.
-use Rattle.std.specs.Prelude.{◌≡◌, ℕ, ◌-◌, ◌<◌, List, ◌++◌, IfSome, Ok, length}
+use Rattle.std.specs.Prelude.{◌≡◌, ℕ, ◌-◌, ◌<◌, ◌↔◌, IsTrue, List, ◌++◌, IfSome, Ok, length}
 use Rattle.v8_meaning.specs.declared.operation.Operation.{Operation}
 use Rattle.v8_meaning.specs.declared.operation.Operation.TheVariants.{BranchOnCondition, JumpAndLink}
 use Rattle.sbx_image.specs.Parts.{Parts}
@@ -7,6 +7,7 @@ use Rattle.sbx_image.specs.Rules.{parts_keep}
 use Rattle.sbx_rules.specs.Known.{Known}
 use Rattle.sbx_image.specs.Order.{function_at, words_in}
 use Rattle.sbx_rules.specs.Places.{IsPlace, callee_at, callee_before, op_at, op_before, word_of_place}
+use Rattle.sbx_rules.specs.Rules.{IsNoInstruction}
 use Rattle.sbx_rules.specs.Ways.{Back, Visit, branch_way, falls, plain_visit, taken_visit, untaken_visit}
 use Rattle.sbx_known.specs.declared.spot.Spot.{Spot}
 
@@ -20,6 +21,7 @@ pub record IsSpot (parts : Parts) (s : Spot) : Type 0 where
   pub place : IsPlace parts s.function s.block s.number
   pub count : s.count ≡ words_in parts s.function s.block
   pub word : s.word ≡ word_of_place parts s.function s.block s.number
+  pub no_instruction : IsTrue s.is_no_instruction ↔ IsNoInstruction parts s.function s.block s.number
   pub operation : s.operation ≡ op_at parts s.function s.block s.number
   pub before : s.before ≡ op_before parts s.function s.block s.number
   pub callee : s.callee ≡ callee_at parts s.function s.block s.number

@@ -16,9 +16,8 @@ pub use effects::{perform_on, return_to};
 pub use places::{address_of, block_at, function_at, words_in};
 pub use sbx_faults::{
     ends_run, enters_well, has_cells, has_outs, is_aligned, is_call, is_declared, is_framed,
-    is_framed_return, is_no_instruction, is_placed, is_restore, is_return, is_save, is_transfer,
-    is_trap, lists_badly, may_divide_by_zero, may_overflow, reads_undefined, suits,
-    touches_reserved,
+    is_framed_return, is_placed, is_restore, is_return, is_save, is_transfer, is_trap, lists_badly,
+    may_divide_by_zero, may_overflow, reads_undefined, suits, touches_reserved,
 };
 pub use spot::{Spot, spot_at, weight_of_spot};
 pub use starts::start;

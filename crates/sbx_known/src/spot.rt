@@ -7,9 +7,11 @@ ghost use Rattle.sbx_rules.specs.Ways.{budget_of_callee, weight_of_place};
 ghost use Rattle.sbx_known.specs.Spots.{IsSpot};
 
 use crate::places::{address_of, callee_of, function_at, word_of};
+use sbx_faults::is_no_instruction;
 use sbx_image::Image;
-use sbx_rules::{asked, weight_of};
-use v8_meaning::Operation;
+use sbx_rules::weight_of;
+use v8_formats::decode;
+use v8_meaning::{Operation, operation_of};
 
 /// A word of a block, what it asks for, and what the word before it does.
 #[derive(Clone, Copy)]
@@ -21,6 +23,8 @@ pub struct Spot {
     /// How many words the block has.
     pub count: usize,
     pub word: u32,
+    /// Whether the word is undefined or has an unused bit set.
+    pub is_no_instruction: bool,
     pub operation: Operation,
     /// Nothing stands before a block's first word.
     pub before: Operation,
@@ -51,7 +55,8 @@ pub fn spot_at(
 {
     let (function, block, number) = place;
     let word = word_of(image, function, block, number);
-    let operation = asked(word);
+    let instr = decode(word);
+    let operation = operation_of(&instr);
     let address = address_of(image, function, block, number);
     Spot {
         function,
@@ -59,6 +64,7 @@ pub fn spot_at(
         number,
         count,
         word,
+        is_no_instruction: is_no_instruction(&instr, word),
         operation,
         before,
         callee: callee_of(image, address, &operation),

@@ -17,9 +17,9 @@ ghost use Rattle.sbx_known.specs.Spots.{IsSpot};
 use sbx_image::{Function, Image};
 use sbx_known::{
     Courses, Spot, branch_way, ends_run, enters_well, function_at, is_aligned, is_call,
-    is_declared, is_framed, is_framed_return, is_inner_edge, is_no_instruction, is_placed,
-    is_restore, is_save, is_transfer, is_trap, may_divide_by_zero, may_overflow, reads_undefined,
-    runs, suits, touches_reserved,
+    is_declared, is_framed, is_framed_return, is_inner_edge, is_placed, is_restore, is_save,
+    is_transfer, is_trap, may_divide_by_zero, may_overflow, reads_undefined, runs, suits,
+    touches_reserved,
 };
 use sbx_rules::{Cause, State};
 use v8_meaning::{Operation, is_admitted};
@@ -113,7 +113,7 @@ fn fault_of_word(image: &Image, spot: &Spot) -> Option<Cause>
     requires { IsSpot image.now spot.now }
     ensures { Tells (Holds image.now spot.now.function spot.now.block spot.now.number) 1 6 result }
 {
-    is_no_instruction(spot.word)
+    spot.is_no_instruction
         .then_some(Cause::NotAnInstruction)
         .or((!is_admitted(&spot.operation)).then_some(Cause::NotAdmitted))
         .or(has_bad_shape(image, spot).then_some(Cause::BadShape))

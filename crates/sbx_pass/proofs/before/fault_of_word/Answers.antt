@@ -1,13 +1,12 @@
-use Rattle.std.proofs.Common.{ℕ, sym, ap, ◌∙◌, subst, arith}
-use Rattle.std.specs.Prelude.{◌&&◌, ◌⊎◌, IsTrue, not}
-use Rattle.v8_formats.specs.Table.{IsCanonical, meaning}
+use Rattle.std.proofs.Common.{ap, ◌∙◌, arith}
+use Rattle.std.specs.Prelude.{◌&&◌, not}
 use Rattle.v8_meaning.specs.Admitted.{is_admitted}
 use Rattle.v8_meaning.specs.declared.operation.Operation.{Operation}
 use Rattle.sbx_rules.specs.declared.cause.Cause.{Cause}
 use Rattle.sbx_rules.specs.declared.cause.Cause.TheVariants.{NotAnInstruction, NotAdmitted, BadShape, BadBranch, BadCall}
 use Rattle.sbx_rules.specs.Operations.{is_call}
 use Rattle.sbx_rules.specs.Places.{callee_at, op_at}
-use Rattle.sbx_rules.specs.Rules.{Holds, branches_badly, has_bad_shape, is_later, is_undefined}
+use Rattle.sbx_rules.specs.Rules.{Holds, branches_badly, has_bad_shape, is_later}
 use Rattle.sbx_pass.proofs.Telling.{both, by_test, one}
 use Rattle.sbx_pass.proofs.before.fault_of_word.Goals as goal
 
@@ -19,9 +18,7 @@ returns c =
     let i = c.args.spot.now.number in
     let s = c.requires in
     let P : Cause → Type 0 = Holds parts f b i in
-    let W : ℕ → Type 0 = λ w. IsTrue (is_undefined (meaning w)) ⊎ (IsCanonical w → ⊥) in
-    let first = one P NotAnInstruction c.is_no_instruction.result c.then_some.result c.then_some.ensures
-    (λ t. subst W s.word (c.is_no_instruction.ensures.0 t)) (λ h. c.is_no_instruction.ensures.1 (subst W (sym s.word) h)) in
+    let first = one P NotAnInstruction c.args.spot.now.is_no_instruction c.then_some.result c.then_some.ensures s.no_instruction.0 s.no_instruction.1 in
     let second = by_test P NotAdmitted (not c.is_admitted.result) (not (is_admitted (op_at parts f b i))) c.then_some-2.result c.then_some-2.ensures
     (ap not (c.is_admitted.ensures ∙ ap is_admitted s.operation)) (λ h. h) (λ h. h) in
     let third = by_test P BadShape c.has_bad_shape.result (has_bad_shape parts f b i) c.then_some-3.result c.then_some-3.ensures c.has_bad_shape.ensures (λ h. h) (λ h. h) in
