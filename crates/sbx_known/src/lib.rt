@@ -13,7 +13,7 @@ pub use courses::{
     some_comes_back, some_goes_past,
 };
 pub use effects::{perform_on, return_to};
-pub use places::{address_of, block_at, function_at, words_in};
+pub use places::{address_of, block_at, callee_of, function_at, words_in};
 pub use sbx_faults::{
     ends_run, enters_well, has_cells, has_outs, is_aligned, is_call, is_declared, is_framed,
     is_framed_return, is_placed, is_restore, is_return, is_save, is_transfer, is_trap, lists_badly,

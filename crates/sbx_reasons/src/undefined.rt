@@ -1,6 +1,4 @@
 //! What a word reads that may hold anything, and what left it so.
-ghost use Rattle.std.specs.Prelude.{◌≡◌, ◌<◌};
-ghost use Rattle.sbx_rules.specs.Places.{callee_of, find_entry};
 ghost use Rattle.sbx_inspect.specs.Sights.{IsSeen};
 ghost use Rattle.sbx_known.specs.Spots.{IsSpot};
 
@@ -9,12 +7,12 @@ use crate::words::word_at;
 use sbx_declare::Location;
 use sbx_domain::State;
 use sbx_faults::{frame_word_read, reads_codes, reads_y};
-use sbx_image::{Function, Image};
+use sbx_image::Image;
 use sbx_inspect::Sight;
-use sbx_known::{Spot, address_of, function_at, runs};
+use sbx_known::{Spot, address_of, callee_of, function_at, runs};
 use sbx_rules::asked;
 use std::alloc::AllocError;
-use v8_meaning::{Operation, target};
+use v8_meaning::Operation;
 
 /// What is read: a location, the condition codes or Y.
 #[derive(Clone, Copy, PartialEq, Eq)]
@@ -83,30 +81,6 @@ fn lost_by(image: &Image, spot: &Spot, read: Read) -> Loss
     loss
 }
 
-/// The function that begins at an address, by number.
-fn entry_at(functions: &[Function], address: u32) -> Option<usize>
-    ensures { result ≡ find_entry 0 address functions.now }
-{
-    for (number, function) in functions.iter().enumerate() {
-        if function.entry == address {
-            return Some(number);
-        }
-    }
-    None
-}
-
-/// The function that an operation at an address calls, by number.
-fn callee_of(image: &Image, address: u32, operation: &Operation) -> Option<usize>
-    ensures { result ≡ callee_of image.now address operation.now }
-{
-    match operation {
-        Operation::Call(displacement) => {
-            entry_at(image.functions(), target(address, *displacement))
-        }
-        _ => None,
-    }
-}
-
 /// Pushes how a function that was called gives back what stands in a register.
 fn push_result(
     out: &mut String,
@@ -114,6 +88,7 @@ fn push_result(
     call: u32,
     register: u16,
 ) -> Result<(), AllocError> {
+    image.keeps_its_format();
     let operation = asked(word_at(image, call));
     let Some(number) = callee_of(image, call, &operation) else {
         return out.push_str("\n");
