@@ -1,21 +1,17 @@
 -- The examples, computed: the calls of an image by a test of each of its words.
-use Rattle.std.proofs.Common.{◌≡◌, ℕ, zero, suc, ◌+◌, ◌^◌, ◌<◌, ◌-◌, ◌≤◌, Bool, true, false, List, [], ◌∷◌, length, Ok, Some, refl, ap, ◌∙◌, inl, inr, arith}
-use Rattle.std.specs.Prelude.{pos, negsuc, ◌⊎◌, ◌&&◌, not, nat_lt}
-use Rattle.std.specs.List.{AllByRecursion}
-use Rattle.std.proofs.lemmas.Bool.Decides.{nat_tests}
+use Rattle.std.proofs.Common.{◌≡◌, ℕ, zero, suc, ◌+◌, ◌<◌, ◌-◌, ◌≤◌, Bool, true, false, length, Some, refl, ap, ◌∙◌, inl, inr, arith}
+use Rattle.std.specs.Prelude.{pos, ◌⊎◌, ◌&&◌, not}
 use Rattle.v8_formats.specs.Table.{meaning}
 use Rattle.v8_meaning.specs.Operations.{operation_of}
 use Rattle.sbx_image.specs.Order.{address_of, function_at, words_in}
 use Rattle.sbx_image.specs.Parts.{Parts}
-use Rattle.sbx_image.specs.Rules.{block_keeps, cell_keeps, each, function_keeps, parts_keep, range_keeps, term_keeps}
-use Rattle.sbx_image.specs.Spelling.{IsTyped, IsTypedBlock, IsTypedRange}
 use Rattle.sbx_flat.specs.Traffic.{after_place, traffic}
 use Rattle.sbx_flat.specs.Turns.{word_at}
-use Rattle.sbx_range.specs.Ranges.{range}
-use Rattle.sbx_rules.specs.Examples.{adding, bare_block, cell, echo, sixteen_turns}
+use Rattle.sbx_range.proofs.Words.{both_true}
+use Rattle.sbx_rules.specs.Examples.{adding, echo}
 use Rattle.sbx_rules.specs.Places.{IsPlace, callee_at, word_of_place}
 use Rattle.sbx_rules.proofs.Examples.{echo_is_checked}
-use Rattle.sbx_sound.specs.Law.{IsFormed}
+use Rattle.sbx_sound.proofs.Examples.{echo_formed}
 use Rattle.sbx_depth.specs.Law.{Deep}
 use Rattle.sbx_depth.specs.Examples.{DepthsAreThese, chain, chain_path, one_each, one_less_each, short_of_one}
 use Rattle.sbx_depth.proofs.Asked.{asked_everywhere, lacks_depth}
@@ -27,23 +23,15 @@ abbrev all_below : ℕ → (ℕ → Bool) → Bool
 all_below zero test = true
 all_below (suc n) test = test n && all_below n test
 
-first_of : (a b : Bool) → (a && b) ≡ true → a ≡ true
-first_of true b e = refl
-first_of false b e = absurd (cc)
-
-second_of : (a b : Bool) → (a && b) ≡ true → b ≡ true
-second_of true b e = e
-second_of false b e = absurd (cc)
-
 or_last : (n i : ℕ) → i < suc n → (i ≡ n) ⊎ (i < n)
 or_last n i less = grind arith
 
 each_below : (n : ℕ) (test : ℕ → Bool) → all_below n test ≡ true → (i : ℕ) → i < n → test i ≡ true
 each_below zero test h i less = absurd (omega arith)
-each_below (suc n) test h i less = by_order (or_last n i less) (λ lower. each_below n test (second_of (test n) (all_below n test) h) i lower)
+each_below (suc n) test h i less = by_order (or_last n i less) (λ lower. each_below n test (both_true (test n) (all_below n test) h).1 i lower)
   where
     by_order : (i ≡ n) ⊎ (i < n) → (i < n → test i ≡ true) → test i ≡ true
-    by_order (inl same) before = ap test same ∙ first_of (test n) (all_below n test) h
+    by_order (inl same) before = ap test same ∙ (both_true (test n) (all_below n test) h).0
     by_order (inr lower) before = before lower
 
 -- no word of the image lacks depth
@@ -100,62 +88,6 @@ leaf_counts d = absurd (let h : 1 + 1 ≤ 1 = d.calls 0 0 2 1 leaf_place leaf_ca
 chain_is_deeper : Deep chain short_of_one → ⊥
 chain_is_deeper d = absurd (let h : 39 + 1 ≤ 39 = d.calls 0 0 1 1 chain_place chain_callee in omega (arith, h))
 
--- ---- the loop is an image
-
-range_typed : (lo hi : ℕ) → lo < 2 ^ 31 → hi < 2 ^ 31 → IsTypedRange (range (pos lo) (pos hi) 0)
-range_typed lo hi p q = record { lo = record { sfits = p }; hi = record { sfits = q } }
-
-block_typed : (address fuel : ℕ) → address < 2 ^ 32 → fuel < 2 ^ 63 → IsTypedBlock (bare_block address (pos fuel))
-block_typed address fuel p q = record { address = p; fuel = record { sfits = q }; cells = tt; terms = tt }
-
-loop_typed : IsTypedBlock (record { address = 0x40008; fuel = pos 4; cells = cell 16 (pos 1) (pos 1000) ∷ []; terms = sixteen_turns })
-loop_typed = record { address = omega arith; fuel = record { sfits = omega arith }; cells = (range_typed 1 1000 (omega arith) (omega arith), tt); terms = (record { sfits = omega arith }, tt) }
-
-body_typed : IsTypedBlock (record { address = 0x40018; fuel = negsuc 3; cells = cell 8 (pos 0) (pos 255) ∷ cell 16 (pos 1) (pos 1000) ∷ []; terms = sixteen_turns })
-body_typed = record {
-  address = omega arith;
-  fuel = record { sfits = omega arith };
-  cells =
-      (range_typed 0 255 (omega arith) (omega arith), (range_typed 1 1000 (omega arith) (omega arith), tt));
-  terms = (record { sfits = omega arith }, tt);
-}
-
-abbrev are_small : List ℕ → Bool
-are_small [] = true
-are_small (w ∷ ws) = nat_lt w (2 ^ 32) && are_small ws
-
-words_typed : (ws : List ℕ) → are_small ws ≡ true → AllByRecursion (λ w. w < 2 ^ 32) ws
-words_typed [] h = tt
-words_typed (w ∷ ws) h = (small w (first_of (nat_lt w (2 ^ 32)) (are_small ws) h), words_typed ws (second_of (nat_lt w (2 ^ 32)) (are_small ws) h))
-  where
-    small : (n : ℕ) → nat_lt n (2 ^ 32) ≡ true → n < 2 ^ 32
-    small n e = grind (arith, nat_tests)
-
-loop_is_typed : IsTyped echo
-loop_is_typed = record {
-  version = omega arith;
-  services = omega arith;
-  words = words_typed echo.words refl;
-  regions = tt;
-  functions = (
-    record {
-      entry = omega arith;
-      params = tt;
-      results = tt;
-      depth = omega arith;
-      blocks = (block_typed 0x40000 16030 (omega arith) (omega arith), (loop_typed, (body_typed, (block_typed 0x40028 4 (omega arith) (omega arith), tt))));
-    },
-    tt,
-  );
-}
-
-loop_keeps : parts_keep echo ≡ Ok tt
-unfolding parts_keep each function_keeps block_keeps cell_keeps term_keeps range_keeps
-loop_keeps = refl
-
-loop_formed : IsFormed echo
-loop_formed = record { kept = loop_keeps; typed = loop_is_typed }
-
 -- ---- what the chain costs
 
 on_4 : traffic chain 4 chain_path ≡ record { windows = 1; overflows = 38; underflows = 37; turns = 2006 }
@@ -177,7 +109,7 @@ on_42 = refl
 pub depths_are_these : DepthsAreThese
 depths_are_these = record {
   a_loop = deep echo one_each loop_holds;
-  a_loop_is_quiet = depth_bounds_traffic echo one_each loop_formed echo_is_checked (deep echo one_each loop_holds) 4 (omega arith);
+  a_loop_is_quiet = depth_bounds_traffic echo one_each echo_formed echo_is_checked (deep echo one_each loop_holds) 4 (omega arith);
   a_leaf = deep (adding (pos 254) (pos 255) 39) (λ f. 1 - f) leaf_holds;
   a_leaf_counts = leaf_counts;
   a_chain = deep chain one_less_each chain_holds;

@@ -11,6 +11,7 @@ use Rattle.sbx_range.specs.Ranges.{range}
 use Rattle.sbx_rules.specs.Examples.{adding, bare_block, cell, echo, sixteen_turns}
 use Rattle.sbx_rules.proofs.Examples.{adding_is_checked, echo_is_checked}
 use Rattle.sbx_sound.specs.Examples.{ExamplesAreSafe}
+use Rattle.sbx_sound.specs.Law.{IsFormed}
 use Rattle.sbx_sound.proofs.Whole.{checked_is_safe}
 
 range_typed : (lo hi : ℕ) → lo < 2 ^ 31 → hi < 2 ^ 31 → IsTypedRange (range (pos lo) (pos hi) 0)
@@ -93,8 +94,11 @@ call_typed = record {
   );
 }
 
+pub echo_formed : IsFormed echo
+echo_formed = record { kept = echo_kept; typed = echo_typed }
+
 pub examples_are_safe : ExamplesAreSafe
 examples_are_safe = record {
-  a_loop = checked_is_safe echo (record { kept = echo_kept; typed = echo_typed }) echo_is_checked;
+  a_loop = checked_is_safe echo echo_formed echo_is_checked;
   a_call = checked_is_safe call (record { kept = call_kept; typed = call_typed }) adding_is_checked;
 }
