@@ -11,6 +11,7 @@ pub mod Locations
 pub mod Unread
 pub mod Invariants
 pub mod Traffic
+pub mod OwnPages
 pub mod Examples
 -- What its definitions are said in, for the crates above.
 pub use Rattle.sbx_image.specs.Rules

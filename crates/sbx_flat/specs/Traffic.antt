@@ -1,12 +1,8 @@
--- Which calls of a path a machine with n windows has no window for, and what its turns come to; and the pages that an
--- image calls its own.
-use Rattle.std.specs.Prelude.{ℕ, ◌+◌, ◌*◌, ◌-◌, ◌/◌, Bool, false, not, ◌==◌, ◌&&◌, ◌||◌, nat_lt, nat_le, if◌then◌else◌}
-use Rattle.std.specs.Prelude.{List, [], ◌∷◌, length, Option, Some, None, slice_get}
+-- Which calls of a path a machine with n windows has no window for, and what its turns come to.
+use Rattle.std.specs.Prelude.{ℕ, ◌+◌, ◌-◌, ◌==◌, if◌then◌else◌, List, [], ◌∷◌, Option, Some, None}
 use Rattle.v8_meaning.specs.declared.operation.Operation.{Operation}
 use Rattle.v8_meaning.specs.declared.operation.Operation.TheVariants.{Save, Restore}
-use Rattle.v8_map.specs.declared.TheConstants.{PAGE, CODE_START, DATA_START, STACK_END}
 use Rattle.sbx_image.specs.Parts.{Parts}
-use Rattle.sbx_image.specs.Regions.{page_rights}
 pub use Rattle.sbx_flat.specs.declared.path.Traffic.{Traffic}
 use Rattle.sbx_flat.specs.Runs.{Place, weight_of}
 use Rattle.sbx_flat.specs.Turns.{asked, word_at}
@@ -46,21 +42,3 @@ traffic_from parts n (place ∷ path) t = traffic_from parts n path (after_place
 -- the window traffic of a path from the start
 abbrev pub traffic : Parts → ℕ → List Place → Traffic
 traffic parts n path = traffic_from parts n path no_traffic
-
--- ---- pages, by number
-
--- the code pages that hold a code word
-abbrev pub is_own_code_page : Parts → ℕ → Bool
-is_own_code_page parts page =
-    nat_le (CODE_START / PAGE) page && nat_lt (PAGE * (page - CODE_START / PAGE)) (4 * length parts.words)
-
--- whether a page of data may be loaded from, or stored to
-abbrev pub may_reach : Bool → Option Bool → Bool
-may_reach stores None = false
-may_reach stores (Some writable) = not stores || writable
-
--- the pages that hold bytes of a region, for stores of one that may be written, and the last pages of the stack
-abbrev pub is_own_data_page : Parts → Bool → ℕ → Bool
-is_own_data_page parts stores page =
-    (nat_le (DATA_START / PAGE) page && may_reach stores (slice_get (page_rights parts.regions) (page - DATA_START / PAGE)))
-    || (nat_le (STACK_END / PAGE - parts.stack_pages) page && nat_lt page (STACK_END / PAGE))

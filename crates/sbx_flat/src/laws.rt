@@ -18,7 +18,8 @@ ghost use Rattle.sbx_flat.specs.Runs.{AreBytes, FlatRun, FlatSafe, IsStart, Plac
 ghost use Rattle.sbx_flat.specs.States.{BadFrame, Fails, Goes, Misaligned, NoCaller, NoService, NotAdmitted};
 ghost use Rattle.sbx_flat.specs.States.{OutsideCode, OutsideData, Over, StackPointer, State, TagOverflow, ZeroDivisor};
 ghost use Rattle.sbx_flat.specs.States.{reg, with_reg};
-ghost use Rattle.sbx_flat.specs.Traffic.{is_own_code_page, is_own_data_page, traffic};
+ghost use Rattle.sbx_flat.specs.Traffic.{traffic};
+ghost use Rattle.sbx_flat.specs.OwnPages.{is_own_code_page, is_own_data_page};
 ghost use Rattle.sbx_flat.specs.Turns.{IsWrong, Step, turn};
 ghost use Rattle.sbx_flat.specs.Unread.{Unread, asks};
 ghost use Rattle.sbx_flat.specs.WellFormed.{IsWellFormed};

@@ -23,7 +23,7 @@ use Rattle.sbx_flat.specs.Regions.{in_one_region, page_rights}
 use Rattle.v8_board.proofs.Within.{reached}
 use Rattle.sbx_flat.specs.Memory.{number_at, with_number}
 use Rattle.sbx_flat.specs.States.{State}
-use Rattle.sbx_flat.specs.Traffic.{is_own_data_page, may_reach}
+use Rattle.sbx_flat.specs.OwnPages.{is_own_data_page, may_reach}
 use Rattle.sbx_shows.specs.Shows.{Fits, Shows, data_area}
 use Rattle.sbx_shows.proofs.Kept.{marked_same}
 use Rattle.sbx_shows.proofs.Numbers.{data_stored, loaded_stored, marks_stored, saved_beside, slots_beside, stack_beside}

@@ -21,7 +21,7 @@ use Rattle.v8_loaded.specs.Turns.{Touches}
 use Rattle.v8_board.specs.Start.{at_most, pages_of}
 use Rattle.sbx_flat.specs.Parts.{Parts}
 use Rattle.sbx_flat.specs.States.{State}
-use Rattle.sbx_flat.specs.Traffic.{is_own_code_page}
+use Rattle.sbx_flat.specs.OwnPages.{is_own_code_page}
 use Rattle.sbx_shows.specs.Turns.{IsOwnEvent, IsOwnTurn, ReachesData, StaysBeside, StaysOnWord}
 
 -- the page of a code word

@@ -16,8 +16,8 @@ use Rattle.v8_board.specs.Start.{IsPlaced, at_most, pages_of}
 use Rattle.v8_board.specs.Marks.{bit_of}
 use Rattle.v8_board.proofs.Placed.{pages_few}
 use Rattle.sbx_flat.specs.Parts.{Parts}
-use Rattle.sbx_flat.specs.Traffic.{is_own_code_page, is_own_data_page}
-use Rattle.sbx_shows.specs.Marks.{OwnMarks, is_own_page}
+use Rattle.sbx_flat.specs.OwnPages.{is_own_code_page, is_own_data_page, is_own_page}
+use Rattle.sbx_shows.specs.Marks.{OwnMarks}
 
 -- ---- where no page is marked yet
 

@@ -17,7 +17,7 @@ use Rattle.v8_board.proofs.Placed.{pages_few}
 use Rattle.sbx_flat.specs.Parts.{Parts}
 use Rattle.sbx_flat.specs.Registers.{Registers, with_slot}
 use Rattle.sbx_flat.specs.States.{State}
-use Rattle.sbx_flat.specs.Traffic.{is_own_data_page}
+use Rattle.sbx_flat.specs.OwnPages.{is_own_data_page}
 use Rattle.sbx_flat.specs.Calls.{base, cell, slot}
 use Rattle.sbx_flat.specs.WellFormed.{IsSlot, IsStacked}
 use Rattle.sbx_shows.specs.Shows.{Fits, HasStack, Shows, ShowsSaved, ShowsSlots, data_area}

@@ -12,7 +12,7 @@ use Rattle.v8_board.specs.Start.{at_most, pages_of}
 use Rattle.sbx_flat.specs.Parts.{Parts}
 use Rattle.sbx_flat.specs.Regions.{page_rights}
 use Rattle.sbx_flat.specs.Registers.{Registers}
-use Rattle.sbx_flat.specs.Traffic.{is_own_data_page, may_reach}
+use Rattle.sbx_flat.specs.OwnPages.{is_own_data_page, may_reach}
 use Rattle.sbx_shows.specs.Marks.{OwnMarks}
 use Rattle.sbx_shows.proofs.Pages.{code_own, owned}
 use Rattle.sbx_flat.specs.Calls.{base, depth}

@@ -51,7 +51,7 @@ use Rattle.sbx_flat.specs.Effects.{does, found, is_stack_pointer, leaves_in_data
 use Rattle.sbx_flat.specs.Memory.{number_at}
 use Rattle.sbx_flat.specs.Registers.{still}
 use Rattle.sbx_flat.specs.States.{Fails, Goes, State, advanced, reg}
-use Rattle.sbx_flat.specs.Traffic.{is_own_data_page}
+use Rattle.sbx_flat.specs.OwnPages.{is_own_data_page}
 use Rattle.sbx_flat.specs.Turns.{IsWrong}
 use Rattle.sbx_flat.specs.declared.path.Wrong.TheVariants.{Misaligned, OutsideData, StackPointer}
 use Rattle.sbx_flat.proofs.Law.{still_is_fresh}

@@ -1,13 +1,10 @@
--- The pages that an image calls its own, and the marks of RAM.
-use Rattle.std.specs.Prelude.{ℕ, ◌≡◌, ◌+◌, ◌*◌, ◌/◌, ◌<◌, Bool, ◌||◌, true, false, List}
+-- The marks of RAM, on the entries of pages that an image calls its own.
+use Rattle.std.specs.Prelude.{ℕ, ◌≡◌, ◌+◌, ◌*◌, ◌/◌, ◌<◌, true, List}
 use Rattle.v8_core.specs.Ram.{entry_of}
 use Rattle.v8_map.specs.declared.TheConstants.{PAGE, CODE_START, CODE_TABLE}
 use Rattle.v8_board.specs.Marks.{bit_of}
 use Rattle.sbx_flat.specs.Parts.{Parts}
-use Rattle.sbx_flat.specs.Traffic.{is_own_code_page, is_own_data_page}
-
-abbrev pub is_own_page : Parts → ℕ → Bool
-is_own_page parts page = is_own_code_page parts page || is_own_data_page parts false page
+use Rattle.sbx_flat.specs.OwnPages.{is_own_data_page, is_own_page}
 
 -- Each entry of the tables of code, data and stack that has R (bit 5) is of a page that the image calls its own, and
 -- each that has M (bit 6) is of one of its own data pages that may be written.

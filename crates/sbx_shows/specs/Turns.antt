@@ -14,7 +14,7 @@ use Rattle.sbx_flat.specs.Parts.{Parts}
 use Rattle.sbx_flat.specs.Effects.{declares}
 use Rattle.sbx_flat.specs.Registers.{Registers}
 use Rattle.sbx_flat.specs.States.{State}
-use Rattle.sbx_flat.specs.Traffic.{is_own_code_page, is_own_data_page}
+use Rattle.sbx_flat.specs.OwnPages.{is_own_code_page, is_own_data_page}
 use Rattle.sbx_flat.specs.Turns.{asked, word_at}
 use Rattle.sbx_flat.specs.Calls.{base, depth}
 
