@@ -18,6 +18,7 @@ use Rattle.v8_loaded.specs.Board.{Device}
 use Rattle.v8_loaded.specs.Users.{AsksFor}
 use Rattle.v8_loaded.proofs.Windows.{above_within, below_within}
 use Rattle.v8_services.proofs.Frames.{file_moved}
+use Rattle.v8_contained.proofs.Files.{file_reg}
 use Rattle.v8_board.specs.Start.{pages_of}
 use Rattle.v8_board.proofs.Placed.{pages_few}
 use Rattle.sbx_flat.specs.Parts.{Parts}
@@ -32,7 +33,6 @@ use Rattle.sbx_shows.specs.Shows.{Shows, ShowsCalls, ShowsSaved, ShowsSlots}
 use Rattle.sbx_shows.specs.Steps.{OneTurn, Stands}
 use Rattle.sbx_shows.proofs.Distances.{below_is}
 use Rattle.sbx_shows.proofs.Fields.{ThreeIn}
-use Rattle.sbx_shows.proofs.Files.{file_written}
 use Rattle.sbx_shows.proofs.Frames.{IsBase, called, calls_begun, calls_ended, ended, found_fresh, found_is_fresh, saved_begun, saved_ended, slots_begun, slots_ended, stacked_begun, stacked_ended}
 use Rattle.sbx_shows.proofs.Places.{fails_not, fetched, fields, marks, not_stack, plain_turn, same_address, word}
 use Rattle.sbx_shows.proofs.Processor.{calm_restore, calm_save}
@@ -84,7 +84,7 @@ module _ (n : ℕ) (parts : Parts) (mmu : MmuRegs) (x : World n Device) (s : Sta
       let count = (pages_of parts).stack_count in
       let m = marked in
       record {
-        file = file_written n (moved v (below n v.current)) 14 b (file_moved n v (below n v.current) m.file (below_within n v.current m.file.few m.file.many m.file.current)) (omega arith) small;
+        file = file_reg n (moved v (below n v.current)) 14 b (file_moved n v (below n v.current) m.file (below_within n v.current m.file.few m.file.many m.file.current)) small;
         calls = calls_begun n v s.registers r b ram m.file m.calls free;
         stacked = stacked_begun count s.registers found b m.stacked o;
         saved = saved_begun count s.registers found b m.stacked o r ram m.saved;

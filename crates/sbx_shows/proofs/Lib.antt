@@ -1,10 +1,10 @@
 -- What the board shows of the flat machine, part by part, and what a turn of user code leaves of it.
 --   Distances          windows by how far they are from the current one
 --   Reading, Writing, Alike, Frames      registers of both machines: read, written, in any order, a call begun and ended
---   Files, Fields, Processor             a register file's shape; the fields of words; what operations do to the processor
+--   Fields, Processor                    the fields of words; what operations do to the processor
 --   Pages, Kept, Stacks                  RAM that differs in marks; where save areas and slots lie; the image's own pages
 --   Users, Places      what is shown, after marks, a register, and a step of PC and nPC; where user code stands
---   Outcomes, Signed, Numbers            results and loaded numbers are words
+--   Numbers                              loaded numbers are words
 -- One turn, an operation group each:
 --   Results            of those that reach no memory and no window
 --   Slots, Data, Moved, Transfers        loads, stores and exchanges
@@ -14,7 +14,6 @@
 --   Overflow, Underflow, Retries                   a window trap: what is shown after its 24 turns; with the instruction again
 pub mod Pages
 pub mod Processor
-pub mod Files
 pub mod Fields
 pub mod Distances
 pub mod Reading
@@ -23,8 +22,6 @@ pub mod Kept
 pub mod Stacks
 pub mod Frames
 pub mod Users
-pub mod Signed
-pub mod Outcomes
 pub mod Numbers
 pub mod Alike
 pub mod Places

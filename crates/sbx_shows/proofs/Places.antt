@@ -18,6 +18,7 @@ use Rattle.v8_loaded.specs.Board.{Device, board}
 use Rattle.v8_loaded.specs.Places.{code_marked}
 use Rattle.v8_loaded.specs.Users.{AsksFor, RunsUser}
 use Rattle.v8_loaded.proofs.Users.{user_runs}
+use Rattle.v8_contained.proofs.Files.{reads_word}
 use Rattle.v8_board.specs.Start.{pages_of}
 use Rattle.sbx_flat.specs.Parts.{Parts}
 use Rattle.sbx_flat.specs.Effects.{does}
@@ -30,7 +31,6 @@ use Rattle.sbx_flat.proofs.Law.{still_is_fresh}
 use Rattle.sbx_flat.proofs.Turns.{performs_admitted, turn_at, word_at_place}
 use Rattle.sbx_shows.specs.Steps.{Stands}
 use Rattle.sbx_shows.proofs.Fields.{FieldsIn, SecondIn, fields_in}
-use Rattle.sbx_shows.proofs.Files.{reads_word}
 use Rattle.sbx_shows.proofs.Reading.{reads_same}
 use Rattle.sbx_shows.proofs.Stacks.{code_room}
 use Rattle.sbx_shows.proofs.Users.{OnlyMarks, fetch_marks, runs_user}

@@ -1,6 +1,6 @@
 -- Turns of user code that write a register, Y or the codes: results of every operation that reaches no memory and no window.
 use Rattle.std.proofs.Common.{◌≡◌, ◌≢◌, ℕ, ◌^◌, ◌<◌, Bool, true, false, Option, Some, None, refl, sym, ap, ◌∙◌, subst, arith}
-use Rattle.std.specs.Prelude.{bit_xor, ◌==◌, ◌||◌, if◌then◌else◌}
+use Rattle.std.specs.Prelude.{IfSome, bit_xor, ◌==◌, ◌||◌, if◌then◌else◌}
 use Rattle.std.proofs.lemmas.Bool.Decides.{nat_tests}
 use Rattle.std.proofs.lemmas.Nat.{xor_lt}
 use Rattle.v8_core.specs.Icc.{Icc}
@@ -25,6 +25,8 @@ use Rattle.v8_core.specs.Accesses.{World, quiet, world}
 use Rattle.v8_core.specs.Steps.{acts, turn_of}
 use Rattle.v8_loaded.specs.Board.{Device, board}
 use Rattle.v8_loaded.specs.Users.{AsksFor}
+use Rattle.v8_alu.proofs.Outcomes.{AreResults, division_words, outcome_words, tagged_words}
+use Rattle.v8_contained.proofs.Files.{reads_word}
 use Rattle.sbx_flat.specs.Parts.{Parts}
 use Rattle.sbx_flat.specs.Effects.{does, high_word, operand_value, writes, writes_result, writes_some}
 use Rattle.sbx_flat.specs.Registers.{still}
@@ -36,8 +38,6 @@ use Rattle.sbx_flat.proofs.Law.{still_is_fresh}
 use Rattle.sbx_shows.specs.Shows.{Shows}
 use Rattle.sbx_shows.specs.Steps.{OneTurn, Stands}
 use Rattle.sbx_shows.proofs.Fields.{ThreeIn, TwoIn}
-use Rattle.sbx_shows.proofs.Files.{reads_word}
-use Rattle.sbx_shows.proofs.Outcomes.{AreWords, IfWords, division_words, outcome_words, tagged_words}
 use Rattle.sbx_shows.proofs.Places.{fails_not, fetched, fields, marks, plain_turn, same_reg, same_second, second_word, word}
 use Rattle.sbx_shows.proofs.Processor.{adds_tagged, board_outcome, calm_compute, calm_divide, calm_high, calm_read, calm_tagged, calm_write, computes, divides}
 use Rattle.sbx_shows.proofs.Processor.{moved_on, reads_y, sets_high, with_result, with_value, writes_y}
@@ -71,7 +71,7 @@ module _ (n : ℕ) (parts : Parts) (mmu : MmuRegs) (x : World n Device) (s : Sta
 
   result_turn : (op : Operation) (rd : ℕ) (out : AluOut) → AsksFor parts.words i op → is_admitted op ≡ true → rd < 32 → first_trap n c op ≡ None →
       ((y : World n Device) → acts board n mmu op y ≡ (quiet, record y { cpu = effect n y.cpu op })) →
-      effect n c op ≡ with_result n c rd out → AreWords out → does parts still op s ≡ writes_result rd out s → OneTurn n parts mmu x s op r
+      effect n c op ≡ with_result n c rd out → AreResults out → does parts still op s ≡ writes_result rd out s → OneTurn n parts mmu x s op r
   result_turn op rd out is admitted low calm plain does_so small goes =
       let ram = fetched n parts mmu x s r i h in
       let new = world n (with_result n c rd out) ram x.memory.device in
@@ -109,8 +109,8 @@ module _ (n : ℕ) (parts : Parts) (mmu : MmuRegs) (x : World n Device) (s : Sta
       (second_word n parts mmu x s r i h f.operand2 fit.second) h.shows.control.y_word in
       result_turn (Compute op f) f.rd out is refl fit.destination (calm_compute n c op f) (λ y. refl) (computes n c op f) words (ap (λ (o : AluOut). writes_result f.rd o s) (sym same))
 
-  words_of : (o : Option AluOut) (out : AluOut) → o ≡ Some out → IfWords o → AreWords out
-  words_of o out is small = subst IfWords is small
+  words_of : (o : Option AluOut) (out : AluOut) → o ≡ Some out → IfSome o AreResults → AreResults out
+  words_of o out is small = subst (λ (p : Option AluOut). IfSome p AreResults) is small
 
   pub divide_turn : (op : Division) (f : Three) → AsksFor parts.words i (Divide op f) → OneTurn n parts mmu x s (Divide op f) r
   unfolding is_admitted quotient_from

@@ -43,6 +43,7 @@ use Rattle.v8_loaded.specs.Places.{stack_entry_place}
 use Rattle.v8_loaded.specs.Users.{AsksFor}
 use Rattle.v8_loaded.proofs.Fetches.{walk_at}
 use Rattle.v8_loaded.proofs.Users.{user_runs}
+use Rattle.v8_contained.proofs.Files.{reads_word}
 use Rattle.v8_board.specs.Start.{pages_of}
 use Rattle.v8_board.proofs.Placed.{pages_few}
 use Rattle.sbx_flat.specs.Parts.{Parts}
@@ -60,7 +61,6 @@ use Rattle.sbx_shows.specs.Shows.{Shows, data_area}
 use Rattle.sbx_shows.specs.Steps.{OneTurn, Stands}
 use Rattle.sbx_shows.proofs.Data.{IsReached, data_at, data_entry_place, data_marks, data_own, data_stored_shows, is_reached}
 use Rattle.sbx_shows.proofs.Fields.{MemoryIn}
-use Rattle.sbx_shows.proofs.Files.{reads_word}
 use Rattle.sbx_shows.proofs.Moved.{answers_ram, brought, left, received_brought, received_shows, same_sent, sent_byte}
 use Rattle.sbx_shows.proofs.Numbers.{number_fits, number_there, some_bytes}
 use Rattle.sbx_shows.proofs.Places.{fails_not, fetched, fields, marks, same_address, same_reg, user, word}

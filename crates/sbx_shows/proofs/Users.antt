@@ -14,6 +14,7 @@ use Rattle.v8_layout.proofs.Marks.{code_markable}
 use Rattle.v8_loaded.specs.Board.{Device}
 use Rattle.v8_services.specs.Services.{RunsUser, code_marked}
 use Rattle.v8_loaded.proofs.Fetches.{code_kept}
+use Rattle.v8_contained.proofs.Files.{file_reg}
 use Rattle.v8_board.specs.Start.{pages_of}
 use Rattle.v8_board.proofs.Placed.{pages_few}
 use Rattle.sbx_flat.specs.Parts.{Parts}
@@ -24,7 +25,6 @@ use Rattle.sbx_shows.specs.Marks.{OwnMarks}
 use Rattle.sbx_shows.proofs.Pages.{code_own}
 use Rattle.sbx_shows.proofs.Reading.{reads_same}
 use Rattle.sbx_shows.proofs.Processor.{moved_on}
-use Rattle.sbx_shows.proofs.Files.{file_written}
 use Rattle.sbx_shows.specs.Laws.{ReadsTheSame}
 use Rattle.sbx_shows.specs.Shows.{Shows, ShowsControl, ShowsDevice}
 use Rattle.sbx_shows.proofs.Kept.{SameAbove, data_kept, marked_same, saved_kept, slots_kept, stack_kept}
@@ -123,7 +123,7 @@ module _ (n : ℕ) (parts : Parts) where
       let count = (pages_of parts).stack_count in
       let same = same_calls rd v s.registers low sp fp in
       record {
-        file = file_written n x.cpu.regs rd v h.file low small;
+        file = file_reg n x.cpu.regs rd v h.file small;
         calls = calls_written n x.cpu.regs s.registers r rd v h.file h.calls low;
         stacked = stacked_same count s.registers (written rd v s.registers) same h.stacked;
         saved = saved_same r x.memory.ram s.registers (written rd v s.registers) h.calls.some same h.saved;

@@ -32,7 +32,7 @@ use Rattle.sbx_flat.specs.States.{State}
 use Rattle.sbx_flat.specs.Calls.{base, cell, slot}
 use Rattle.sbx_flat.specs.WellFormed.{IsStacked}
 use Rattle.sbx_shows.specs.Shows.{Fits, HasStack, Shows, ShowsCalls, ShowsData, ShowsSlots, window, data_area}
-use Rattle.sbx_shows.proofs.Files.{file_written}
+use Rattle.v8_contained.proofs.Files.{file_reg}
 use Rattle.sbx_shows.proofs.Pages.{placed_own}
 use Rattle.sbx_shows.proofs.Stacks.{stack_count}
 use Rattle.sbx_shows.proofs.Writing.{mask_kept}
@@ -72,7 +72,7 @@ module _ (n : ℕ) (old : Windows) (f : IsFile n old) where
   empty = let few = f.few in record { few = f.few; many = f.many; current = omega arith; mask = small_mask; globals = f.globals; rows = f.rows }
 
   pub boot_file : IsFile n (boot n old)
-  boot_file = file_written n (record old { current = 0; mask = 2 }) 14 STACK_START empty (omega arith) (omega arith)
+  boot_file = file_reg n (record old { current = 0; mask = 2 }) 14 STACK_START empty (omega arith)
 
   current_is : (boot n old).current ≡ 0
   current_is = written_current n (record old { current = 0; mask = 2 }) 14 STACK_START
