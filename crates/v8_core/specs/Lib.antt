@@ -3,6 +3,7 @@ pub mod Accesses
 pub mod Steps
 pub mod Parts
 pub mod Calls
+pub mod Completes
 -- What the machine turn is said in, for the crates above.
 pub use Rattle.v8_formats.specs.Word
 pub use Rattle.v8_formats.specs.Conditions
