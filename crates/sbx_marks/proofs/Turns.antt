@@ -17,9 +17,9 @@ use Rattle.v8_core.specs.Accesses.{World}
 use Rattle.v8_loaded.specs.Board.{Device, board}
 use Rattle.v8_loaded.specs.Turns.{world_after}
 use Rattle.v8_loaded.specs.Users.{AsksFor, RunsUser}
-use Rattle.v8_services.specs.Services.{calls}
-use Rattle.v8_spill.specs.Laws.{stack_pointer as spilled_pointer}
-use Rattle.v8_refill.specs.Laws.{stack_pointer as refilled_pointer}
+use Rattle.v8_routines.specs.Services.{calls}
+use Rattle.v8_routines.specs.Overflow.{stack_pointer as spilled_pointer}
+use Rattle.v8_routines.specs.Underflow.{stack_pointer as refilled_pointer}
 use Rattle.v8_board.specs.Start.{pages_of}
 use Rattle.v8_marks.specs.Marks.{entry_at, reached}
 use Rattle.v8_marks.specs.Handlers.{after_handler}

@@ -11,7 +11,7 @@ use sbx_shows::laws::{
 use sbx_windows::laws::runs_to_its_end;
 use std::marker::Brand;
 use v8_meaning::Operation;
-use v8_services::laws::{
+use v8_routines::services::{
     exit_stops_the_machine, get_gives_the_next_byte, put_puts_the_low_byte_out,
 };
 

@@ -17,7 +17,7 @@ use Rattle.v8_core.specs.Steps.{turn_of}
 use Rattle.v8_loaded.specs.Board.{Device}
 use Rattle.v8_loaded.specs.Users.{AsksFor}
 use Rattle.v8_loaded.proofs.Windows.{above_within, below_within}
-use Rattle.v8_services.proofs.Frames.{file_moved}
+use Rattle.v8_routines.proofs.Frames.{file_moved}
 use Rattle.v8_contained.proofs.Files.{file_reg}
 use Rattle.v8_board.specs.Start.{pages_of}
 use Rattle.v8_board.proofs.Placed.{pages_few}

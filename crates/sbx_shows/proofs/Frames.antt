@@ -7,7 +7,7 @@ use Rattle.v8_map.specs.declared.TheConstants.{STACK_LOWEST, STACK_END, RAM}
 use Rattle.v8_core.specs.Ram.{entry_of}
 use Rattle.v8_core.specs.Windows.{Windows, IsFile, above, below, moved, with_reg, word_at}
 use Rattle.v8_windows.proofs.AfterWrites.{written_at, written_current}
-use Rattle.v8_services.proofs.Frames.{file_moved}
+use Rattle.v8_routines.proofs.Frames.{file_moved}
 use Rattle.v8_loaded.proofs.Stack.{word_in, word_there}
 use Rattle.v8_loaded.proofs.Windows.{below_within}
 use Rattle.sbx_flat.specs.Registers.{Frame, Fresh, IsFresh, Registers, is_slot, pushed}

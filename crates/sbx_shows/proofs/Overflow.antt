@@ -15,8 +15,8 @@ use Rattle.v8_loaded.specs.Areas.{HasRoom, area_of}
 use Rattle.v8_loaded.specs.Places.{entered_window}
 use Rattle.v8_loaded.specs.Turns.{world_after}
 use Rattle.v8_loaded.specs.Users.{AsksFor}
-use Rattle.v8_spill.specs.Laws.{Handled, Overflows, Spilled, spilled_window, stack_pointer}
-use Rattle.v8_spill.proofs.Law.{overflow_law}
+use Rattle.v8_routines.specs.Overflow.{Handled, Overflows, Spilled, spilled_window, stack_pointer}
+use Rattle.v8_routines.proofs.OverflowLaw.{overflow_law}
 use Rattle.v8_board.specs.Start.{pages_of}
 use Rattle.v8_board.proofs.Placed.{pages_few}
 use Rattle.sbx_flat.specs.Parts.{Parts}

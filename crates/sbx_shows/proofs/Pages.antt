@@ -11,7 +11,7 @@ use Rattle.v8_loaded.specs.Layout.{Pages, IsLoaded, code_entry, data_count, data
 use Rattle.v8_layout.specs.Tables.{table_word}
 use Rattle.v8_layout.proofs.Entries.{acc_small, data_entry_word}
 use Rattle.v8_layout.proofs.Marks.{Markable, code_markable, sides}
-use Rattle.v8_services.specs.Services.{code_marked, device_marked, table_marked, vector_marked}
+use Rattle.v8_routines.specs.Services.{code_marked, device_marked, table_marked, vector_marked}
 use Rattle.v8_board.specs.Start.{IsPlaced, at_most, pages_of}
 use Rattle.v8_board.specs.Marks.{bit_of}
 use Rattle.v8_board.proofs.Placed.{pages_few}

@@ -17,8 +17,8 @@ use Rattle.v8_core.specs.Steps.{attempts, ends, goes_on, next, tries}
 use Rattle.v8_loaded.specs.Board.{Device, board}
 use Rattle.v8_loaded.specs.Turns.{IsHandlers, ReachesArea, world_after, turn_at}
 use Rattle.v8_loaded.specs.Users.{AsksFor, IsHandled}
-use Rattle.v8_spill.specs.Laws.{stack_pointer}
-use Rattle.v8_refill.specs.Laws.{stack_pointer as filled_pointer}
+use Rattle.v8_routines.specs.Overflow.{stack_pointer}
+use Rattle.v8_routines.specs.Underflow.{stack_pointer as filled_pointer}
 use Rattle.v8_board.specs.declared.outcome.Counts.{Counts}
 use Rattle.v8_board.specs.Counting.{counted, counts_after, with_turn}
 use Rattle.v8_board.specs.Seen.{ending_of}

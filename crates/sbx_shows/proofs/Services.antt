@@ -18,9 +18,9 @@ use Rattle.v8_loaded.specs.Turns.{Leads, world_after, turn_at}
 use Rattle.v8_loaded.specs.Users.{RunsUser}
 use Rattle.v8_loaded.proofs.Fetches.{device_kept as device_loaded, table_kept}
 use Rattle.v8_loaded.proofs.Windows.{below_within}
-use Rattle.v8_services.specs.Services.{Calls, calls, code_marked, device_address, device_marked, exit_events, exited, got, put, scratched, served_events, table_marked, vector_marked}
-use Rattle.v8_services.proofs.Frames.{file_with, scratched_file, word_apart, word_beside}
-use Rattle.v8_services.proofs.Served.{exit_law, exit_system, get_law, get_system, loaded_after, put_law, put_system}
+use Rattle.v8_routines.specs.Services.{Calls, calls, code_marked, device_address, device_marked, exit_events, exited, got, put, scratched, served_events, table_marked, vector_marked}
+use Rattle.v8_routines.proofs.Frames.{file_with, scratched_file, word_apart, word_beside}
+use Rattle.v8_routines.proofs.Served.{exit_law, exit_system, get_law, get_system, loaded_after, put_law, put_system}
 use Rattle.v8_board.specs.declared.outcome.Counts.{Counts}
 use Rattle.v8_board.specs.Counting.{counted, counts_after, with_turn}
 use Rattle.v8_board.specs.Seen.{ending_of}

@@ -14,8 +14,8 @@ use Rattle.v8_loaded.specs.Areas.{HasFrame, area_of}
 use Rattle.v8_loaded.specs.Places.{entered_window}
 use Rattle.v8_loaded.specs.Turns.{world_after}
 use Rattle.v8_loaded.specs.Users.{AsksFor}
-use Rattle.v8_refill.specs.Laws.{Handled, Refilled, Underflows, next_window, stack_pointer}
-use Rattle.v8_refill.proofs.Law.{underflow_law}
+use Rattle.v8_routines.specs.Underflow.{Handled, Refilled, Underflows, next_window, stack_pointer}
+use Rattle.v8_routines.proofs.UnderflowLaw.{underflow_law}
 use Rattle.v8_board.specs.Start.{pages_of}
 use Rattle.v8_board.proofs.Placed.{pages_few}
 use Rattle.sbx_flat.specs.Parts.{Parts}

@@ -12,7 +12,7 @@ use Rattle.v8_core.specs.Accesses.{World, world}
 use Rattle.v8_loaded.specs.Layout.{IsLoaded}
 use Rattle.v8_layout.proofs.Marks.{code_markable}
 use Rattle.v8_loaded.specs.Board.{Device}
-use Rattle.v8_services.specs.Services.{RunsUser, code_marked}
+use Rattle.v8_routines.specs.Services.{RunsUser, code_marked}
 use Rattle.v8_loaded.proofs.Fetches.{code_kept}
 use Rattle.v8_contained.proofs.Files.{file_reg}
 use Rattle.v8_board.specs.Start.{pages_of}

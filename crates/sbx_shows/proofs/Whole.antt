@@ -17,7 +17,7 @@ use Rattle.v8_core.specs.MmuRegs.{MmuRegs}
 use Rattle.v8_core.specs.Accesses.{World}
 use Rattle.v8_loaded.specs.Board.{Device}
 use Rattle.v8_loaded.specs.Users.{AsksFor}
-use Rattle.v8_services.specs.Services.{calls}
+use Rattle.v8_routines.specs.Services.{calls}
 use Rattle.sbx_flat.specs.Parts.{Parts}
 use Rattle.sbx_flat.specs.Effects.{declares, does}
 use Rattle.sbx_flat.specs.Registers.{still}

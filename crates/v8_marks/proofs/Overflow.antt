@@ -17,8 +17,8 @@ use Rattle.v8_loaded.specs.Turns.{turn_at}
 use Rattle.v8_loaded.specs.Users.{IsHandled}
 use Rattle.v8_loaded.proofs.Handled.{begun}
 use Rattle.v8_loaded.proofs.Words.{at_stack, stores_0, stores_7}
-use Rattle.v8_spill.specs.Laws.{Overflows, stack_pointer as spilled_pointer}
-use Rattle.v8_spill.proofs.Law as spilling
+use Rattle.v8_routines.specs.Overflow.{Overflows, stack_pointer as spilled_pointer}
+use Rattle.v8_routines.proofs.OverflowLaw as spilling
 use Rattle.v8_marks.specs.Handlers.{OverflowMarks}
 use Rattle.v8_marks.proofs.Reaching.{Reaches}
 use Rattle.v8_marks.proofs.Handlers.{from_old, handler_marks, moves_there, ran_at}

@@ -11,8 +11,8 @@ use Rattle.v8_loaded.specs.Users.{RunsUser}
 use Rattle.v8_loaded.proofs.Fetches.{code_entry_word, device_kept, device_page, table_kept, table_page}
 use Rattle.v8_loaded.proofs.Marks.{kept_elsewhere}
 use Rattle.v8_loaded.proofs.Users.{user_kept, user_page}
-use Rattle.v8_services.specs.Services.{Calls, MayReturn, vector_marked}
-use Rattle.v8_services.proofs.Served.{exit_law, get_law, put_law}
+use Rattle.v8_routines.specs.Services.{Calls, MayReturn, vector_marked}
+use Rattle.v8_routines.proofs.Served.{exit_law, get_law, put_law}
 use Rattle.v8_marks.specs.Marks.{entry_at, reached}
 use Rattle.v8_marks.specs.Users.{ServicesMark}
 use Rattle.v8_marks.proofs.Placing.{mark_reaches}

@@ -16,8 +16,8 @@ use Rattle.v8_loaded.specs.Turns.{turn_at}
 use Rattle.v8_loaded.specs.Users.{IsHandled}
 use Rattle.v8_loaded.proofs.Handled.{begun}
 use Rattle.v8_loaded.proofs.Words.{at_stack, loads_0, loads_7}
-use Rattle.v8_refill.specs.Laws.{Underflows, refilled_window, stack_pointer as refilled_pointer}
-use Rattle.v8_refill.proofs.Law as filling
+use Rattle.v8_routines.specs.Underflow.{Underflows, refilled_window, stack_pointer as refilled_pointer}
+use Rattle.v8_routines.proofs.UnderflowLaw as filling
 use Rattle.v8_marks.specs.Handlers.{UnderflowMarks}
 use Rattle.v8_marks.proofs.Reaching.{Reaches}
 use Rattle.v8_marks.proofs.Handlers.{from_old, handler_marks, moves_there, ran_at}

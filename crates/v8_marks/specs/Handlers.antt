@@ -6,8 +6,8 @@ use Rattle.v8_contained.specs.Layout.{Pages}
 use Rattle.v8_contained.specs.Board.{Device, board}
 use Rattle.v8_loaded.specs.Areas.{HasFrame, HasRoom}
 use Rattle.v8_loaded.specs.Turns.{world_after}
-use Rattle.v8_spill.specs.Laws.{Overflows, stack_pointer as spilled_pointer}
-use Rattle.v8_refill.specs.Laws.{Underflows, stack_pointer as refilled_pointer}
+use Rattle.v8_routines.specs.Overflow.{Overflows, stack_pointer as spilled_pointer}
+use Rattle.v8_routines.specs.Underflow.{Underflows, stack_pointer as refilled_pointer}
 use Rattle.v8_marks.specs.Marks.{entry_at, is_in, reached, with_mark}
 
 -- some of the 64 bytes from an address on lie in page i: they lie in the page of the first and in that of the last

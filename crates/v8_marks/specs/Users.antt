@@ -12,7 +12,7 @@ use Rattle.v8_contained.specs.Layout.{Pages}
 use Rattle.v8_contained.specs.Board.{Device, board}
 use Rattle.v8_loaded.specs.Turns.{world_after}
 use Rattle.v8_loaded.specs.Users.{AsksFor, RunsUser}
-use Rattle.v8_services.specs.Services.{Calls, MayReturn}
+use Rattle.v8_routines.specs.Services.{Calls, MayReturn}
 use Rattle.v8_marks.specs.Marks.{entry_at, reached}
 
 -- what an operation reaches where it takes no trap: an address, and whether it stores there

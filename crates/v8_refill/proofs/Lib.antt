@@ -1,4 +1,0 @@
-pub mod Cells
-pub mod Rows
-pub mod Handler
-pub mod Law

@@ -1,0 +1,3 @@
+pub mod Overflow
+pub mod Underflow
+pub mod Services

@@ -1,3 +1,0 @@
-pub mod Frames
-pub mod Vector
-pub mod Served

@@ -1,5 +1,0 @@
-use Rattle.v8_services.proofs.Served.{exit_law}
-use Rattle.v8_services.proofs.laws.exit_stops_the_machine.Goals as goal
-
-pub returns : goal.returns
-returns c = exit_law

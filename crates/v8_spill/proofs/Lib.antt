@@ -1,4 +1,0 @@
-pub mod Rows
-pub mod Overflow
-pub mod After
-pub mod Law
