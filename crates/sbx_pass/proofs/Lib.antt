@@ -4,3 +4,4 @@ pub mod Blocks
 pub mod Params
 pub mod Arriving
 pub mod Locating
+pub mod InOrder

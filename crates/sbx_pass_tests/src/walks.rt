@@ -1,8 +1,7 @@
 //! Verdicts of the walk over whole images, worked out by hand.
 use crate::rows::ECHO;
 use sbx_image::parse;
-use sbx_pass::{Cause, Refusal};
-use sbx_walk::first_fault;
+use sbx_pass::{Cause, Refusal, first_fault};
 use std::alloc::{AllocError, Global};
 
 /// Whether these bytes are an image of which this is told.

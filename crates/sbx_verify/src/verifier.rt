@@ -8,9 +8,9 @@ ghost use Rattle.sbx_verify.specs.Refusals.{IsRefusal, no_memory};
 
 use sbx_depth::laws::declared_depth_is_enough;
 use sbx_image::Image;
+use sbx_pass::first_fault;
 use sbx_sound::laws::checked_is_safe;
 use sbx_sound::{Cause, Refusal};
-use sbx_walk::first_fault;
 use std::alloc::{AllocError, Global};
 use std::marker::Model;
 use want::Want;

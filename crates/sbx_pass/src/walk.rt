@@ -1,11 +1,13 @@
 //! The first fault of an image: functions and blocks in the order of their addresses.
 ghost use Rattle.std.specs.Prelude.{◌≡◌, ◌<◌, length, IfOk, MatchOption, Ok};
 ghost use Rattle.sbx_image.specs.Rules.{parts_keep};
-ghost use Rattle.sbx_pass.specs.Verdicts.{Checked, IsFirst};
-ghost use Rattle.sbx_walk.specs.Walks.{IsFirstOfFunction, IsQuietFunction};
+ghost use Rattle.sbx_rules.specs.Verdicts.{Checked, IsFirst};
+ghost use Rattle.sbx_pass.specs.Walks.{IsFirstOfFunction, IsQuietFunction};
 
+use crate::block::first_fault_in_block;
 use sbx_image::Image;
-use sbx_pass::{Refusal, State, address_of, first_fault_in_block, function_at};
+use sbx_known::{address_of, function_at};
+use sbx_rules::{Refusal, State};
 use std::alloc::{AllocError, Global};
 
 /// The first fault of function `f`; the two states are room to work in.

@@ -1,7 +1,7 @@
 use Rattle.std.proofs.Common.{ℕ, arith, below_more}
-use Rattle.sbx_walk.specs.Walks.{IsQuietFunction}
-use Rattle.sbx_walk.proofs.InOrder.{is_checked, is_first}
-use Rattle.sbx_walk.proofs.walk.first_in_functions.Goals as goal
+use Rattle.sbx_pass.specs.Walks.{IsQuietFunction}
+use Rattle.sbx_pass.proofs.InOrder.{is_checked, is_first}
+use Rattle.sbx_pass.proofs.walk.first_in_functions.Goals as goal
 
 pub returns-in-Some : goal.returns-in-Some
 returns-in-Some c =

@@ -8,10 +8,10 @@ use Rattle.sbx_image.specs.Rules.{parts_keep}
 use Rattle.sbx_image.proofs.Ordered.{in_order}
 use Rattle.sbx_pass.specs.Cause.{Cause}
 use Rattle.sbx_pass.specs.Refusal.{Refusal}
-use Rattle.sbx_pass.specs.Places.{IsPlace}
-use Rattle.sbx_pass.specs.Rules.{Holds}
-use Rattle.sbx_pass.specs.Verdicts.{Breaks, Checked, IsFirst}
-use Rattle.sbx_walk.specs.Walks.{IsFirstOfFunction, IsQuietFunction}
+use Rattle.sbx_rules.specs.Places.{IsPlace}
+use Rattle.sbx_rules.specs.Rules.{Holds}
+use Rattle.sbx_rules.specs.Verdicts.{Breaks, Checked, IsFirst}
+use Rattle.sbx_pass.specs.Walks.{IsFirstOfFunction, IsQuietFunction}
 
 module _ (parts : Parts) (keeps : parts_keep parts ≡ Ok tt) where
   -- ---- addresses
