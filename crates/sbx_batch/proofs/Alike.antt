@@ -14,8 +14,8 @@ use Rattle.sbx_sound.specs.Law.{IsFormed}
 use Rattle.sbx_sound.specs.Verdicts.{Checked}
 use Rattle.sbx_flat.specs.Traffic.{traffic}
 use Rattle.sbx_flat.specs.declared.path.Place.{Place}
-use Rattle.sbx_windows.specs.Runs.{Finishes, IsAnyBoard, IsImage}
-use Rattle.sbx_windows.proofs.Ending.{runs_to_its_end}
+use Rattle.sbx_shows.specs.WholeRuns.{Finishes, IsAnyBoard, IsImage}
+use Rattle.sbx_shows.proofs.Ending.{runs_to_its_end}
 use Rattle.sbx_run.specs.Answer.{EndsOn, IsAnswer, IsFlatEnd, KeepsItsDepth, told_of}
 use Rattle.sbx_run.specs.declared.runner.Finished.{Finished}
 use Rattle.sbx_run.proofs.Again.{is_any, loaded_again, with_device}

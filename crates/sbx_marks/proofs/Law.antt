@@ -11,8 +11,8 @@ use Rattle.v8_board.specs.Start.{IsPlaced}
 use Rattle.v8_marks.specs.Marks.{entry_at}
 use Rattle.sbx_image.specs.Parts.{Parts}
 use Rattle.sbx_flat.specs.Runs.{budget}
-use Rattle.sbx_windows.proofs.Induction.{board_is}
-use Rattle.sbx_windows.proofs.Start.{boot, flat_start, is_flat_start, start_shows}
+use Rattle.sbx_shows.proofs.Induction.{board_is}
+use Rattle.sbx_shows.proofs.Start.{boot, flat_start, is_flat_start, start_shows}
 use Rattle.sbx_run.proofs.Ends.{same_end}
 use Rattle.sbx_marks.specs.Reuse.{Ran, RunsUseTheSamePages}
 use Rattle.sbx_marks.proofs.Flats.{begin_beside}

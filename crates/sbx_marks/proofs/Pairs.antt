@@ -38,9 +38,9 @@ use Rattle.sbx_shows.specs.Steps.{Over, Stands}
 use Rattle.sbx_shows.proofs.Places.{here}
 use Rattle.sbx_shows.proofs.Retries.{restores_underflow, saves_overflow}
 use Rattle.sbx_shows.proofs.Whole.{annulled_turns_keep, user_turns_keep}
-use Rattle.sbx_windows.specs.Runs.{with_earlier}
-use Rattle.sbx_windows.proofs.Earlier.{earlier_place, earlier_step, earlier_wrong}
-use Rattle.sbx_windows.proofs.Ending.{located}
+use Rattle.sbx_shows.specs.WholeRuns.{with_earlier}
+use Rattle.sbx_shows.proofs.Earlier.{earlier_place, earlier_step, earlier_wrong}
+use Rattle.sbx_shows.proofs.Ending.{located}
 use Rattle.sbx_marks.proofs.Flats.{Beside, bound, never_wrong, same_bases, same_exit, same_place, step_beside}
 use Rattle.sbx_marks.proofs.Turns.{annulled_marks, caller_there, calm_marks, fill_marks, flat_reach, spill_marks}
 use Rattle.sbx_marks.proofs.Uses.{SameEntries}

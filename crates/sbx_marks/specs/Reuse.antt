@@ -8,7 +8,7 @@ use Rattle.sbx_image.specs.Parts.{Parts}
 use Rattle.sbx_flat.specs.Runs.{AreBytes, budget}
 use Rattle.sbx_sound.specs.Law.{IsFormed}
 use Rattle.sbx_sound.specs.Verdicts.{Checked}
-use Rattle.sbx_windows.specs.Runs.{IsAnyBoard, IsImage}
+use Rattle.sbx_shows.specs.WholeRuns.{IsAnyBoard, IsImage}
 
 -- A board with this input to give, whatever else it held, that the image was loaded into and ran on, up to the image's
 -- budget.

@@ -11,8 +11,8 @@ use Rattle.v8_loaded.specs.States.{IsState}
 use Rattle.v8_board.specs.Seen.{State}
 use Rattle.v8_board.specs.Start.{IsPlaced, IsStart}
 use Rattle.sbx_image.specs.Parts.{Parts}
-use Rattle.sbx_windows.specs.Runs.{IsAnyBoard}
-use Rattle.sbx_windows.proofs.Start.{boot}
+use Rattle.sbx_shows.specs.WholeRuns.{IsAnyBoard}
+use Rattle.sbx_shows.proofs.Start.{boot}
 
 -- ---- booting twice is booting once
 

@@ -17,7 +17,7 @@ use Rattle.sbx_flat.specs.Runs.{AreBytes, FlatSafe, budget}
 use Rattle.sbx_raw.specs.declared.raw.Raw.{Raw}
 use Rattle.sbx_raw.specs.Runs.{IsRaw}
 use Rattle.sbx_verify.specs.Law.{DepthIsEnough}
-use Rattle.sbx_windows.specs.Runs.{IsImage}
+use Rattle.sbx_shows.specs.WholeRuns.{IsImage}
 use Rattle.sbx_run.specs.declared.boards.Ended.{Ended}
 use Rattle.sbx_run.specs.declared.runner.Finished.{Finished}
 use Rattle.sbx_run.specs.Answer.{EndsOn, ExitsAsFlat, IsAnswer, IsFlatEnd, KeepsItsDepth, KeepsToItsOwn, StandsOn, told_of, told_of_board}

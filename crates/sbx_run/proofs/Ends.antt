@@ -18,8 +18,8 @@ use Rattle.sbx_image.specs.Parts.{Parts}
 use Rattle.sbx_flat.specs.Runs.{AreBytes, Behaves, FlatSafe, budget}
 use Rattle.sbx_flat.specs.declared.path.Place.{Place}
 use Rattle.sbx_flat.specs.declared.path.Traffic.{Traffic}
-use Rattle.sbx_windows.specs.Runs.{Finishes, IsImage, IsTurnBeside}
-use Rattle.sbx_windows.proofs.Ending.{runs_to_its_end}
+use Rattle.sbx_shows.specs.WholeRuns.{Finishes, IsImage, IsTurnBeside}
+use Rattle.sbx_shows.proofs.Ending.{runs_to_its_end}
 use Rattle.sbx_run.specs.Answer.{ExitsAsFlat, SafeImagesExit}
 use Rattle.sbx_run.specs.Pages.{UsesOwnPages}
 use Rattle.sbx_run.proofs.Again.{is_any, loaded_again, with_device}

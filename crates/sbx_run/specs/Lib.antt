@@ -5,4 +5,4 @@ pub use Rattle.sbx_raw.specs.Traces
 pub use Rattle.sbx_raw.specs.declared.fault.RunFault
 pub use Rattle.sbx_verify.specs.Refusals
 pub use Rattle.sbx_verify.specs.Law
-pub use Rattle.sbx_windows.specs.Runs
+pub use Rattle.sbx_shows.specs.WholeRuns

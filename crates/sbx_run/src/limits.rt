@@ -2,7 +2,7 @@
 ghost use Rattle.std.specs.List.{AllByRecursion};
 ghost use Rattle.sbx_flat.specs.Runs.{AreBytes};
 ghost use Rattle.sbx_image.specs.Spelling.{IsTypedRegion};
-ghost use Rattle.sbx_windows.specs.Runs.{IsImage};
+ghost use Rattle.sbx_shows.specs.WholeRuns.{IsImage};
 
 use sbx_image::{Image, Region};
 use sbx_verify::budget;

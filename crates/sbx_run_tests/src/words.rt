@@ -8,7 +8,7 @@ use sbx_shows::laws::{
     annulled_turns_keep_what_is_shown, registers_read_the_same, restores_underflow, saves_overflow,
     user_turns_keep_what_is_shown,
 };
-use sbx_windows::laws::runs_to_its_end;
+use sbx_shows::window_law::runs_to_its_end;
 use std::marker::Brand;
 use v8_meaning::Operation;
 use v8_routines::services::{

@@ -27,7 +27,7 @@ use Rattle.sbx_port.specs.Streams.{IsSlice, RunsAs, StandsBeside}
 use Rattle.sbx_port.proofs.Followed.{ending_follow, turn_follow}
 use Rattle.sbx_port.proofs.Tracked.{bytes_after, no_bytes, no_lack, nothing_came, tracks_first, way_delivered, way_sliced}
 use Rattle.sbx_run.specs.Answer.{ExitsAsFlat}
-use Rattle.sbx_run.specs.Runs.{IsImage}
+use Rattle.sbx_run.specs.WholeRuns.{IsImage}
 use Rattle.sbx_run.proofs.Ends.{safe_images_exit}
 use Rattle.sbx_session.specs.Going.{IsAllOf, IsFrontOf, IsUnderWay, Tracks}
 

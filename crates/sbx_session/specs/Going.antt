@@ -10,7 +10,7 @@ use Rattle.v8_board.specs.Seen.{State, ending_of}
 use Rattle.v8_board.specs.Start.{IsStart}
 use Rattle.sbx_port.specs.Following.{FollowsOn, beyond, with_input}
 use Rattle.sbx_port.specs.Ports.{mark}
-use Rattle.sbx_run.specs.Runs.{IsImage}
+use Rattle.sbx_run.specs.WholeRuns.{IsImage}
 use Rattle.sbx_session.specs.declared.session.Session.{Session}
 
 -- ---- what is said of the bytes

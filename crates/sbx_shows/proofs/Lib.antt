@@ -12,6 +12,10 @@
 -- Steps with their turns and counts:
 --   Own, Traffics, Advancing, Services, Whole      without a window trap
 --   Overflow, Underflow, Retries                   a window trap: what is shown after its 24 turns; with the instruction again
+-- Whole runs.
+--   Start                    a board that was loaded shows a flat start
+--   Earlier                  nothing reads what was put out before
+--   Induction, Ending        steps one after the other, to the end
 pub mod Pages
 pub mod Processor
 pub mod Fields
@@ -40,6 +44,10 @@ pub mod Whole
 pub mod Overflow
 pub mod Underflow
 pub mod Retries
+pub mod Start
+pub mod Earlier
+pub mod Induction
+pub mod Ending
 pub use Rattle.v8_board.proofs.Placed
 pub use Rattle.v8_board.proofs.Stays
 pub use Rattle.v8_board.proofs.Within

@@ -4,6 +4,7 @@ pub mod Turns
 pub mod Steps
 pub mod Advances
 pub mod Laws
+pub mod WholeRuns
 pub use Rattle.v8_board.specs.declared.outcome.Counts
 pub use Rattle.v8_board.specs.Runs
 pub use Rattle.v8_board.specs.Seen

@@ -24,7 +24,7 @@ use Rattle.sbx_image.specs.Parts.{Parts}
 use Rattle.sbx_flat.specs.Runs.{AreBytes, Behaves, FlatSafe, budget}
 use Rattle.sbx_flat.specs.declared.path.Place.{Place}
 use Rattle.want.specs.Wants.{refused}
-use Rattle.sbx_run.specs.Runs.{IsImage}
+use Rattle.sbx_run.specs.WholeRuns.{IsImage}
 use Rattle.sbx_port.specs.Following.{beyond, with_input}
 use Rattle.sbx_port.specs.Streams.{RunsAs, RunsOn, Says as SaysOf, StandsBeside, Streamed}
 use Rattle.sbx_port.specs.declared.carrying.StreamFault.{StreamFault}

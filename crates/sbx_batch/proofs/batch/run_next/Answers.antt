@@ -2,7 +2,7 @@ use Rattle.std.proofs.Common.{◌≡◌, rules, subst}
 use Rattle.v8_board.specs.Seen.{State}
 use Rattle.sbx_flat.specs.Runs.{AreBytes}
 use Rattle.sbx_sound.specs.Law.{IsFormed}
-use Rattle.sbx_windows.specs.Runs.{IsImage}
+use Rattle.sbx_shows.specs.WholeRuns.{IsImage}
 use Rattle.sbx_run.specs.Answer.{EndsOn}
 use Rattle.sbx_batch.proofs.Alike.{next}
 use Rattle.sbx_batch.proofs.Following.{silent_state}

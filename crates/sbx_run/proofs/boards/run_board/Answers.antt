@@ -8,7 +8,7 @@ use Rattle.v8_board.specs.declared.outcome.Ending.{Ending}
 use Rattle.v8_board.specs.declared.outcome.Ending.TheVariants.{ErrorMode, Limit, Trapped}
 use Rattle.sbx_image.specs.Parts.{Parts}
 use Rattle.sbx_flat.specs.Runs.{AreBytes, budget}
-use Rattle.sbx_windows.specs.Runs.{IsImage}
+use Rattle.sbx_shows.specs.WholeRuns.{IsImage}
 use Rattle.sbx_run.proofs.Answered.{board_ends, board_exits, board_quiet, cut_asks, run_asks, stands_on, turns_stay}
 use Rattle.sbx_run.proofs.boards.run_board.Goals as goal
 

@@ -4,7 +4,7 @@ use Rattle.v8_board.specs.declared.outcome.Outcome.{Outcome}
 use Rattle.sbx_flat.specs.Runs.{budget}
 use Rattle.sbx_image.specs.Parts.{Parts}
 use Rattle.sbx_port.specs.Streams.{RunsAs, RunsOn, Streamed}
-use Rattle.sbx_run.specs.Runs.{IsImage}
+use Rattle.sbx_run.specs.WholeRuns.{IsImage}
 use Rattle.sbx_stream.specs.Streams.{IsReady}
 use Rattle.sbx_stream.proofs.Streamed.{contained, front, has_exited, no_memory, no_run, quiet, streamed}
 use Rattle.sbx_stream.proofs.streams.run_stream.Goals as goal

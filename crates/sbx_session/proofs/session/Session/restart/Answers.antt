@@ -4,7 +4,7 @@ use Rattle.v8_board.specs.Seen.{State}
 use Rattle.v8_board.specs.Start.{IsStart}
 use Rattle.sbx_image.specs.Parts.{Parts}
 use Rattle.sbx_flat.specs.Runs.{budget}
-use Rattle.sbx_run.specs.Runs.{IsImage}
+use Rattle.sbx_run.specs.WholeRuns.{IsImage}
 use Rattle.sbx_session.proofs.UnderWay.{begun}
 use Rattle.sbx_session.proofs.session.Session.restart.Goals as goal
 

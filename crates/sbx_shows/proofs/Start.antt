@@ -17,15 +17,15 @@ use Rattle.v8_core.specs.Accesses.{world}
 use Rattle.v8_loaded.specs.Layout.{data_count}
 use Rattle.v8_loaded.specs.Board.{Device}
 use Rattle.v8_loaded.proofs.Frames.{word_fits}
-use Rattle.sbx_shows.specs.Seen.{State as BoardState}
-use Rattle.sbx_shows.specs.Start.{IsPlaced, IsStart, pages_of}
-use Rattle.sbx_shows.proofs.Placed.{data_counted, placed_loaded}
-use Rattle.sbx_shows.proofs.Stays.{word_kept}
+use Rattle.v8_board.specs.Seen.{State as BoardState}
+use Rattle.v8_board.specs.Start.{IsPlaced, IsStart, pages_of}
+use Rattle.v8_board.proofs.Placed.{data_counted, placed_loaded}
+use Rattle.v8_board.proofs.Stays.{word_kept}
 use Rattle.sbx_flat.specs.Rules.{code_start}
 use Rattle.sbx_flat.specs.Parts.{Parts}
 use Rattle.sbx_flat.specs.Regions.{data_at, laid}
-use Rattle.sbx_shows.specs.Spelling.{IsTypedRegion}
-use Rattle.sbx_shows.proofs.Within.{data_is_byte, data_lies_at}
+use Rattle.v8_board.specs.Spelling.{IsTypedRegion}
+use Rattle.v8_board.proofs.Within.{data_is_byte, data_lies_at}
 use Rattle.sbx_flat.specs.Registers.{Registers}
 use Rattle.sbx_flat.specs.Runs.{AreBytes, IsStart as IsFlatStart}
 use Rattle.sbx_flat.specs.States.{State}
@@ -36,7 +36,7 @@ use Rattle.v8_contained.proofs.Files.{file_reg}
 use Rattle.sbx_shows.proofs.Pages.{placed_own}
 use Rattle.sbx_shows.proofs.Stacks.{stack_count}
 use Rattle.sbx_shows.proofs.Writing.{mask_kept}
-use Rattle.sbx_windows.specs.Runs.{IsAnyBoard, IsImage, with_earlier}
+use Rattle.sbx_shows.specs.WholeRuns.{IsAnyBoard, IsImage, with_earlier}
 
 -- the registers that booting leaves
 abbrev pub boot : ℕ → Windows → Windows

@@ -10,7 +10,7 @@ use Rattle.v8_core.specs.Walked.{root_of}
 use Rattle.v8_core.specs.Accesses.{World}
 use Rattle.v8_loaded.specs.Board.{Device}
 use Rattle.v8_loaded.specs.Users.{AsksFor}
-use Rattle.sbx_shows.specs.Seen.{State as BoardState}
+use Rattle.v8_board.specs.Seen.{State as BoardState}
 use Rattle.sbx_flat.specs.Rules.{code_start}
 use Rattle.sbx_flat.specs.Parts.{Parts}
 use Rattle.sbx_flat.specs.Registers.{still}
@@ -24,11 +24,11 @@ use Rattle.sbx_shows.specs.Laws.{HasWindow, turns_of, windows_after}
 use Rattle.sbx_shows.specs.Shows.{Shows}
 use Rattle.sbx_shows.specs.Steps.{Stands}
 use Rattle.sbx_shows.proofs.Whole.{annulled_turns_keep, user_turns_keep}
-use Rattle.sbx_windows.specs.Runs.{Came, IsImage, RunsToItsEnd, stands, with_earlier}
-use Rattle.sbx_windows.proofs.Earlier.{earlier_wrong}
-use Rattle.sbx_windows.proofs.Induction.{Taken, ends_from}
+use Rattle.sbx_shows.specs.WholeRuns.{Came, IsImage, RunsToItsEnd, stands, with_earlier}
+use Rattle.sbx_shows.proofs.Earlier.{earlier_wrong}
+use Rattle.sbx_shows.proofs.Induction.{Taken, ends_from}
 use Rattle.sbx_shows.proofs.Retries.{restores_underflow, saves_overflow}
-use Rattle.sbx_windows.proofs.Start.{boot, flat_start, is_flat_start, start_shows}
+use Rattle.sbx_shows.proofs.Start.{boot, flat_start, is_flat_start, start_shows}
 
 -- ---- the word that is fetched
 

@@ -6,11 +6,11 @@ use Rattle.v8_core.specs.Accesses.{World}
 use Rattle.v8_loaded.specs.Board.{Device}
 use Rattle.v8_loaded.specs.States.{IsState}
 use Rattle.sbx_shows.specs.Counts.{Counts}
-use Rattle.sbx_shows.specs.Runs.{state_after as board_after}
-use Rattle.sbx_shows.specs.Seen.{State as BoardState, ending_of, turned}
-use Rattle.sbx_shows.specs.Start.{IsStart}
+use Rattle.v8_board.specs.Runs.{state_after as board_after}
+use Rattle.v8_board.specs.Seen.{State as BoardState, ending_of, turned}
+use Rattle.v8_board.specs.Start.{IsStart}
 use Rattle.sbx_flat.specs.Parts.{Parts}
-use Rattle.sbx_shows.specs.Spelling.{IsTypedRegion}
+use Rattle.v8_board.specs.Spelling.{IsTypedRegion}
 use Rattle.sbx_flat.specs.Runs.{AreBytes, FlatRun, FlatSafe, Run, budget, place_of, weight}
 use Rattle.sbx_flat.specs.States.{State}
 use Rattle.sbx_flat.specs.Traffic.{traffic}

@@ -12,9 +12,9 @@ use Rattle.v8_loaded.specs.Board.{Device, board}
 use Rattle.v8_loaded.specs.Turns.{world_after, turn_at}
 use Rattle.sbx_shows.specs.Counts.{Counts}
 use Rattle.sbx_shows.specs.Ending.{Ending}
-use Rattle.sbx_shows.specs.Counting.{counts_after}
-use Rattle.sbx_shows.specs.Runs.{state_after as board_after}
-use Rattle.sbx_shows.specs.Seen.{State as BoardState, counts_unless, ending_of, turned}
+use Rattle.v8_board.specs.Counting.{counts_after}
+use Rattle.v8_board.specs.Runs.{state_after as board_after}
+use Rattle.v8_board.specs.Seen.{State as BoardState, counts_unless, ending_of, turned}
 use Rattle.sbx_flat.specs.Parts.{Parts}
 use Rattle.sbx_flat.specs.Runs.{AreBytes, FlatRun, FlatSafe, Run, budget, place_of, weight, weight_at, weight_of, weight_of_word}
 use Rattle.sbx_flat.specs.States.{State}
@@ -28,8 +28,8 @@ use Rattle.sbx_shows.specs.Shows.{Shows}
 use Rattle.sbx_shows.specs.Steps.{Over}
 use Rattle.sbx_shows.specs.Turns.{IsOwnTurn}
 use Rattle.sbx_shows.proofs.Traffics.{traffic_more}
-use Rattle.sbx_windows.specs.Runs.{Came, Finishes, IsTurnBeside, stands, with_earlier}
-use Rattle.sbx_windows.proofs.Earlier.{earlier_place, earlier_step}
+use Rattle.sbx_shows.specs.WholeRuns.{Came, Finishes, IsTurnBeside, stands, with_earlier}
+use Rattle.sbx_shows.proofs.Earlier.{earlier_place, earlier_step}
 
 -- ---- turns of a world as turns of a board that counts them
 

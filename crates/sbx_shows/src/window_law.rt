@@ -1,5 +1,5 @@
 //! The law of whole runs. It is the contract of a function that does nothing.
-ghost use Rattle.sbx_windows.specs.Runs.{RunsToItsEnd};
+ghost use Rattle.sbx_shows.specs.WholeRuns.{RunsToItsEnd};
 
 /// A safe image, loaded on any board of 4 to 32 windows, exits there as its flat run does, with the same exit word and
 /// output. At each moment outside the vectors and handlers the board shows a state of that run; each turn is one that

@@ -25,7 +25,7 @@ use Rattle.sbx_flat.specs.States.{Fails, Goes, Over, State, Turn, advanced, reg}
 use Rattle.sbx_flat.specs.Turns.{IsWrong, Step, asked, fetches, goes_on, turn, word_at}
 use Rattle.sbx_flat.specs.declared.path.Wrong.{Wrong}
 use Rattle.sbx_flat.specs.declared.path.Wrong.TheVariants.{Misaligned, NoService, NotAdmitted, StackPointer, TagOverflow, ZeroDivisor}
-use Rattle.sbx_windows.specs.Runs.{with_earlier}
+use Rattle.sbx_shows.specs.WholeRuns.{with_earlier}
 
 module _ (b : List ℕ) where
   -- what comes of the state with it
