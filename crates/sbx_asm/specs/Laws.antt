@@ -21,7 +21,8 @@ MeantImagesFitTheirFields = (source : List ℕ) (parts : Parts) → source_image
 -- The code of a source without faults is the words of its statements, one after the other.
 abbrev pub CodeIsItsStatements : Type 0
 CodeIsItsStatements = (source : List ℕ) (parts : Parts) → source_image source ≡ Ok parts
-    → (faults_of (items_of source) ≡ []) × (parts.words ≡ each (words_at (values_of (items_of source))) [] (items_of source))
+    → (faults_of (items_of source) ≡ []) × (parts.words ≡ each (words_at (values_of (items_of source))) []
+    (items_of source))
 
 -- the word of the code at an address
 abbrev pub code_at : List ℕ → ℕ → Option ℕ
@@ -33,21 +34,24 @@ code_at words address =
 abbrev pub CodeLiesWhereLabelsSay : Type 0
 CodeLiesWhereLabelsSay = (source : List ℕ) (parts : Parts) → source_image source ≡ Ok parts
     → (front after : List Item) (i : Item) (k w : ℕ) → items_of source ≡ front ++ i ∷ after
-    → slice_get (words_at (values_of (items_of source)) (reverse front) i after) k ≡ Some w → code_at parts.words (label_address (reverse front) + 4 * k) ≡ Some w
+    → slice_get (words_at (values_of (items_of source)) (reverse front) i after) k ≡ Some w →
+    code_at parts.words (label_address (reverse front) + 4 * k) ≡ Some w
 
 -- So do its functions: a `.function` begins the one with its number, counted from 0, whose entry is the address of the
 -- code at its line.
 abbrev pub FunctionsBeginWhereNamesSay : Type 0
 FunctionsBeginWhereNamesSay = (source : List ℕ) (parts : Parts) → source_image source ≡ Ok parts
     → (front after : List Item) (i : Item) → items_of source ≡ front ++ i ∷ after → starts_function i ≡ true
-    → slice_get (map (λ (f : Function). f.entry) parts.functions) (count starts_function front) ≡ Some (code_address (reverse front))
+    → slice_get (map
+    (λ (f : Function). f.entry) parts.functions) (count starts_function front) ≡ Some (code_address (reverse front))
 
 -- The data of a source without faults lie in its image where the labels say: the bytes of each line are those of the
 -- image from the address on that the line's labels have.
 abbrev pub DataLieWhereLabelsSay : Type 0
 DataLieWhereLabelsSay = (source : List ℕ) (parts : Parts) → source_image source ≡ Ok parts
     → (front after : List Item) (i : Item) (k b : ℕ) → items_of source ≡ front ++ i ∷ after
-    → slice_get (bytes_at (values_of (items_of source)) (reverse front) i after) k ≡ Some b → data_at parts.regions (label_address (reverse front) + k) ≡ Some b
+    → slice_get (bytes_at (values_of (items_of source)) (reverse front) i after) k ≡ Some b →
+    data_at parts.regions (label_address (reverse front) + k) ≡ Some b
 
 -- So do its regions: a `.region` begins the one with its number, counted from 0, and a label right behind it points to
 -- the first byte.
@@ -67,11 +71,13 @@ WordsLookAheadByLabelsAlone = (front after other : List Item) → values_of (fro
 
 -- a blank line or a comment has no label and says nothing
 abbrev pub BlankLinesSayNothing : Type 0
-BlankLinesSayNothing = (number : ℕ) (line : List ℕ) → tokens_of line ≡ Ok [] → ((item_of (number, line)).labels ≡ []) × ((item_of (number, line)).said ≡ Ok statements.Nothing)
+BlankLinesSayNothing = (number : ℕ) (line : List ℕ) → tokens_of line ≡ Ok [] →
+    ((item_of (number, line)).labels ≡ []) × ((item_of (number, line)).said ≡ Ok statements.Nothing)
 
 -- A line that says nothing may stand anywhere: the same fault is told, or the image is the same.
 abbrev pub BlankLinesChangeNothing : Type 0
-BlankLinesChangeNothing = (front after : List Item) (i : Item) → i.labels ≡ [] → i.said ≡ Ok statements.Nothing → i.number ≤ 1000000
+BlankLinesChangeNothing = (front after : List Item) (i : Item) → i.labels ≡ [] → i.said ≡ Ok statements.Nothing →
+    i.number ≤ 1000000
     → (least_of (faults_of (front ++ i ∷ after)) ≡ least_of (faults_of (front ++ after)))
     × (least_of (faults_of (front ++ after)) ≡ None → image_of (front ++ i ∷ after) ≡ image_of (front ++ after))
 
@@ -80,11 +86,13 @@ abbrev pub NumbersShowInFaultsAlone : Type 0
 NumbersShowInFaultsAlone = (number : ℕ → ℕ) (items : List Item) →
     AllByRecursion (λ i. (i.number ≤ 1000000) × (number i.number ≤ 1000000)) items →
     let renumbered : List Item = map (λ (i : Item). record i { number = number i.number }) items in
-    (image_of renumbered ≡ image_of items) × (faults_of renumbered ≡ map (λ (f : AsmFault). record f { line = number f.line }) (faults_of items))
+    (image_of renumbered ≡ image_of items)
+    × (faults_of renumbered ≡ map (λ (f : AsmFault). record f { line = number f.line }) (faults_of items))
 
 -- Labels may be renamed one to one: each new name is worth what the old one was, and the same labels stand twice.
 abbrev pub LabelsMayBeRenamed : Type 0
-LabelsMayBeRenamed = (rename : List ℕ → List ℕ) → ((a b : List ℕ) → rename a ≡ rename b → a ≡ b) → (labels : List Label) →
+LabelsMayBeRenamed = (rename : List ℕ → List ℕ) → ((a b : List ℕ) → rename a ≡ rename b → a ≡ b) →
+    (labels : List Label) →
     let renamed : List Label = map (λ (l : Label). record l { name = rename l.name }) labels in
     ((name : List ℕ) → worth_in renamed (rename name) ≡ worth_in labels name)
     × (duplicates [] renamed ≡ duplicates [] labels)
@@ -94,7 +102,8 @@ LabelsMayBeRenamed = (rename : List ℕ → List ℕ) → ((a b : List ℕ) → 
 abbrev pub TheLeastFaultIsTold : Type 0
 TheLeastFaultIsTold = (source : List ℕ) (f : AsmFault) → source_image source ≡ Err f →
     let faults : List AsmFault = faults_of (items_of source) in
-    (((front : List AsmFault) × (rest : List AsmFault) × (faults ≡ front ++ f ∷ rest)) × AllByRecursion (λ g. is_earlier g f ≡ false) faults)
+    (((front : List AsmFault) × (rest : List AsmFault) × (faults ≡ front ++ f ∷ rest))
+    × AllByRecursion (λ g. is_earlier g f ≡ false) faults)
     ⊎ ((faults ≡ []) × (f ≡ at (length (items_of source) + 1) (whole_cause (image_of (items_of source)))))
 
 -- Lines without faults are an image, where one of them is a `.function` and the data take at most 64 pages.

@@ -49,7 +49,12 @@ impl<'a, 't> Model for Line<'a, 't> {
       labels = label_names l.bytes.now l.label_count l.tokens.now;
       bytes = l.bytes.now;
       tokens = drop (2 * l.label_count) l.tokens.now;
-      said = elim l.told [ Nothing ↦ Ok statements.Nothing | Instruction words ↦ Ok statements.Instruction | Other said ↦ Ok said.value | Fault fault ↦ Err fault ];
+      said = elim l.told [
+        | Nothing ↦ Ok statements.Nothing
+        | Instruction words ↦ Ok statements.Instruction
+        | Other said ↦ Ok said.value
+        | Fault fault ↦ Err fault
+      ];
     } };
 
     ghost invariant = { λ l. elim l.told [

@@ -37,7 +37,8 @@ impl<'a> Model for Text<'a> {
     ghost view = { λ t. t.source.now };
 
     ghost invariant = { λ t. (t.kept.tokens.items ≡ flat_map (λ line. result_unwrap_or (tokens_of line) []) (lines_of t.source.now))
-        × (t.kept.found.items ≡ map (λ line. result_map_both length (λ fault. fault) (tokens_of line)) (lines_of t.source.now)) };
+        × (t.kept.found.items ≡
+        map (λ line. result_map_both length (λ fault. fault) (tokens_of line)) (lines_of t.source.now)) };
 }
 
 /// Adds the tokens of a line to others, and counts them.

@@ -80,7 +80,8 @@ pub fn command<F: Read, I: Read, O: Write, E: Write>(
     ensures stopped { 2 ≤ result.status →
         StopsFor job.now (F.remaining file.old) ((input.new ≡ input.old) × (out.new ≡ out.old))
         (λ stop. LeftBy job.now (F.remaining file.old) (I.remaining input.old) (I.remaining input.new)
-        (O.contents out.old) (O.contents out.new) stop × Told stop result.told (E.contents err.old) (E.contents err.new))
+        (O.contents out.old) (O.contents out.new) stop
+        × Told stop result.told (E.contents err.old) (E.contents err.new))
         result.status }
 
     // A job that is done says nothing on standard error.

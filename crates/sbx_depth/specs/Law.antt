@@ -29,7 +29,8 @@ DepthBoundsFrames =
 abbrev pub DepthBoundsTraffic : Type 0
 DepthBoundsTraffic =
     (parts : Parts) (depth : ℕ → ℕ) → IsFormed parts → Checked parts → Deep parts depth
-    → (n : ℕ) → depth 0 + 2 ≤ n → (input : List ℕ) (path : List Place) (s : State) → AreBytes input → FlatRun parts input path s
+    → (n : ℕ) → depth 0 + 2 ≤ n → (input : List ℕ) (path : List Place) (s : State) → AreBytes input →
+    FlatRun parts input path s
     → ((traffic parts n path).overflows ≡ 0) × ((traffic parts n path).underflows ≡ 0)
 
 -- The same of the path that all finished runs on an input have in common.
@@ -52,7 +53,8 @@ DeclaredDepthsHold = (parts : Parts) → Checked parts → parts.version ≡ 3 �
 -- overflows one or underflows one where there are so many, or more.
 abbrev pub DepthIsEnough : Parts → Type 0
 DepthIsEnough parts =
-    parts.version ≡ 3 → (n : ℕ) → declared parts 0 + 2 ≤ n → (input output : List ℕ) (status : ℕ) (path : List Place) → AreBytes input → Behaves parts input output status path
+    parts.version ≡ 3 → (n : ℕ) → declared parts 0 + 2 ≤ n → (input output : List ℕ) (status : ℕ) (path : List Place) →
+    AreBytes input → Behaves parts input output status path
     → ((traffic parts n path).overflows ≡ 0) × ((traffic parts n path).underflows ≡ 0)
 
 abbrev pub DeclaredDepthIsEnough : Type 0

@@ -10,7 +10,8 @@ use v8_syntax::{StatementToken, after_sign, statement_token};
 #[tactic(auto, unfolding(crate::specs::Directives::labels_first), using(crate::proofs::Labels::no_colon, crate::proofs::Labels::colon, crate::proofs::Labels::tokens_fewer))]
 fn behind_label<'t>(line: &[u8], tokens: &'t [Token]) -> Option<&'t [Token]>
     ensures value { MatchOption result (labels_first (statement_tokens line.now tokens.now) ≡ 0)
-        (λ rest. labels_first (statement_tokens line.now tokens.now) ≡ suc (labels_first (statement_tokens line.now rest.now))) }
+        (λ rest. labels_first (statement_tokens line.now tokens.now) ≡
+        suc (labels_first (statement_tokens line.now rest.now))) }
     ensures room { IfSome result (λ rest. 2 + length rest.now ≡ length tokens.now) }
 {
     let (first, after) = tokens.split_first()?;

@@ -107,7 +107,8 @@ with_product_y op d = if writes_y op then with_y (Some (all 0)) d else d
 abbrev pub offset_from_sp : ℕ → ℕ → Operand → Option ℤ
 offset_from_sp frame rs1 (Register r) = None
 offset_from_sp frame rs1 (Immediate w) =
-    if rs1 == stack_pointer then Some (signed w) else (if rs1 == frame_pointer then Some (signed w +ℤ pos frame) else None)
+    if rs1 == stack_pointer then Some (signed w)
+    else (if rs1 == frame_pointer then Some (signed w +ℤ pos frame) else None)
 
 -- a frame's words lie from 64 bytes above %sp to its end; there are at most 1,008
 abbrev pub is_word_offset : ℕ → ℕ → Bool

@@ -41,7 +41,8 @@ use Rattle.sbx_fits.specs.Held.{tagged_value, with_location, with_pairs, with_re
 abbrev pub ResultsKeepFitting : Type 0
 ResultsKeepFitting =
     (frame : ℕ) (op : Op) (f : Three) (d : Known) (h : Held) → AreFields f
-    → Keeps d (transferred frame (Compute op f) d) h (with_result f.rd (outcome op (h.words f.rs1) (second h.words f.operand2) h.icc h.y) h)
+    → Keeps d (transferred frame (Compute op f) d) h
+    (with_result f.rd (outcome op (h.words f.rs1) (second h.words f.operand2) h.icc h.y) h)
 
 -- the quotient that a divisor 0 would deny too
 abbrev pub QuotientsKeepFitting : Type 0
@@ -77,7 +78,8 @@ pub record MovesKeepFitting : Type 0 where
 
 -- of data: any number of the size may come in, and what goes out changes no location
 pub record DataKeepsFitting : Type 0 where
-  pub load : (frame : ℕ) (l : Loading) (m : MemoryOperand) (d : Known) (h : Held) (n : ℕ) → frame_word_of frame m ≡ None → n < 2 ^ (8 * bytes_in (loaded_size l))
+  pub load : (frame : ℕ) (l : Loading) (m : MemoryOperand) (d : Known) (h : Held) (n : ℕ) →
+      frame_word_of frame m ≡ None → n < 2 ^ (8 * bytes_in (loaded_size l))
       → Keeps d (transferred frame (Transfer (Load l) m) d) h (with_pairs (loaded l m.rd n) h)
   pub store : (frame : ℕ) (size : Size) (m : MemoryOperand) (d : Known) (h : Held) → frame_word_of frame m ≡ None
       → Keeps d (transferred frame (Transfer (Store size) m) d) h h
@@ -106,7 +108,8 @@ pub record FramesKeepFitting : Type 0 where
 -- What fits before a CALL fits in its slot, and again where the callee has returned.
 pub record CallsKeepFitting : Type 0 where
   -- the CALL itself, of whose link nothing is known
-  pub link : (frame displacement v : ℕ) (d : Known) (h : Held) → v < 2 ^ 32 → Keeps d (transferred frame (Call displacement) d) h (with_location 15 v h)
+  pub link : (frame displacement v : ℕ) (d : Known) (h : Held) → v < 2 ^ 32 →
+      Keeps d (transferred frame (Call displacement) d) h (with_location 15 v h)
   -- where the callee has returned with these results
   pub returned_near : (results : List Range) (start : Cells) (d : Known) (h k : Held) → AreReturned h k
       → ((l : ℕ) → HasInterval (range_of_entry (result_entry results l)) (k.words l))
@@ -133,7 +136,8 @@ pub record ServicesKeepFitting : Type 0 where
 
 -- where the condition holds of the codes, the way is possible, and what is known there fits
 pub record RefinementKeepsFitting : Type 0 where
-  pub near : (cond : Cond) (start : Cells) (d : Known) (words : Words) (icc : Icc) (y : ℕ) → holds cond icc ≡ true → Near start d words icc y
+  pub near : (cond : Cond) (start : Cells) (d : Known) (words : Words) (icc : Icc) (y : ℕ) → holds cond icc ≡ true →
+      Near start d words icc y
       → (e : Known) × (refined cond d ≡ Some e) × Near start e words icc y
   pub fits : (cond : Cond) (start : Cells) (d : Known) (words : Words) (icc : Icc) (y : ℕ) → holds cond icc ≡ true →
       Fits start d words icc y

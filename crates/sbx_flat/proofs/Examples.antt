@@ -12,7 +12,9 @@ use Rattle.sbx_flat.specs.States.{State, reg}
 use Rattle.sbx_flat.specs.Traffic.{after_place, traffic}
 use Rattle.sbx_flat.specs.Turns.{turn, word_at}
 
-pub traffic_of_three : (parts : Parts) → traffic (record parts { words = save_and_restore }) 4 (at_save ∷ at_save ∷ at_save ∷ at_restore ∷ at_restore ∷ at_restore ∷ []) ≡ record { windows = 1; overflows = 1; underflows = 1; turns = 54 }
+pub traffic_of_three : (parts : Parts) →
+    traffic (record parts { words = save_and_restore }) 4 (at_save ∷ at_save ∷ at_save ∷ at_restore ∷ at_restore ∷ at_restore ∷ []) ≡
+    record { windows = 1; overflows = 1; underflows = 1; turns = 54 }
 unfolding after_place word_at operation_of meaning
 traffic_of_three parts = refl
 

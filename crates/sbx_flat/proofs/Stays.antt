@@ -248,7 +248,18 @@ module _ (pages : ℕ) where
   served_fine : (n : ℕ) (s : State) → IsWellFormed pages s → IsWellFormed pages (served n s)
   served_fine zero s h = record { pc = h.pc; npc = h.npc; y = h.y; calls = h.calls; memory = h.memory; input = h.input; output = h.output; exit = word_of s 8 h }
   served_fine (suc zero) s h = got s.input s h.input h
-  served_fine (suc (suc n)) s h = record { pc = h.pc; npc = h.npc; y = h.y; calls = h.calls; memory = h.memory; input = h.input; output = pushed_byte s.output (reg s 8 % 2 ^ 8) h.output (omega arith); exit = h.exit }
+  served_fine (suc (suc n)) s h =
+      record {
+        pc = h.pc;
+        npc = h.npc;
+        y = h.y;
+        calls = h.calls;
+        memory = h.memory;
+        input = h.input;
+        output =
+            pushed_byte s.output (reg s 8 % 2 ^ 8) h.output (omega arith);
+        exit = h.exit;
+      }
 
   service_fine : (services : Services) (o : Option ℕ) (s : State) → IsWellFormed pages s → Fine (serves services o s)
   service_fine services None s h = tt

@@ -62,7 +62,8 @@ pub fn each_step_counts()
 /// A state that isn't wrong and has no exit word has a next one, whatever words a pushed frame would hold.
 #[tactic(auto, using(crate::proofs::Goes::goes))]
 pub fn states_go_on_or_are_wrong()
-    ensures { (parts : Parts) (fresh : Fresh) (s : State) → IsFresh fresh → s.exit ≡ None → (IsWrong parts s → ⊥) → (next : State) × (turn parts fresh s ≡ Goes next) }
+    ensures { (parts : Parts) (fresh : Fresh) (s : State) → IsFresh fresh →
+        s.exit ≡ None → (IsWrong parts s → ⊥) → (next : State) × (turn parts fresh s ≡ Goes next) }
 {}
 
 /// Each state that a run reaches is well-formed: registers, slots, Y and the exit word are words, the data, the input
@@ -83,7 +84,9 @@ pub fn states_stay_well_formed()
 /// over one input reach along the same path.
 pub fn invariants_make_safe<I: Relation>()
     ensures safe { (parts : Parts) → IsInvariant parts (I.related parts) → FlatSafe parts }
-    ensures along { (parts : Parts) (input : List ℕ) (path : List Place) (s t : State) → IsInvariant parts (I.related parts) → AreBytes input → FlatRun parts input path s → FlatRun parts input path t → I.related parts (weight parts path) s t }
+    ensures along { (parts : Parts) (input : List ℕ) (path : List Place) (s t : State) →
+        IsInvariant parts (I.related parts) → AreBytes input → FlatRun parts input path s →
+        FlatRun parts input path t → I.related parts (weight parts path) s t }
 {}
 
 /// A location but register 0, the registers by number and from 32 on the words of the newest frame, holds the word that
@@ -122,7 +125,10 @@ pub fn input_beyond_is_unread()
 /// of three returns fills it again. Four steps count 1, and these two count 25.
 #[tactic(auto, using(crate::proofs::Examples::traffic_of_three))]
 pub fn three_calls_overflow_four_windows()
-    ensures { (parts : Parts) → traffic (record parts { words = save_and_restore }) 4 (at_save ∷ at_save ∷ at_save ∷ at_restore ∷ at_restore ∷ at_restore ∷ []) ≡ record { windows = 1; overflows = 1; underflows = 1; turns = 54 } }
+    ensures { (parts : Parts) →
+        traffic (record parts { words = save_and_restore }) 4
+        (at_save ∷ at_save ∷ at_save ∷ at_restore ∷ at_restore ∷ at_restore ∷ []) ≡
+        record { windows = 1; overflows = 1; underflows = 1; turns = 54 } }
 {}
 
 /// Two words are on the first page of the code alone, and eight bytes of a region on the first of the data, which is
@@ -217,7 +223,9 @@ pub fn slots_hold_words()
 /// address.
 #[tactic(auto, unfolding(crate::specs::Turns::turn, crate::specs::Turns::word_at, crate::specs::States::reg, crate::specs::Registers::written, sbx_parts::specs::Regions::holds, v8_formats::specs::Table::meaning, v8_meaning::specs::Operations::operation_of, v8_meaning::specs::Admitted::is_admitted))]
 pub fn loads_are_big_endian()
-    ensures half { (parts : Parts) (writable : Bool) (fresh : Fresh) (s : State) → step_of 0xD0142004 (with_region writable 136 parts) fresh (with_addresses s) ≡ Goes (at_second (with_reg 8 0x0405 (with_addresses s))) }
+    ensures half { (parts : Parts) (writable : Bool) (fresh : Fresh) (s : State) →
+        step_of 0xD0142004 (with_region writable 136 parts) fresh (with_addresses s) ≡
+        Goes (at_second (with_reg 8 0x0405 (with_addresses s))) }
     ensures signed { (parts : Parts) (writable : Bool) (fresh : Fresh) (s : State) →
         step_of 0xD04C2080 (with_region writable 136 parts) fresh (with_addresses s) ≡
         Goes (at_second (with_reg 8 0xFFFFFF80 (with_addresses s))) }
@@ -325,7 +333,9 @@ pub fn services_serve()
     ensures end { (parts : Parts) (fresh : Fresh) (s : State) →
         step_of 0x91D02001 (record parts { services = record { 0 = 2 } }) fresh (record s { input = [] }) ≡
         Goes (at_second (with_reg 8 0xFFFFFFFF (record s { input = [] }))) }
-    ensures put { (parts : Parts) (fresh : Fresh) (s : State) → step_of 0x91D02002 (record parts { services = record { 0 = 4 } }) fresh s ≡ Goes (at_second (record s { output = s.output ++ (reg s 8 % 2 ^ 8) ∷ [] })) }
+    ensures put { (parts : Parts) (fresh : Fresh) (s : State) →
+        step_of 0x91D02002 (record parts { services = record { 0 = 4 } }) fresh s ≡
+        Goes (at_second (record s { output = s.output ++ (reg s 8 % 2 ^ 8) ∷ [] })) }
     ensures exit { (parts : Parts) (fresh : Fresh) (s : State) →
         step_of 0x91D02000 (record parts { services = record { 0 = 1 } }) fresh s ≡
         Goes (record (at_second s) { exit = Some (reg s 8) }) }

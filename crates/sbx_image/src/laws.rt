@@ -7,7 +7,8 @@ ghost use Rattle.sbx_image.specs.Spelling.{IsBytes, IsTyped, spelling};
 
 /// What is read keeps each limit and order, and is spelled by all of the bytes that were read.
 pub fn what_is_read_is_spelled()
-    ensures { (bytes : List ℕ) (p : Parts) → IsBytes bytes → reading bytes ≡ Ok p → (bytes ≡ spelling p) × (parts_keep p ≡ Ok tt) }
+    ensures { (bytes : List ℕ) (p : Parts) → IsBytes bytes →
+        reading bytes ≡ Ok p → (bytes ≡ spelling p) × (parts_keep p ≡ Ok tt) }
 {}
 
 /// What keeps each limit and order is read from its spelling.

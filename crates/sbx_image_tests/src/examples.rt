@@ -9,7 +9,8 @@ pub fn regions_that_abut_are_two()
     ensures rights { (a b : List ℕ) → length a ≡ 4096 → length b ≡ 4096 → page_rights (pair a b) ≡ false ∷ true ∷ [] }
     ensures first { (a b : List ℕ) → length a ≡ 4096 → length b ≡ 4096 →
         in_one_region (pair a b) 0x80FF8 8 false ≡ true }
-    ensures across { (a b : List ℕ) → length a ≡ 4096 → length b ≡ 4096 → in_one_region (pair a b) 0x80FFC 8 false ≡ false }
+    ensures across { (a b : List ℕ) → length a ≡ 4096 → length b ≡ 4096 →
+        in_one_region (pair a b) 0x80FFC 8 false ≡ false }
     ensures second { (a b : List ℕ) → length a ≡ 4096 → length b ≡ 4096 →
         in_one_region (pair a b) 0x81000 8 true ≡ true }
     ensures read_only { (a b : List ℕ) → length a ≡ 4096 → length b ≡ 4096 →

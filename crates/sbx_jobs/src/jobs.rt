@@ -74,7 +74,8 @@ const MOST_WINDOWS: u64 = 32;
 /// The count of windows that a text gives: decimal digits alone, 4 to 32. Without a text it is 8.
 pub fn window_count(text: Option<&str>) -> Option<Windows>
     ensures given { IfSome text.entry (λ text. SomeIff result
-        (IsNumeral 10 text.now × (4 ≤ digits_value 10 text.now) × (digits_value 10 text.now ≤ 32)) (digits_value 10 text.now)) }
+        (IsNumeral 10 text.now × (4 ≤ digits_value 10 text.now) × (digits_value 10 text.now ≤ 32))
+        (digits_value 10 text.now)) }
     ensures left_out { text.entry ≡ None → result ≡ Some 8 }
     ensures range { IfSome result (λ windows. (4 ≤ windows) × (windows ≤ 32)) }
 {

@@ -22,5 +22,7 @@ pub record Ran (n : ℕ) (parts : Parts) (input : List ℕ) (end : State n) : Ty
 -- Two of them tell the same pages.
 abbrev pub RunsUseTheSamePages : Type 0
 RunsUseTheSamePages =
-    (n : ℕ) (parts : Parts) (input : List ℕ) (one other : State n) → IsImage parts → IsFormed parts → Checked parts → AreBytes input →
-    Ran n parts input one → Ran n parts input other → page_use_of one.world.memory.ram ≡ page_use_of other.world.memory.ram
+    (n : ℕ) (parts : Parts) (input : List ℕ) (one other : State n) →
+    IsImage parts → IsFormed parts → Checked parts → AreBytes input →
+    Ran n parts input one → Ran n parts input other →
+    page_use_of one.world.memory.ram ≡ page_use_of other.world.memory.ram

@@ -89,7 +89,8 @@ pub record HasWords (parts : Parts) (f b : ℕ) : Type 0 where
 -- one another.
 pub record AreInOrder (parts : Parts) : Type 0 where
   pub first : IsBlock parts 0 0 × (address_of parts 0 0 0 ≡ code_start)
-  pub entries : (f : ℕ) → IsFunction parts f → IsBlock parts f 0 × ((function_at parts f).entry ≡ address_of parts f 0 0)
+  pub entries : (f : ℕ) → IsFunction parts f →
+      IsBlock parts f 0 × ((function_at parts f).entry ≡ address_of parts f 0 0)
   pub blocks : (f b : ℕ) → IsBlock parts f b → HasWords parts f b
   pub ascending : (f b c : ℕ) → b < c → IsBlock parts f c → block_end parts f b ≤ address_of parts f c 0
   pub functions : (f g b c : ℕ) → f < g → IsBlock parts f b → IsBlock parts g c →

@@ -126,7 +126,8 @@ pub record LiesInOne (start : ℕ) (rs : List Region) (a size : ℕ) (writes : B
   pub to : a + size ≤ start + 4096 * length (page_rights rs)
   pub right : Bool
   pub may : (not writes || right) ≡ true
-  pub pages : (k : ℕ) → a < start + 4096 * k + 4096 → start + 4096 * k < a + size → slice_get (page_rights rs) k ≡ Some right
+  pub pages : (k : ℕ) → a < start + 4096 * k + 4096 → start + 4096 * k < a + size →
+      slice_get (page_rights rs) k ≡ Some right
   pub bytes : (i : ℕ) → i < size → byte_in (placed_from start rs) (a + i) ≡ Some (slice_index (laid rs) (a + i - start))
 
 -- Each region begins with a page, and not before the end of the one before it; the last one ends in the data's

@@ -241,7 +241,8 @@ fn ends_short(image: &Image, spot: &Spot, weight: u64, courses: &Courses) -> boo
     requires { IsSpot image.now spot.now }
     ensures { (d e : Known) →
         IsTrue result ↔ (IsTrue (list_any (λ v. is_back v.way) (listed courses.now d e) || ends_run spot.now.operation)
-        × (IsEnough (state_at image.now spot.now.function spot.now.block 0) (fuel_at image.now spot.now.function spot.now.block) weight → ⊥)) }
+        × (IsEnough (state_at image.now spot.now.function spot.now.block 0)
+        (fuel_at image.now spot.now.function spot.now.block) weight → ⊥)) }
 {
     (some_comes_back(courses) || ends_run(&spot.operation))
         && !is_enough(image, spot.function, spot.block, weight)
@@ -251,7 +252,9 @@ fn ends_short(image: &Image, spot: &Spot, weight: u64, courses: &Courses) -> boo
 fn lacks_budget(image: &Image, spot: &Spot) -> bool
     requires { IsSpot image.now spot.now }
     ensures { IsTrue result ↔ (IsTrue (is_entry spot.now.block spot.now.number)
-        × (IsWithinBudget (state_at image.now spot.now.function spot.now.block 0) (fuel_at image.now spot.now.function spot.now.block) (function_at image.now spot.now.function).budget → ⊥)) }
+        × (IsWithinBudget (state_at image.now spot.now.function spot.now.block 0)
+        (fuel_at image.now spot.now.function spot.now.block) (function_at image.now spot.now.function).budget →
+        ⊥)) }
 {
     is_entry(spot) && !is_within_budget(image, spot.function, spot.block)
 }

@@ -35,7 +35,8 @@ pub record FollowsOn (n : ℕ) (met : Bool) (x : ℕ) (l j w : List ℕ) (s t : 
 
 -- a turn that does not read the mark is the same turn on every input that goes on otherwise
 abbrev pub TurnFollows : Type 0
-TurnFollows = (n : ℕ) (met : Bool) (x : ℕ) (l j w : List ℕ) (s t : State n) → FollowsOn n met x l j w s t → Fine met l (turned n s).1.world.memory.device
+TurnFollows = (n : ℕ) (met : Bool) (x : ℕ) (l j w : List ℕ) (s t : State n) →
+    FollowsOn n met x l j w s t → Fine met l (turned n s).1.world.memory.device
     → ((turned n s).0 ≡ (turned n t).0) × FollowsOn n met x l j w (turned n s).1 (turned n t).1
 
 -- a turn gives no input to a board that has none

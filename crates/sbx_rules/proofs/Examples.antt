@@ -425,7 +425,9 @@ short_of_fuel_holds = inr (inl (refl, λ enough. let c : pos 39 ≤ℤ pos 38 = 
 
 pub short_of_fuel : IsFirst (adding (pos 254) (pos 255) 38) (refusal 0 0x40018 OutOfFuel)
 unfolding words_in address_of
-short_of_fuel = told_first (adding (pos 254) (pos 255) 38) (refusal 0 0x40018 OutOfFuel) 0 6 (record { function = omega arith; block = omega arith; word = omega arith }) refl short_of_fuel_holds short_of_fuel_before short_of_fuel_here
+short_of_fuel =
+    told_first (adding (pos 254) (pos 255) 38) (refusal 0 0x40018 OutOfFuel) 0 6
+    (record { function = omega arith; block = omega arith; word = omega arith }) refl short_of_fuel_holds short_of_fuel_before short_of_fuel_here
 
 param_unkept_0_0_quiet : quiet_below (adding (pos 31) (pos 255) 39) 0 0 0 21 ≡ true
 unfolding quiet_below computed

@@ -64,7 +64,8 @@ abbrev pub SavesOverflow : Type 0
 SavesOverflow =
     (n : ℕ) (parts : Parts) (mmu : MmuRegs) (x : World n Device) (s : State) (r i : ℕ) (f : Three) →
     Stands n parts mmu x s r i → AsksFor parts.words i (Save f) → (IsWrong parts s → ⊥) → r + 1 ≡ n →
-    ((turn_at board n mmu 0 x).event ≡ Trapped window_overflow) × Shows n parts (world_after board n mmu 24 x) s (r - 1) × Advances n parts mmu x s r 25 1 0 r
+    ((turn_at board n mmu 0 x).event ≡ Trapped window_overflow) × Shows n parts (world_after board n mmu 24 x) s (r - 1)
+    × Advances n parts mmu x s r 25 1 0 r
 
 -- A RESTORE where one call has a window: window_underflow and the 23 turns of its handler, after which its caller has
 -- one; and the RESTORE again. It may stand in a delay slot.
@@ -72,4 +73,5 @@ abbrev pub RestoresUnderflow : Type 0
 RestoresUnderflow =
     (n : ℕ) (parts : Parts) (mmu : MmuRegs) (x : World n Device) (s : State) (i : ℕ) (f : Three) →
     Stands n parts mmu x s 1 i → AsksFor parts.words i (Restore f) → (IsWrong parts s → ⊥) →
-    ((turn_at board n mmu 0 x).event ≡ Trapped window_underflow) × Shows n parts (world_after board n mmu 24 x) s 2 × Advances n parts mmu x s 1 25 0 1 1
+    ((turn_at board n mmu 0 x).event ≡ Trapped window_underflow) × Shows n parts (world_after board n mmu 24 x) s 2
+    × Advances n parts mmu x s 1 25 0 1 1

@@ -44,8 +44,10 @@ pub record ShowsCalls (n : ℕ) (v : Windows) (file : Registers) (r : ℕ) : Typ
 
 -- The calls from the r-th on, that have no window of their own, have their locals and ins in their 64 bytes.
 pub record ShowsSaved (file : Registers) (r : ℕ) (ram : List ℕ) : Type 0 where
-  pub locals : (k j : ℕ) → r ≤ k → k < depth file → j < 8 → entry_of ram (area_of (base file k) + 4 * j) ≡ Some (cell file k (8 + j))
-  pub ins : (k j : ℕ) → r ≤ k → k < depth file → j < 8 → entry_of ram (area_of (base file k) + 32 + 4 * j) ≡ Some (cell file (suc k) j)
+  pub locals : (k j : ℕ) → r ≤ k → k < depth file → j < 8 →
+      entry_of ram (area_of (base file k) + 4 * j) ≡ Some (cell file k (8 + j))
+  pub ins : (k j : ℕ) → r ≤ k → k < depth file → j < 8 →
+      entry_of ram (area_of (base file k) + 32 + 4 * j) ≡ Some (cell file (suc k) j)
 
 -- A slot is the word of RAM at its address.
 pub record ShowsSlot (file : Registers) (ram : List ℕ) (k a w : ℕ) : Type 0 where

@@ -38,7 +38,8 @@ ReachesData parts (Some access) = is_own_data_page parts access.store (access.va
 -- the 64 bytes of an open call
 abbrev pub ReachesCall : Registers → Option DataAccess → Type 0
 ReachesCall file None = Unit
-ReachesCall file (Some access) = (k : ℕ) × (k < depth file) × (base file k ≤ access.va) × (access.va + bytes_in access.size ≤ base file k + 64)
+ReachesCall file (Some access) = (k : ℕ) × (k < depth file) × (base file k ≤ access.va)
+    × (access.va + bytes_in access.size ≤ base file k + 64)
 
 -- the instructions that may take a window trap
 abbrev pub moves_window : Operation → Bool

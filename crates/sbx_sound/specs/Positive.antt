@@ -16,7 +16,8 @@ abbrev pub left_at : Parts → ℕ → ℕ → ℕ → Cells → ℤ
 left_at parts f b i start = form_value start (fuel_at parts f b) -ℤ pos (weight_to parts f b i)
 
 abbrev pub IsPositive : Parts → Type 0
-IsPositive parts = (f b i : ℕ) (start : Cells) → IsPlace parts f b i → InCells (state_at parts f b 0) start → pos 1 ≤ℤ left_at parts f b i start
+IsPositive parts = (f b i : ℕ) (start : Cells) → IsPlace parts f b i → InCells (state_at parts f b 0) start →
+    pos 1 ≤ℤ left_at parts f b i start
 
 abbrev pub FuelStaysPositive : Type 0
 FuelStaysPositive = (parts : Parts) → IsFormed parts → Checked parts → IsPositive parts

@@ -24,7 +24,8 @@ fn take_line(
     requires windows { windows ≤ 32 }
     requires fit { IsFit windows start.old }
     ensures said { MatchResult result
-        (λ next. (item : Item) × (item_of windows line.now ≡ Ok item) × (said next start.new ≡ set (said window start.old) item))
+        (λ next. (item : Item) × (item_of windows line.now ≡ Ok item)
+        × (said next start.new ≡ set (said window start.old) item))
         (λ cause. cause ≢ Cause.Memory refused → item_of windows line.now ≡ Err cause) }
     ensures fit { IsFit windows start.new }
 {

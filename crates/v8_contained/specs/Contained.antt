@@ -125,7 +125,8 @@ pub record Contents : Type 0 where
 
 -- The pages of data that may not be written hold these bytes, and 0 past their end.
 abbrev pub HasFixed : Pages → List ℕ → List ℕ → Type 0
-HasFixed g bytes ram = (i : ℕ) → i < PAGE * data_count g → is_writable g (i / PAGE) ≡ false → slice_index ram (DATA_PLACE + i) ≡ slice_index bytes i
+HasFixed g bytes ram = (i : ℕ) → i < PAGE * data_count g → is_writable g (i / PAGE) ≡ false →
+    slice_index ram (DATA_PLACE + i) ≡ slice_index bytes i
 
 -- what stays as it was loaded: tables, R and M aside, trap table, handlers, code, and the pages of data that may not be
 -- written

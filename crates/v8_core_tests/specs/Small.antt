@@ -59,7 +59,8 @@ stored_with d (Some ram) = Some (ram, d)
 stored_with d None = None
 
 abbrev pub small_store : List ℕ → Option Stop → ℕ → Size → ℕ → Option (List ℕ × Option Stop)
-small_store ram d at size v = if is_device at size then Some (ram, Some (Exit v)) else stored_with d (ram_store ram at size v)
+small_store ram d at size v = if is_device at size then Some (ram, Some (Exit v)) else stored_with d
+    (ram_store ram at size v)
 
 abbrev pub small_swap : List ℕ → Option Stop → ℕ → Size → ℕ → Option (ℕ × List ℕ × Option Stop)
 small_swap ram d at size v = exchanged_after small_store ram at size v (small_load ram d at size)

@@ -226,7 +226,8 @@ mapped_markable g ram l few va =
     (one_more (within 0xF0010000 0xF0011000 va) (mapped (va - 0xF0010000 + 0x100000000) 7 0x2D40) None (CanMark ram)
     (λ e. (0x1000001E, system_markable g ram l 16 0x1000001E (omega arith) refl refl (omega arith))) tt)))))
 
-keep_if : (n : ℕ) (g : Pages) (words ram : List ℕ) (store : Bool) → IsLoaded n g words ram → (o : Option Mapped) → IfSome o (CanMark ram) → IfSome o (λ p. IsLoaded n g words (marked_ram ram p.place store))
+keep_if : (n : ℕ) (g : Pages) (words ram : List ℕ) (store : Bool) → IsLoaded n g words ram → (o : Option Mapped) → IfSome o (CanMark ram) →
+    IfSome o (λ p. IsLoaded n g words (marked_ram ram p.place store))
 keep_if n g words ram store l None h = tt
 keep_if n g words ram store l (Some p) h = mark_keeps n g words ram p.place h.0 store l h.1
 

@@ -17,7 +17,8 @@ IsMapped g ram = (va : ℕ) (a : Access) → va < 2 ^ 32 → walked ram CONTEXT_
 -- RAM of the same size whose table words are the same but for R and M
 pub record SameTables (old new : List ℕ) : Type 0 where
   pub size : length new ≡ length old
-  pub words : (p : ℕ) → CONTEXT_TABLE ≤ p → p < TABLES_END → p % 4 ≡ 0 → IsSomeAnd (entry_of old p) (λ w. IsSomeAnd (entry_of new p) (λ x. unmarked x ≡ unmarked w))
+  pub words : (p : ℕ) → CONTEXT_TABLE ≤ p → p < TABLES_END → p % 4 ≡ 0 →
+      IsSomeAnd (entry_of old p) (λ w. IsSomeAnd (entry_of new p) (λ x. unmarked x ≡ unmarked w))
 
 -- the tables spell the address map
 abbrev pub TablesMap : Type 0
@@ -39,7 +40,8 @@ user_store = record { user = true; kind = Store }
 -- it may load exactly where what is there may be read, and store exactly where it may be written
 abbrev pub RightsHold : Type 0
 RightsHold = (g : Pages) (ram : List ℕ) (va : ℕ) → AreFew g → HasTables g ram → va < 2 ^ 32 →
-    (is_ok (walked ram CONTEXT_TABLE va user_load) ≡ may_be_read g va) × (is_ok (walked ram CONTEXT_TABLE va user_store) ≡ may_be_written g va)
+    (is_ok (walked ram CONTEXT_TABLE va user_load) ≡ may_be_read g va)
+    × (is_ok (walked ram CONTEXT_TABLE va user_store) ≡ may_be_written g va)
 
 -- A store where what is there may be read and not written is forbidden by the page's entry, which is one of level 3:
 -- fault type 2, access type 4, a store to user data.
@@ -52,4 +54,5 @@ StoresAreForbidden = (g : Pages) (ram : List ℕ) (va : ℕ) → AreFew g → Ha
 
 -- a mark on the entry of a page that is mapped
 abbrev pub MarksKeep : Type 0
-MarksKeep = (n : ℕ) (g : Pages) (words ram : List ℕ) (va : ℕ) (store : Bool) → AreFew g → IsLoaded n g words ram → IfSome (page_at g va) (λ p. IsLoaded n g words (marked_ram ram p.place store))
+MarksKeep = (n : ℕ) (g : Pages) (words ram : List ℕ) (va : ℕ) (store : Bool) → AreFew g → IsLoaded n g words ram →
+    IfSome (page_at g va) (λ p. IsLoaded n g words (marked_ram ram p.place store))

@@ -29,12 +29,14 @@ ReachesDevice (Some access) = access.va / PAGE ≡ DEVICE / PAGE
 -- a double word in so many bytes from an address on, which is stored or loaded
 abbrev pub ReachesArea : ℕ → ℕ → Bool → Option DataAccess → Type 0
 ReachesArea from count store None = Unit
-ReachesArea from count store (Some access) = (from ≤ access.va) × (access.va < from + count) × (access.va % 8 ≡ 0) × (access.size ≡ Double) × (access.store ≡ store)
+ReachesArea from count store (Some access) = (from ≤ access.va) × (access.va < from + count) × (access.va % 8 ≡ 0)
+    × (access.size ≡ Double) × (access.store ≡ store)
 
 -- What a turn touches, by its mode, place and access: user code is fetched from the code's pages, and reaches no data;
 -- a vector is fetched from the page of the trap table, and reaches the device alone.
 abbrev pub Touches : Pages → Bool → ℕ → Option DataAccess → Type 0
-Touches g true pc access = (CODE_START / PAGE ≤ pc / PAGE) × (pc / PAGE < CODE_START / PAGE + g.code_count) × (access ≡ None)
+Touches g true pc access = (CODE_START / PAGE ≤ pc / PAGE) × (pc / PAGE < CODE_START / PAGE + g.code_count)
+    × (access ≡ None)
 Touches g false pc access = (pc / PAGE ≡ TRAP_TABLE / PAGE) × ReachesDevice access
 
 -- A turn of a window trap's vector or of its handler. It ran in supervisor mode, in the page of the trap table or of

@@ -32,4 +32,5 @@ abbrev pub UnderflowMarks : Type 0
 UnderflowMarks =
     (n : ℕ) (g : Pages) (words : List ℕ) (mmu : MmuRegs) (x : World n Device) (k i : ℕ) → Underflows n g words mmu x k →
     HasFrame g x.memory.ram (refilled_pointer n x.cpu) → i < 192 →
-    entry_at (world_after board n mmu 24 x).memory.ram i ≡ after_handler i x.cpu.control.pc (refilled_pointer n x.cpu) false (entry_at x.memory.ram i)
+    entry_at (world_after board n mmu 24 x).memory.ram i ≡
+    after_handler i x.cpu.control.pc (refilled_pointer n x.cpu) false (entry_at x.memory.ram i)

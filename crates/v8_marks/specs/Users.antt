@@ -35,7 +35,8 @@ UsersMark =
 
 -- so many turns after it was called, the entries are those after the fetch of the call
 abbrev pub MarksTheCall : (n : ℕ) → MmuRegs → World n Device → ℕ → Type 0
-MarksTheCall n mmu x turns = (i : ℕ) → i < 192 → entry_at (world_after board n mmu turns x).memory.ram i ≡ reached i x.cpu.control.pc false (entry_at x.memory.ram i)
+MarksTheCall n mmu x turns = (i : ℕ) → i < 192 →
+    entry_at (world_after board n mmu turns x).memory.ram i ≡ reached i x.cpu.control.pc false (entry_at x.memory.ram i)
 
 -- exit, and get and put, which come back
 abbrev pub ServicesMark : Type 0

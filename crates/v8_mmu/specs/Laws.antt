@@ -21,7 +21,8 @@ OnePage = (ram : List ℕ) (root va : ℕ) (f g : Found) → LeadsTo ram root va
 
 -- an address that leads to a page doesn't end without one
 abbrev pub NoEndOnPath : Type 0
-NoEndOnPath = (ram : List ℕ) (root va ft level : ℕ) (f : Found) → LeadsTo ram root va f → ¬ (LeadsNowhere ram root va ft level)
+NoEndOnPath =
+    (ram : List ℕ) (root va ft level : ℕ) (f : Found) → LeadsTo ram root va f → ¬ (LeadsNowhere ram root va ft level)
 
 -- there is at most one path
 abbrev pub OnePath : Type 0
@@ -30,11 +31,14 @@ OnePath = (ram : List ℕ) (root va : ℕ) (a : Access) (f g : Found) → Transl
 
 -- there is at most one fault
 abbrev pub OneFault : Type 0
-OneFault = (ram : List ℕ) (root va : ℕ) (a : Access) (d e : MmuFault) → Faults ram root va a d → Faults ram root va a e → d ≡ e
+OneFault = (ram : List ℕ) (root va : ℕ) (a : Access) (d e : MmuFault) → Faults ram root va a d →
+    Faults ram root va a e → d ≡ e
 
 -- where there is a path, there is no fault
 abbrev pub NoFaultOnPath : Type 0
-NoFaultOnPath = (ram : List ℕ) (root va : ℕ) (a : Access) (f : Found) (e : MmuFault) → Translates ram root va a f → ¬ (Faults ram root va a e)
+NoFaultOnPath =
+    (ram : List ℕ) (root va : ℕ) (a : Access) (f : Found)
+    (e : MmuFault) → Translates ram root va a f → ¬ (Faults ram root va a e)
 
 -- R (bit 5) is set, and M (bit 6) for a store; every other bit of the entry, and of RAM, is as before
 pub record Marks (ram : List ℕ) (at w : ℕ) (store : Bool) : Type 0 where
@@ -54,7 +58,8 @@ MarksTwoBits = (ram : List ℕ) (at w : ℕ) (store : Bool) → entry_of ram at 
 pub record Stores (ram : List ℕ) (at v : ℕ) (width : Size) : Type 0 where
   pub read : number_at (with_number ram at width v) at width ≡ Some v
   pub size : length (with_number ram at width v) ≡ length ram
-  pub others : (j : ℕ) → (j < at) ⊎ (at + bytes_in width ≤ j) → slice_index (with_number ram at width v) j ≡ slice_index ram j
+  pub others : (j : ℕ) → (j < at) ⊎ (at + bytes_in width ≤ j) →
+      slice_index (with_number ram at width v) j ≡ slice_index ram j
   pub words : KeepsWords ram (with_number ram at width v) at (bytes_in width)
 
 abbrev pub StoresOneNumber : Type 0

@@ -50,7 +50,8 @@ HasSyntax _ = Unit {0}
 
 -- a line has tokens, and is a statement of this one instruction, whatever its names are worth and wherever it stands
 abbrev pub IsReadAs : List ℕ → Instr → Type 0
-IsReadAs line i = (tokens : List Token) × (tokens_of line ≡ Ok tokens) × ((values : List ℕ → Option ℕ) (here : ℕ) → source_meaning values here line tokens ≡ Ok (i ∷ []))
+IsReadAs line i = (tokens : List Token) × (tokens_of line ≡ Ok tokens)
+    × ((values : List ℕ → Option ℕ) (here : ℕ) → source_meaning values here line tokens ≡ Ok (i ∷ []))
 
 -- what a word means, printed and read again
 abbrev pub ReadsEachTextBack : Type 0
@@ -58,7 +59,8 @@ ReadsEachTextBack = (w : ℕ) → w < 2 ^ 32 → HasSyntax (meaning w) → IsRea
 
 -- a line has tokens, whose mnemonic is unknown
 abbrev pub IsNotRead : List ℕ → Type 0
-IsNotRead line = (tokens : List Token) × (tokens_of line ≡ Ok tokens) × ((values : List ℕ → Option ℕ) (here : ℕ) → source_meaning values here line tokens ≡ Err UnknownMnemonic)
+IsNotRead line = (tokens : List Token) × (tokens_of line ≡ Ok tokens)
+    × ((values : List ℕ → Option ℕ) (here : ℕ) → source_meaning values here line tokens ≡ Err UnknownMnemonic)
 
 -- a bare `.word` is taken for no instruction
 abbrev pub RefusesEachBareWord : Type 0

@@ -46,7 +46,8 @@ pub record Spills (n : ℕ) (old new : Cpu n) : Type 0 where
 -- loaded; the device is as it was.
 pub record Spilled (n : ℕ) (g : Pages) (words : List ℕ) (old new : World n Device) (i : ℕ) : Type 0 where
   pub cpu : Spills n old.cpu new.cpu
-  pub stored : IsFrame old.cpu.regs (spilled_window n old.cpu) (entered_window n old.cpu) (area_of (stack_pointer n old.cpu)) new.memory.ram
+  pub stored : IsFrame old.cpu.regs (spilled_window n old.cpu) (entered_window n old.cpu)
+      (area_of (stack_pointer n old.cpu)) new.memory.ram
   pub frame : HasFrame g new.memory.ram (stack_pointer n old.cpu)
   pub ram : SameBut i (area_of (stack_pointer n old.cpu)) 64 old.memory.ram new.memory.ram
   pub loaded : IsLoaded n g words new.memory.ram

@@ -63,13 +63,17 @@ abbrev pub exited : (n : ℕ) → World n Device → ℕ → World n Device
 exited n x i =
     world n (in_vector n x.cpu 0x80 (vector_registers n x.cpu.regs x.cpu.control.pc x.cpu.control.npc)
     (TRAP_TABLE + 0x808) (TRAP_TABLE + 0x80C))
-    (vector_marked i true x.memory.ram) (record x.memory.device { stopped = Some (Exit (reg_of n x.cpu.regs service_register)) })
+    (vector_marked i true x.memory.ram) (record x.memory.device {
+      stopped =
+          Some (Exit (reg_of n x.cpu.regs service_register));
+    })
 
 -- %o0 has the next byte of input, or all ones at its end
 abbrev pub got : (n : ℕ) → World n Device → ℕ → World n Device
 got n x i =
     world n (record {
-      regs = with_reg n (scratched n x.cpu.regs x.cpu.control.pc x.cpu.control.npc) service_register (gets x.memory.device).0;
+      regs = with_reg n
+          (scratched n x.cpu.regs x.cpu.control.pc x.cpu.control.npc) service_register (gets x.memory.device).0;
       control = returned_from x.cpu.control 0x81;
     }) (table_marked (table_marked (vector_marked i false x.memory.ram))) (gets x.memory.device).1
 

@@ -51,7 +51,8 @@ pub record Refills (n : ℕ) (old new : Cpu n) : Type 0 where
 -- the trap table, the handlers and the code are as loaded; the device is as it was.
 pub record Refilled (n : ℕ) (g : Pages) (words : List ℕ) (old new : World n Device) (i : ℕ) : Type 0 where
   pub cpu : Refills n old.cpu new.cpu
-  pub window : IsFrame new.cpu.regs (refilled_window n old.cpu) (next_window n old.cpu) (area_of (stack_pointer n old.cpu)) old.memory.ram
+  pub window : IsFrame new.cpu.regs (refilled_window n old.cpu) (next_window n old.cpu)
+      (area_of (stack_pointer n old.cpu)) old.memory.ram
   pub ram : SameBut i (area_of (stack_pointer n old.cpu)) 0 old.memory.ram new.memory.ram
   pub loaded : IsLoaded n g words new.memory.ram
   pub device : new.memory.device ≡ old.memory.device

@@ -120,8 +120,10 @@ pub fn read_memory<'t, S: Symbols>(
     tokens: &'t [Token],
 ) -> Read<'t, Filled>
     ensures { MatchOption result
-        (read (S.values symbols.now) (S.place symbols.now) line.now parts.Memory (statement_tokens line.now tokens.now) ≡ None)
-        (λ x. read (S.values symbols.now) (S.place symbols.now) line.now parts.Memory (statement_tokens line.now tokens.now) ≡
+        (read (S.values symbols.now) (S.place symbols.now) line.now parts.Memory
+        (statement_tokens line.now tokens.now) ≡ None)
+        (λ x. read (S.values symbols.now) (S.place symbols.now) line.now parts.Memory
+        (statement_tokens line.now tokens.now) ≡
         Some (x.0, statement_tokens line.now x.1.now)) }
 {
     let inner = after_sign(b'[', line, tokens)?;
@@ -138,7 +140,8 @@ pub fn read_elsewhere<'t, S: Symbols>(
     tokens: &'t [Token],
 ) -> Read<'t, Filled>
     ensures { MatchOption result
-        (read (S.values symbols.now) (S.place symbols.now) line.now parts.Elsewhere (statement_tokens line.now tokens.now) ≡
+        (read (S.values symbols.now) (S.place symbols.now) line.now parts.Elsewhere
+        (statement_tokens line.now tokens.now) ≡
         None) (λ x. read (S.values symbols.now) (S.place symbols.now) line.now parts.Elsewhere
         (statement_tokens line.now tokens.now) ≡ Some (x.0, statement_tokens line.now x.1.now)) }
 {

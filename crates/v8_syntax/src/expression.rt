@@ -90,7 +90,8 @@ pub fn special_first<'t>(line: &[u8], tokens: &'t [Token]) -> Read<'t, Special>
 /// A number behind a sign, and what follows it.
 pub fn number_after<'t>(sign: u8, line: &[u8], tokens: &'t [Token]) -> Read<'t, u64>
     ensures { MatchOption result (read_behind sign number_first (statement_tokens line.now tokens.now) ≡ None)
-        (λ x. read_behind sign number_first (statement_tokens line.now tokens.now) ≡ Some (x.0, statement_tokens line.now x.1.now)) }
+        (λ x. read_behind sign number_first (statement_tokens line.now tokens.now) ≡
+        Some (x.0, statement_tokens line.now x.1.now)) }
 {
     number_first(line, after_sign(sign, line, tokens)?)
 }

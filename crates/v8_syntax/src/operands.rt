@@ -20,7 +20,8 @@ use v8_forms::{Part, annul_bit, low_bits, operand_bits, scale, special_number};
 /// What follows `,a`, which annuls.
 fn after_annul<'t>(line: &[u8], tokens: &'t [Token]) -> Option<&'t [Token]>
     ensures { MatchOption result (read_behind 44 annul_first (statement_tokens line.now tokens.now) ≡ None)
-        (λ rest. read_behind 44 annul_first (statement_tokens line.now tokens.now) ≡ Some (true, statement_tokens line.now rest.now)) }
+        (λ rest. read_behind 44 annul_first (statement_tokens line.now tokens.now) ≡
+        Some (true, statement_tokens line.now rest.now)) }
 {
     match front(line, after_sign(b',', line, tokens)?) {
         Some((StatementToken::Name(NameKind::Annul, _, _), rest)) => Some(rest),
@@ -38,8 +39,10 @@ fn read_target<'t, S: Symbols>(
 ) -> Read<'t, Filled>
     requires { 2 ≤ reach }
     ensures { MatchOption result
-        (target (S.values symbols.now) (S.place symbols.now) line.now reach annul (statement_tokens line.now tokens.now) ≡ None)
-        (λ x. target (S.values symbols.now) (S.place symbols.now) line.now reach annul (statement_tokens line.now tokens.now) ≡
+        (target (S.values symbols.now) (S.place symbols.now) line.now reach annul
+        (statement_tokens line.now tokens.now) ≡ None)
+        (λ x. target (S.values symbols.now) (S.place symbols.now) line.now reach annul
+        (statement_tokens line.now tokens.now) ≡
         Some (x.0, statement_tokens line.now x.1.now)) }
 {
     let (place, rest) = read_expression(symbols, line, tokens)?;
@@ -51,8 +54,10 @@ fn read_target<'t, S: Symbols>(
 #[tactic(auto, unfolding(crate::specs::Statements::read))]
 fn read_branch<'t, S: Symbols>(symbols: &S, line: &[u8], tokens: &'t [Token]) -> Read<'t, Filled>
     ensures { MatchOption result
-        (read (S.values symbols.now) (S.place symbols.now) line.now parts.Branch (statement_tokens line.now tokens.now) ≡ None)
-        (λ x. read (S.values symbols.now) (S.place symbols.now) line.now parts.Branch (statement_tokens line.now tokens.now) ≡
+        (read (S.values symbols.now) (S.place symbols.now) line.now parts.Branch
+        (statement_tokens line.now tokens.now) ≡ None)
+        (λ x. read (S.values symbols.now) (S.place symbols.now) line.now parts.Branch
+        (statement_tokens line.now tokens.now) ≡
         Some (x.0, statement_tokens line.now x.1.now)) }
 {
     match after_annul(line, tokens) {
@@ -69,8 +74,10 @@ fn read<'t, S: Symbols>(
     tokens: &'t [Token],
 ) -> Read<'t, Filled>
     ensures { MatchOption result
-        (read (S.values symbols.now) (S.place symbols.now) line.now part.now (statement_tokens line.now tokens.now) ≡ None)
-        (λ x. read (S.values symbols.now) (S.place symbols.now) line.now part.now (statement_tokens line.now tokens.now) ≡
+        (read (S.values symbols.now) (S.place symbols.now) line.now part.now (statement_tokens line.now tokens.now) ≡
+        None)
+        (λ x. read (S.values symbols.now) (S.place symbols.now) line.now part.now
+        (statement_tokens line.now tokens.now) ≡
         Some (x.0, statement_tokens line.now x.1.now)) }
 {
     match part {
@@ -111,8 +118,10 @@ fn added(first: Filled, second: Filled) -> Filled
 /// The operands behind commas, to the end of the statement.
 fn behind<S: Symbols>(parts: &[Part], symbols: &S, line: &[u8], tokens: &[Token]) -> Option<Filled>
     ensures { MatchOption result
-        (behind (S.values symbols.now) (S.place symbols.now) line.now parts.now (statement_tokens line.now tokens.now) ≡ None)
-        (λ x. behind (S.values symbols.now) (S.place symbols.now) line.now parts.now (statement_tokens line.now tokens.now) ≡
+        (behind (S.values symbols.now) (S.place symbols.now) line.now parts.now (statement_tokens line.now tokens.now) ≡
+        None)
+        (λ x. behind (S.values symbols.now) (S.place symbols.now) line.now parts.now
+        (statement_tokens line.now tokens.now) ≡
         Some (x, [])) }
 {
     match parts.split_first() {
@@ -133,7 +142,8 @@ pub fn operands_of<S: Symbols>(
     tokens: &[Token],
 ) -> Option<Filled>
     ensures { MatchOption result
-        (operands_of (S.values symbols.now) (S.place symbols.now) line.now parts.now (statement_tokens line.now tokens.now) ≡
+        (operands_of (S.values symbols.now) (S.place symbols.now) line.now parts.now
+        (statement_tokens line.now tokens.now) ≡
         None) (λ x. operands_of (S.values symbols.now) (S.place symbols.now) line.now parts.now
         (statement_tokens line.now tokens.now) ≡ Some (x, [])) }
 {

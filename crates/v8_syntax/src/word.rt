@@ -183,7 +183,8 @@ pub fn statement_token(line: &[u8], token: &Token) -> StatementToken
 #[tactic(auto, unfolding(crate::specs::Statements::statement_token))]
 pub fn name_first<'l, 't>(line: &'l [u8], tokens: &'t [Token]) -> Option<(&'l [u8], &'t [Token])>
     ensures { MatchOption result (name_first line.now (statement_tokens line.now tokens.now) ≡ None)
-        (λ x. name_first line.now (statement_tokens line.now tokens.now) ≡ Some (x.0.now, statement_tokens line.now x.1.now)) }
+        (λ x. name_first line.now (statement_tokens line.now tokens.now) ≡
+        Some (x.0.now, statement_tokens line.now x.1.now)) }
 {
     let (first, rest) = tokens.split_first()?;
     match first.kind {

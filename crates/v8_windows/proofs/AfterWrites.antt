@@ -146,7 +146,8 @@ global_stays n v (suc r) s x f high low small other =
     ]
 
 -- a window's word stays where another register is written
-word_stays : (n : ℕ) (v : Windows) (r s x : ℕ) → IsFile n v → r < 32 → 8 ≤ s → s < 32 → s ≢ r → word_at (with_reg n v r x) (window_of n v.current s) (place_of s) ≡ word_at v (window_of n v.current s) (place_of s)
+word_stays : (n : ℕ) (v : Windows) (r s x : ℕ) → IsFile n v → r < 32 → 8 ≤ s → s < 32 → s ≢ r →
+    word_at (with_reg n v r x) (window_of n v.current s) (place_of s) ≡ word_at v (window_of n v.current s) (place_of s)
 word_stays n v zero s x f high low small other = ap (λ (u : Windows). word_at u (window_of n v.current s) (place_of s)) (written_zero n v x)
 word_stays n v (suc r) s x f high low small other =
     let split : (suc r < 8) ⊎ (8 ≤ suc r) = search arith in

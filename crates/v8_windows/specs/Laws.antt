@@ -8,7 +8,8 @@ ReadsWritten = (n : ℕ) (v : Windows) (r x : ℕ) → IsFile n v → 1 ≤ r �
 
 -- every other register reads as before
 abbrev pub ReadsOthers : Type 0
-ReadsOthers = (n : ℕ) (v : Windows) (r s x : ℕ) → IsFile n v → r < 32 → s < 32 → s ≢ r → reg_of n (with_reg n v r x) s ≡ reg_of n v s
+ReadsOthers = (n : ℕ) (v : Windows) (r s x : ℕ) → IsFile n v → r < 32 → s < 32 → s ≢ r →
+    reg_of n (with_reg n v r x) s ≡ reg_of n v s
 
 -- a write changes one place of the map
 abbrev pub WritesOnePlace : Type 0
@@ -17,4 +18,5 @@ WritesOnePlace = (n : ℕ) (v : Windows) (r x w k : ℕ) → IsFile n v → 8 �
 
 -- the outs of a window are the ins of the window below
 abbrev pub OutsAreIns : Type 0
-OutsAreIns = (n : ℕ) (v : Windows) (r : ℕ) → IsFile n v → 8 ≤ r → r < 16 → reg_of n (moved v (below n v.current)) (r + 16) ≡ reg_of n v r
+OutsAreIns = (n : ℕ) (v : Windows) (r : ℕ) → IsFile n v → 8 ≤ r → r < 16 →
+    reg_of n (moved v (below n v.current)) (r + 16) ≡ reg_of n v r
