@@ -19,8 +19,8 @@ use Rattle.sbx_shows.proofs.Ending.{runs_to_its_end}
 use Rattle.sbx_run.specs.Answer.{EndsOn, IsAnswer, IsFlatEnd, KeepsItsDepth, told_of}
 use Rattle.sbx_run.specs.declared.runner.Finished.{Finished}
 use Rattle.sbx_run.proofs.Again.{is_any, loaded_again, with_device}
-use Rattle.sbx_marks.specs.Reuse.{Ran}
-use Rattle.sbx_marks.proofs.Law.{runs_use_the_same}
+use Rattle.sbx_batch.specs.Reuse.{Ran}
+use Rattle.sbx_batch.proofs.Law.{runs_use_the_same}
 use Rattle.sbx_batch.specs.Batches.{IsNext, ended_of, with_input}
 
 -- ---- two flat ends

@@ -14,10 +14,10 @@ use Rattle.sbx_flat.specs.Runs.{budget}
 use Rattle.sbx_shows.proofs.Induction.{board_is}
 use Rattle.sbx_shows.proofs.Start.{boot, flat_start, is_flat_start, start_shows}
 use Rattle.sbx_run.proofs.Ends.{same_end}
-use Rattle.sbx_marks.specs.Reuse.{Ran, RunsUseTheSamePages}
-use Rattle.sbx_marks.proofs.Flats.{begin_beside}
-use Rattle.sbx_marks.proofs.Pairs.{both_end}
-use Rattle.sbx_marks.proofs.Uses.{SameEntries, uses_same}
+use Rattle.sbx_batch.specs.Reuse.{Ran, RunsUseTheSamePages}
+use Rattle.sbx_batch.proofs.Flats.{begin_beside}
+use Rattle.sbx_batch.proofs.Pairs.{both_end}
+use Rattle.sbx_batch.proofs.Uses.{SameEntries, uses_same}
 
 -- loading writes the entries anew
 start_entry : (n : ℕ) (parts : Parts) (old new other after_it : List ℕ) → IsPlaced n parts old new → IsPlaced n parts other after_it → SameEntries new after_it

@@ -41,9 +41,9 @@ use Rattle.sbx_shows.proofs.Whole.{annulled_turns_keep, user_turns_keep}
 use Rattle.sbx_shows.specs.WholeRuns.{with_earlier}
 use Rattle.sbx_shows.proofs.Earlier.{earlier_place, earlier_step, earlier_wrong}
 use Rattle.sbx_shows.proofs.Ending.{located}
-use Rattle.sbx_marks.proofs.Flats.{Beside, bound, never_wrong, same_bases, same_exit, same_place, step_beside}
-use Rattle.sbx_marks.proofs.Turns.{annulled_marks, caller_there, calm_marks, fill_marks, flat_reach, spill_marks}
-use Rattle.sbx_marks.proofs.Uses.{SameEntries}
+use Rattle.sbx_batch.proofs.Flats.{Beside, bound, never_wrong, same_bases, same_exit, same_place, step_beside}
+use Rattle.sbx_batch.proofs.Turns.{annulled_marks, caller_there, calm_marks, fill_marks, flat_reach, spill_marks}
+use Rattle.sbx_batch.proofs.Uses.{SameEntries}
 
 -- ---- the same place
 

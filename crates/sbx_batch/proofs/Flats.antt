@@ -14,7 +14,7 @@ use Rattle.sbx_sound.proofs.Safe.{Pair}
 use Rattle.sbx_sound.proofs.Shared.{Lent, Open, Own, ShowsCalls, ShowsFile, Window}
 use Rattle.sbx_sound.proofs.Start.{begins, calm_start}
 use Rattle.sbx_sound.proofs.Whole.{rules}
-use Rattle.sbx_marks.proofs.Places.{kept}
+use Rattle.sbx_batch.proofs.Places.{kept}
 
 -- ---- bases
 

@@ -1,5 +1,0 @@
-use Rattle.sbx_marks.proofs.Law.{runs_use_the_same}
-use Rattle.sbx_marks.proofs.laws.runs_use_the_same_pages.Goals as goal
-
-pub returns : goal.returns
-returns c = runs_use_the_same
