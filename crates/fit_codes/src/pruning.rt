@@ -4,7 +4,7 @@ use fit_graph::order_of;
 use std::alloc::{AllocError, Global};
 
 /// Where an end goes by other numbers of blocks.
-fn moved(end: End, numbers: &[usize]) -> End {
+pub(crate) fn moved(end: End, numbers: &[usize]) -> End {
     let to = |block: usize| numbers.get(block).copied().unwrap_or(0);
     match end {
         End::Jump(block) => End::Jump(to(block)),

@@ -5,7 +5,9 @@
 mod dominators;
 mod graph;
 mod loops;
+mod tangles;
 
 pub use dominators::{Dominators, dominators_of};
 pub use graph::{Order, order_of, predecessors_of, successors_in};
 pub use loops::{Loop, enters_beside_head, loops_of};
+pub use tangles::{Tangle, reached_from, successors_of, tangle_of};
