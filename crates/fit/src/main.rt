@@ -6,7 +6,7 @@ mod words;
 
 use fit_gas::Source;
 use fit_legal::program_of;
-use fit_passes::{Fault, Made, NO_LINE, Plan, Reason, make};
+use fit_passes::{Fault, Made, Plan, Reason, make};
 use sbx_put::put_through;
 use std::alloc::Global;
 use std::fs::File;
@@ -167,15 +167,8 @@ fn tell_fault(rt: &HostRuntime, fault: &Fault, files: &[String]) -> u8 {
         let _ = eprintln!(rt; "memory");
         return 5;
     }
-    let place = fault.line;
-    if place != NO_LINE
-        && let Some(file) = files.get(place.file)
-    {
-        let number = place.number;
-        let _ = eprint!(rt; "{file}:{number}: ");
-    }
-    let reason = &fault.reason;
-    let _ = eprintln!(rt; "refused: {reason}");
+    let shown = fault.shown(files);
+    let _ = eprintln!(rt; "{shown}");
     2
 }
 

@@ -53,6 +53,9 @@ impl Naming {
     }
 }
 
+/// Sums of turns that pass this number stay there.
+const STAYS: u64 = 0x7fff_ffff_ffff_ffff;
+
 /// Why a program is refused.
 #[derive(Drop)]
 pub enum Reason {
@@ -68,6 +71,12 @@ pub enum Reason {
         what: &'static str,
         count: u64,
         most: u64,
+    },
+    /// A function's budget, of so many turns, is 2^40 or more. Where `is_loop`, the fault's line is that of the loop
+    /// that may take the most of it.
+    Budget {
+        turns: u64,
+        is_loop: bool,
     },
     /// A line that can't be read.
     Unreadable(&'static str),
@@ -97,7 +106,7 @@ impl Fault {
         Fault { line, reason }
     }
 
-    /// The fault as one line, with the name of its file.
+    /// The fault as one line, with the names of its files.
     pub fn shown<'f>(&'f self, files: &'f [String]) -> Shown<'f> {
         Shown { fault: self, files }
     }
@@ -130,6 +139,10 @@ impl fmt::Display for Reason {
                 f,
                 "{what} would be {count}, above {most}"
             ),
+            Reason::Budget { turns, .. } => {
+                let least = if *turns < STAYS { "" } else { "at least " };
+                write!(f, "the budget would be {least}{turns}, above 2^40")
+            }
             Reason::Unreadable(what) => f.write_str(what),
             Reason::Named(naming, name) => {
                 let (before, after) = naming.text();
@@ -153,15 +166,31 @@ pub struct Shown<'f> {
     files: &'f [String],
 }
 
+impl Shown<'_> {
+    /// The name of the fault's file and the number of its line, where they are known.
+    fn place(&self) -> Option<(&str, u32)> {
+        let Line { file, number } = self.fault.line;
+        match self.files.get(file) {
+            Some(name) if number > 0 => Some((name.as_str(), number)),
+            _ => None,
+        }
+    }
+}
+
 impl fmt::Display for Shown<'_> {
     fn fmt<W: Write>(&self, f: &mut Formatter<W>) -> Result<(), Error> {
-        let Line { file, number } = self.fault.line;
-        if number > 0
-            && let Some(name) = self.files.get(file)
-        {
+        let place = self.place();
+        if let Some((name, number)) = place {
             write!(f, "{name}:{number}: ")?;
         }
         let reason = &self.fault.reason;
-        write!(f, "{reason}")
+        write!(f, "refused: {reason}")?;
+        let Reason::Budget { is_loop, .. } = reason else {
+            return Ok(());
+        };
+        if *is_loop && let Some((name, number)) = place {
+            write!(f, ": the loop at {name}:{number} may take the most of it")?;
+        }
+        f.write_str(": ask for fewer turns, or let loops have fewer rounds")
     }
 }

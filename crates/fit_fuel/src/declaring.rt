@@ -147,17 +147,13 @@ fn too_great(
         ways: ways.as_slice(),
         constants: fuel.constants.as_slice(),
     };
-    let (line, what) = match dearest_loop(setting.alloc, function, bill)? {
-        Some(line) => (
-            line,
-            "the budget, of which the loop here may take the most,",
-        ),
-        None => (function.line, "the budget"),
+    let (line, is_loop) = match dearest_loop(setting.alloc, function, bill)? {
+        Some(line) => (line, true),
+        None => (function.line, false),
     };
-    let reason = Reason::TooGreat {
-        what,
-        count: budget,
-        most: BOUND - 1,
+    let reason = Reason::Budget {
+        turns: budget,
+        is_loop,
     };
     Ok(Fault::new(line, reason))
 }

@@ -3,7 +3,7 @@ use fit_arguments::{Arguments, place_arguments};
 use fit_blocks::{function_of, result_register};
 use fit_calls::order_of_calls;
 use fit_code::{End, Fault, Function, NO_LINE, Program, Reason, Step};
-use fit_codes::{prune, repeat_compares};
+use fit_codes::{give_one_entry, prune, repeat_compares};
 use fit_frames::place_frame;
 use fit_gas::{Code, Linked, Source, links_of};
 use fit_plain::put_plainly;
@@ -136,6 +136,7 @@ impl Legal<'_> {
         let points = points_of(alloc, self.source, self.linked, &self.layout, code)?;
         let mut function = function_of(alloc, &points)?;
         prune(alloc, &mut function)?;
+        give_one_entry(alloc, &mut function)?;
         place_arguments(
             &points,
             number,

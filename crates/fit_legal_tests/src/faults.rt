@@ -5,87 +5,87 @@ use crate::told::are_told;
 static REFUSED: [(&str, &str); 20] = [
     (
         " save %sp,-96,%sp\n call main\n nop\n ret\n restore",
-        "t.s:6: recursion: main calls main",
+        "t.s:6: refused: recursion: main calls main",
     ),
     (
         " save %sp,-96,%sp\n call g\n nop\n ret\n restore",
-        "t.s:6: g isn't defined",
+        "t.s:6: refused: g isn't defined",
     ),
     (
         " save %sp,-96,%sp\n sub %sp,%i0,%sp\n ret\n restore",
-        "t.s:6: main: an array of a size that isn't constant",
+        "t.s:6: refused: main: an array of a size that isn't constant",
     ),
     (
         " save %sp,-96,%sp\n ret\n nop",
-        "t.s:6: main: a return without RESTORE in its slot",
+        "t.s:6: refused: main: a return without RESTORE in its slot",
     ),
     (
         " b .L1\n b .L1\n.L1:\n retl\n nop",
-        "t.s:5: main: a transfer in a delay slot",
+        "t.s:5: refused: main: a transfer in a delay slot",
     ),
     (
         " nop\n save %sp,-96,%sp\n ret\n restore",
-        "t.s:6: main: a frame of unknown size, or instructions before SAVE",
+        "t.s:6: refused: main: a frame of unknown size, or instructions before SAVE",
     ),
     (
         ".L0:\n save %sp,-96,%sp\n b .L0\n nop",
-        "t.s:7: main: a transfer to what stands before SAVE",
+        "t.s:7: refused: main: a transfer to what stands before SAVE",
     ),
     (
         " jmp %o0\n nop",
-        "t.s:5: a jump through a register: compile without tables of jumps",
+        "t.s:5: refused: a jump through a register: compile without tables of jumps",
     ),
     (
         " be .L1\n nop\n.L1:\n retl\n nop",
-        "t.s:5: main: condition codes of several places, or of numbers that changed since",
+        "t.s:5: refused: main: condition codes of several places, or of numbers that changed since",
     ),
     (
         " add %sp,-96,%sp\n ld [%sp+188],%o0\n retl\n sub %sp,-96,%sp",
-        "t.s:6: main: an access to the stack outside of its frame",
+        "t.s:6: refused: main: an access to the stack outside of its frame",
     ),
     // Calls through pointers, as gcc and as clang write them, with the line of C where it is known.
     (
         " save %sp,-96,%sp\n call %o1\n nop\n ret\n restore",
-        "t.s:6: a call through a pointer: name the function, by a switch",
+        "t.s:6: refused: a call through a pointer: name the function, by a switch",
     ),
     (
         " save %sp,-96,%sp\n jmpl %i0,%o7\n nop\n ret\n restore",
-        "t.s:6: a call through a pointer: name the function, by a switch",
+        "t.s:6: refused: a call through a pointer: name the function, by a switch",
     ),
     (
         " .file 1 \"a.c\"\n .loc 1 7 0\n save %sp,-96,%sp\n .loc 1 9 5\n call %o1\n nop\n ret\n restore",
-        "a.c:9: a call through a pointer: name the function, by a switch",
+        "a.c:9: refused: a call through a pointer: name the function, by a switch",
     ),
     // The address of a function, in a register and in a table.
     (
         " sethi %hi(f),%o0\n retl\n or %o0,%lo(f),%o0\nf:\n retl\n nop",
-        "t.s:5: the address of the function f is taken: name it, by a switch",
+        "t.s:5: refused: the address of the function f is taken: name it, by a switch",
     ),
     (
         " retl\n nop\nf:\n retl\n nop\n.section \".rodata\"\n.align 4\ntable:\n .long f",
-        "t.s:13: the address of the function f is taken: name it, by a switch",
+        "t.s:13: refused: the address of the function f is taken: name it, by a switch",
     ),
     // Floating point, `alloca`, and what inline assembly may hold.
     (
         " fadds %f0,%f1,%f2\n retl\n nop",
-        "t.s:5: floating point, fadds: use integers, or fixed point",
+        "t.s:5: refused: floating point, fadds: use integers, or fixed point",
     ),
     (
         " sub %sp,%o0,%sp\n retl\n nop",
-        "t.s:5: main: an array of a size that isn't constant",
+        "t.s:5: refused: main: an array of a size that isn't constant",
     ),
     (
         " rd %psr,%o0\n retl\n nop",
-        "t.s:5: main: an instruction that sandboxed code may not have",
+        "t.s:5: refused: main: an instruction that sandboxed code may not have",
     ),
     (
         " quux %o0\n retl\n nop",
-        "t.s:5: the instruction quux isn't known, or can't be used here",
+        "t.s:5: refused: the instruction quux isn't known, or can't be used here",
     ),
     // As many bytes as an image's data may have, without room around them.
     (
         " retl\n nop\n.section \".bss\"\n.align 8\nsmall:\n .skip 8\nlarge:\n .skip 262136",
-        "t.s:11: more than 262144 bytes of data",
+        "t.s:11: refused: more than 262144 bytes of data",
     ),
 ];
 

@@ -4,7 +4,7 @@ use crate::told::{are_regions, are_told};
 /// What stands behind `main:`, and what is told of the program: of each function its name, the bytes of its frame, and
 /// its blocks. Of a block the words of its steps, as binutils assembles what they have to be, and where control goes:
 /// `!` ends the run.
-static PROGRAMS: [(&str, &str); 10] = [
+static PROGRAMS: [(&str, &str); 11] = [
     // A slot's step stands before the return, and main's return ends the run.
     (" retl\n add %o0,1,%o0", "main 0: 90022001 !\n"),
     // What stands in a call's slot stands before the call.
@@ -46,6 +46,11 @@ static PROGRAMS: [(&str, &str); 10] = [
     (
         " save %sp,-96,%sp\n st %i0,[%sp+92]\n call f\n nop\n ret\n restore\nf:\n ld [%sp+92],%o0\n retl\n nop",
         "main 64: 0d000200 f021a06c 40000000 90100018 !\nf 0: 0d000200 d001a06c .\n",
+    ),
+    // A loop that is entered at two places gets one entry: who comes by the other one goes through a copy.
+    (
+        " cmp %o0,0\n be .L2\n nop\n.L1:\n add %o1,1,%o1\n.L2:\n subcc %o0,1,%o0\n bne .L1\n nop\n retl\n nop",
+        "main 0: 80a22000 ?4,1 92026001 >2 90a22001 ?1,3 ! 90a22001 ?1,3\n",
     ),
     // Constants lie before what may be written, wherever they stand in the source.
     (CONSTANT, "main 0: 03000200 d0006050 03000204 d0206050 !\n"),

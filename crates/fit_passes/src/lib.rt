@@ -3,5 +3,5 @@
 
 mod passes;
 
-pub use fit_code::{Fault, NO_LINE, Reason};
+pub use fit_code::{Fault, Reason};
 pub use passes::{Made, Plan, make};
