@@ -7,12 +7,13 @@ mod words;
 use fit_gas::Source;
 use fit_legal::program_of;
 use fit_passes::{Fault, Made, Plan, Reason, make};
+use sbx_files::command_words;
 use sbx_put::put_through;
 use std::alloc::Global;
 use std::fs::File;
 use std::io::{ErrorKind, Read};
 use std::process::ExitCode;
-use std::{env, fs, io};
+use std::{fs, io};
 use words::{Job, USAGE, read_words};
 
 /// The most bytes that a file may have.
@@ -186,15 +187,6 @@ fn tell(rt: &HostRuntime, stop: &NoSource) -> u8 {
     }
 }
 
-/// The words after the program's name.
-fn words_of(rt: &HostRuntime) -> io::Result<Vec<String>> {
-    let mut words: Vec<String> = env::args(rt)?.collect(rt.alloc())?;
-    if !words.is_empty() {
-        words.remove(0);
-    }
-    Ok(words)
-}
-
 /// The status of words that ask for nothing, which are told what they may be.
 fn usage(rt: &HostRuntime) -> u8 {
     let _ = eprint!(rt; "{USAGE}");
@@ -222,7 +214,7 @@ fn answer(rt: &HostRuntime, words: &[String]) -> Result<u8, NoSource> {
 }
 
 fn main(rt: HostRuntime) -> ExitCode {
-    let status = match words_of(&rt) {
+    let status = match command_words(&rt) {
         Ok(words) => answer(&rt, words.as_slice()),
         Err(error) => Err(NoSource::from(error)),
     };

@@ -26,12 +26,12 @@ use faults::Fault;
 use judging::{MOST, judge};
 use running::{Halt, Ran, Source, converse};
 use sbx_command::{Full, ReadFault, read_whole};
-use sbx_files::{FileFault, hold_streams, open_file};
+use sbx_files::{FileFault, command_words, hold_streams, open_file};
 use sbx_run::Accepted;
 use std::fs::File;
 use std::io::{Cursor, Read};
 use std::process::ExitCode;
-use std::{env, fs, io};
+use std::{fs, io};
 use telling::{tell_asked, tell_denial, tell_run, tell_stopped};
 use words::{Asked, Lack, Terms, USAGE, read_words};
 
@@ -234,18 +234,9 @@ fn status_of(rt: &HostRuntime, words: &[String]) -> u8 {
     }
 }
 
-/// The words after the program's name.
-fn words_of(rt: &HostRuntime) -> io::Result<Vec<String>> {
-    let mut words: Vec<String> = env::args(rt)?.collect(rt.alloc())?;
-    if !words.is_empty() {
-        words.remove(0);
-    }
-    Ok(words)
-}
-
 fn main(rt: HostRuntime) -> ExitCode {
     let _held = hold_streams(&rt);
-    let status = match words_of(&rt) {
+    let status = match command_words(&rt) {
         Ok(words) => status_of(&rt, words.as_slice()),
         Err(error) => {
             let fault = fault_at("the words of a command line", &error);

@@ -1,12 +1,11 @@
 //! The commands that read a source: what their words ask for, and their files.
-use crate::commands::MOST;
 use crate::faults::Fault;
 use crate::naming::{Known, tell_by_source};
 use crate::progress::Lines;
 use crate::sources::{source_in, tell_check, tell_map};
 use crate::words::{Form, Job, read_words};
 use crate::{opened, path_of};
-use sbx_command::CommandStop;
+use sbx_command::{CommandStop, MOST};
 use sbx_files::{Counted, FileFault};
 use std::alloc::{AllocError, Global};
 use std::fs::File;

@@ -9,7 +9,7 @@ ghost use Rattle.want.specs.Wants.{refused};
 
 use crate::reports::{image_report, run_report, why_report};
 use crate::words::Form;
-use sbx_command::{CommandStop, ReadFault, Windows, image_in, read_whole};
+use sbx_command::{CommandStop, Windows, image_in, input_of};
 use sbx_image::Image;
 use sbx_put::put_through;
 use sbx_rules::Refusal;
@@ -17,21 +17,6 @@ use sbx_tell::{Progress, Run, run_windows, watch_windows};
 use std::alloc::Global;
 use std::io::{Read, Write};
 use want::Want;
-
-/// The most bytes that the input of a run may have.
-pub const MOST: usize = 16_777_216;
-
-/// All of standard input.
-pub fn input_of<I: Read>(alloc: Global, input: &mut I) -> Result<Vec<u8>, CommandStop>
-    ensures whole { IfOk result (λ bytes. IfSome (I.remaining input.old) (λ all. bytes.items ≡ all)) }
-    ensures stop { IfErr result (λ stop. (stop ≡ CommandStop.Memory refused) ⊎ (stop ≡ CommandStop.Input)) }
-{
-    match read_whole(alloc, input, MOST) {
-        Ok(bytes) => Ok(bytes),
-        Err(ReadFault::Memory(want)) => Err(CommandStop::Memory(want)),
-        Err(ReadFault::Reader | ReadFault::TooLong) => Err(CommandStop::Input),
-    }
-}
 
 /// Writes a text, through to the end.
 pub fn put_out<O: Write>(out: &mut O, text: &[u8]) -> Result<(), CommandStop>

@@ -1,10 +1,9 @@
 //! A machine of one's own that a file sets.
 ghost use Rattle.inspect.specs.Machines.{MachineOf};
 
-use crate::commands::MOST;
 use crate::faults::Fault;
 use crate::opened;
-use sbx_command::{CommandStop, ReadFault, Windows, read_whole};
+use sbx_command::{CommandStop, MOST, ReadFault, Windows, read_whole};
 use sbx_files::FileFault;
 use sbx_machine::machine_windows;
 use sbx_start::{StartFault, read_start};

@@ -13,19 +13,18 @@ mod sources;
 mod states;
 mod words;
 
-use commands::{MOST, explain_image, run_image, show_image, trace_image};
+use commands::{explain_image, run_image, show_image, trace_image};
 use faults::Fault;
 use machine::run_machine;
 use progress::Lines;
-use sbx_command::{CommandStop, Full};
-use sbx_files::{Counted, FileFault, hold_streams, open_file};
+use sbx_command::{CommandStop, Full, MOST};
+use sbx_files::{Counted, FileFault, command_words, hold_streams, open_file};
 use sbx_tell::Progress;
 use states::state_image;
 use std::alloc::{AllocError, Global};
 use std::fs::File;
 use std::io::{BufWriter, Read, Write};
 use std::process::ExitCode;
-use std::{env, io};
 use words::{Job, USAGE, number_wanted, read_words};
 
 /// The exit status of words that ask for nothing.
@@ -123,15 +122,6 @@ fn perform<'a>(rt: &HostRuntime, job: &Job<'a>) -> Result<(), Fault<'a>> {
     }
 }
 
-/// The words after the program's name.
-fn words_of(rt: &HostRuntime) -> io::Result<Vec<String>> {
-    let mut words: Vec<String> = env::args(rt)?.collect(rt.alloc())?;
-    if !words.is_empty() {
-        words.remove(0);
-    }
-    Ok(words)
-}
-
 /// Does what the words ask for, and gives the exit status.
 fn answer<'a>(rt: &HostRuntime, words: &'a [String]) -> Result<u8, Fault<'a>> {
     let Some(job) = read_words(words) else {
@@ -158,7 +148,7 @@ fn status_of(rt: &HostRuntime, words: &[String]) -> u8 {
 
 fn main(rt: HostRuntime) -> ExitCode {
     let _held = hold_streams(&rt);
-    let status = match words_of(&rt) {
+    let status = match command_words(&rt) {
         Ok(words) => status_of(&rt, words.as_slice()),
         Err(error) => match Full::of(&error) {
             Some(full) => Fault::Stop(CommandStop::NoRoom(full)).report(&rt),

@@ -1,9 +1,9 @@
 //! What is told of an image by the names and the lines of its source.
-use crate::commands::{input_of, put_out};
+use crate::commands::put_out;
 use crate::sources::digest_of;
 use crate::words::Job;
 use sbx_asm::assemble;
-use sbx_command::{CommandStop, Windows, image_in};
+use sbx_command::{CommandStop, Windows, image_in, input_of};
 use sbx_declare::push_image;
 use sbx_explain::push_why;
 use sbx_image::Image;

@@ -3,10 +3,10 @@ ghost use Rattle.std.specs.Prelude.{◌≡◌, IfOk, IfSome};
 ghost use Rattle.sbx_raw.specs.Fronts.{Wrote};
 ghost use Rattle.inspect.specs.Sources.{CheckTold, IsCheckReport};
 
-use crate::commands::{MOST, put_out};
+use crate::commands::put_out;
 use crate::words::Form;
 use sbx_asm::assemble;
-use sbx_command::{CommandStop, ReadFault, read_whole};
+use sbx_command::{CommandStop, MOST, ReadFault, read_whole};
 use sbx_image::{Image, write};
 use sbx_named::{Check, Verdict, check_source, push_map};
 use sbx_objects::check_line;

@@ -5,8 +5,7 @@ ghost use Rattle.sbx_raw.specs.Fronts.{Wrote};
 ghost use Rattle.sbx_image_states.specs.Told.{IsStated};
 ghost use Rattle.inspect.specs.States.{StatesOf};
 
-use crate::commands::input_of;
-use sbx_command::{CommandStop, Windows, image_in};
+use sbx_command::{CommandStop, Windows, image_in, input_of};
 use sbx_image::Image;
 use sbx_image_states::state_windows;
 use std::alloc::Global;

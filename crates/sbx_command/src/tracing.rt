@@ -14,8 +14,8 @@ use sbx_stream::{Outcome, RunFault, trace};
 use std::alloc::Global;
 use std::io::{Read, Write};
 
-/// All of standard input.
-fn input_of<I: Read>(alloc: Global, input: &mut I) -> Result<Vec<u8>, CommandStop>
+/// All of standard input, up to `MOST` bytes.
+pub fn input_of<I: Read>(alloc: Global, input: &mut I) -> Result<Vec<u8>, CommandStop>
     ensures whole { IfOk result (λ bytes. IfSome (I.remaining input.old) (λ all. bytes.items ≡ all)) }
     ensures stop { IfErr result (λ stop. (stop ≡ CommandStop.Memory refused) ⊎ (stop ≡ CommandStop.Input)) }
 {

@@ -9,12 +9,11 @@ use assembling::assemble_to;
 use conversing::converse;
 use files::done_on;
 use sbx_command::{CommandStop, Full};
-use sbx_files::hold_streams;
+use sbx_files::{command_words, hold_streams};
 use sbx_words::{Job, Usage, read_words};
 use std::alloc::AllocError;
 use std::io::BufWriter;
 use std::process::ExitCode;
-use std::{env, io};
 
 /// The exit status of words that ask for nothing.
 const USAGE: u8 = 3;
@@ -29,15 +28,6 @@ fn on_streams(rt: &HostRuntime, job: &Job<'_>, path: &str) -> Result<u8, Command
         Err(error) => return Err(CommandStop::of(&error, CommandStop::Output)),
     };
     done_on(rt, job, path, &mut rt.stdin(), &mut out)
-}
-
-/// The words after the program's name.
-fn words_of(rt: &HostRuntime) -> io::Result<Vec<String>> {
-    let mut words: Vec<String> = env::args(rt)?.collect(rt.alloc())?;
-    if !words.is_empty() {
-        words.remove(0);
-    }
-    Ok(words)
 }
 
 /// Does a job.
@@ -76,7 +66,7 @@ fn perform(rt: &HostRuntime, words: &[String]) -> Result<u8, CommandStop> {
 
 fn main(rt: HostRuntime) -> ExitCode {
     let _held = hold_streams(&rt);
-    let status = match words_of(&rt) {
+    let status = match command_words(&rt) {
         Ok(words) => perform(&rt, words.as_slice()),
         Err(error) => match Full::of(&error) {
             Some(full) => Err(CommandStop::NoRoom(full)),
