@@ -1,5 +1,4 @@
 pub mod Turns
-pub mod LateRows
 pub mod Counted
 pub use Rattle.v8_mmu.proofs.RamLemmas
 pub use Rattle.v8_mmu.proofs.RamNumbers

@@ -10,7 +10,6 @@
 
 mod access;
 mod execution;
-mod late;
 mod machine;
 mod step;
 mod turn;

@@ -4,6 +4,7 @@
 mod admitted;
 mod asked;
 mod direct;
+mod late;
 mod moved;
 mod operation;
 mod spaces;
@@ -12,6 +13,7 @@ mod transfer;
 pub use admitted::{is_admitted, is_ret, is_retl, is_service_call};
 pub use asked::{normal, operation_of};
 pub use direct::{Direct, direct_of};
+pub use late::late_of;
 pub use moved::{odd_of, splits_pair};
 pub use operation::{Exchange, Loading, MemoryOperand, Operation, Space, StateRegister, Transfer};
 pub use spaces::{is_code_space, is_missing, is_normal, is_unknown, is_user_space};
