@@ -1,9 +1,7 @@
 //! The lines of words of code, written one after the other.
-ghost use Rattle.std.specs.Prelude.{◌≡◌, ◌+◌, ◌<◌, ◌≤◌, ◌++◌, OnErr, OnOk, length, true};
-ghost use Rattle.std.specs.Fmt.{digit_glyph};
+ghost use Rattle.std.specs.Prelude.{◌≡◌, ◌+◌, ◌<◌, ◌≤◌, ◌++◌, OnErr, OnOk, length};
 ghost use Rattle.std.specs.Io.KnownBytes.{Appends};
 ghost use Rattle.arrayvec.specs.ArrayVec.{array_vec_len};
-ghost use Rattle.v8_forms.specs.Text.{hexadecimal};
 ghost use Rattle.v8_map.specs.declared.TheConstants.{CODE_START};
 ghost use Rattle.sbx_put.specs.Fronts.{WroteSome};
 ghost use Rattle.sbx_listing.specs.Listing.{listing, word_line};
@@ -12,39 +10,11 @@ use arrayvec::{ArrayString, ArrayVec};
 use sbx_put::put_all;
 use std::io::{self, Write};
 use v8_formats::decode;
-use v8_forms::print_instr;
+use v8_forms::{print_instr, push_hexadecimal};
 use v8_map::CODE_START;
 
 /// Room for the longest line.
 type Line = ArrayVec<u8, 96>;
-
-/// A hexadecimal digit.
-fn digit(number: u32) -> u8
-    requires { number < 16 }
-    ensures { result ≡ digit_glyph true number }
-{
-    if number < 10 {
-        (48 + number) as u8
-    } else {
-        (55 + number) as u8
-    }
-}
-
-/// The eight digits of a word.
-fn digits(word: u32) -> [u8; 8]
-    ensures { result ≡ hexadecimal word }
-{
-    [
-        digit(word / 0x1000_0000 % 16),
-        digit(word / 0x100_0000 % 16),
-        digit(word / 0x10_0000 % 16),
-        digit(word / 0x1_0000 % 16),
-        digit(word / 0x1000 % 16),
-        digit(word / 0x100 % 16),
-        digit(word / 0x10 % 16),
-        digit(word % 16),
-    ]
-}
 
 fn push(line: &mut Line, text: &[u8])
     requires { array_vec_len line.old + length text.now ≤ 96 }
@@ -62,13 +32,15 @@ fn push(line: &mut Line, text: &[u8])
 fn line_of(address: u32, word: u32) -> Line
     ensures { result.items ≡ word_line address word }
 {
+    let mut head = ArrayString::<64>::new();
+    push_hexadecimal(&mut head, address);
+    head.push(' ');
+    push_hexadecimal(&mut head, word);
+    head.push(' ');
     let mut text = ArrayString::<64>::new();
     print_instr(&decode(word), &mut text);
     let mut line = Line::new();
-    push(&mut line, &digits(address));
-    push(&mut line, b" ");
-    push(&mut line, &digits(word));
-    push(&mut line, b" ");
+    push(&mut line, head.as_str().as_bytes());
     push(&mut line, text.as_str().as_bytes());
     push(&mut line, b"\n");
     line

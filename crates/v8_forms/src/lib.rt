@@ -14,5 +14,5 @@ pub use bits::{
 };
 pub use fields::filled;
 pub use part::{Field, Part, Range, Special};
-pub use printing::print_instr;
+pub use printing::{print_instr, push_hexadecimal};
 pub use rows::{Row, forms, suffixes};

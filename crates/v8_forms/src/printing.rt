@@ -234,11 +234,12 @@ fn push_operands(out: &mut ArrayString<64>, parts: &[Part], word: u32)
     }
 }
 
-fn push_word(out: &mut ArrayString<64>, word: u32)
-    requires { array_string_len out.old + 16 ≤ 64 }
-    ensures bytes { out.new.bytes ≡ out.old.bytes ++ (codes ".word 0x" ++ hexadecimal word) }
+/// Pushes the eight hexadecimal digits of a word, 0 to 9 and A to F.
+pub fn push_hexadecimal(out: &mut ArrayString<64>, word: u32)
+    requires room { array_string_len out.old + 8 ≤ 64 }
+    ensures bytes { out.new.bytes ≡ out.old.bytes ++ hexadecimal word }
+    ensures len { array_string_len out.new ≡ array_string_len out.old + 8 }
 {
-    out.push_str(".word 0x");
     push_digit(out, word / 0x1000_0000 % 16);
     push_digit(out, word / 0x100_0000 % 16);
     push_digit(out, word / 0x10_0000 % 16);
@@ -247,6 +248,14 @@ fn push_word(out: &mut ArrayString<64>, word: u32)
     push_digit(out, word / 0x100 % 16);
     push_digit(out, word / 0x10 % 16);
     push_digit(out, word % 16);
+}
+
+fn push_word(out: &mut ArrayString<64>, word: u32)
+    requires { array_string_len out.old + 16 ≤ 64 }
+    ensures bytes { out.new.bytes ≡ out.old.bytes ++ (codes ".word 0x" ++ hexadecimal word) }
+{
+    out.push_str(".word 0x");
+    push_hexadecimal(out, word);
 }
 
 /// The suffix of the condition of a word, where its form has one.
