@@ -1,6 +1,7 @@
 //! The ranges of one function: what is known where its blocks begin, found by going along all ways until nothing new
 //! comes.
 use crate::known::{Known, replace};
+use crate::passing::{are_same_to, touched_by};
 use fit_cells::{
     Shape, Thresholds, enter, go_along, hull, joined, range_in, return_from, run_steps,
     run_to_call, thresholds_of, way_of, widened_cells,
@@ -61,6 +62,8 @@ pub struct Call {
 pub struct Flow {
     shape: Shape,
     known: Known,
+    /// What each block reads or writes.
+    touched: Vec<Locations>,
     /// How often each block's cells grew since they were last forgotten, and how often they were narrowed.
     changes: Vec<u32>,
     narrowings: Vec<u32>,
@@ -132,6 +135,7 @@ impl Flow {
         let mut flow = Flow {
             shape: Shape::of(alloc, function, live)?,
             known: Known::nothing(alloc),
+            touched: Vec::new(alloc),
             changes: Vec::new(alloc),
             narrowings: Vec::new(alloc),
             pending: Vec::new(alloc),
@@ -154,6 +158,7 @@ impl Flow {
             self.narrowings.push(0)?;
         }
         self.pending = vec![in alloc; false; self.shape.order.blocks.len()]?;
+        self.touched = touched_by(alloc, function)?;
         Ok(())
     }
 
@@ -346,6 +351,50 @@ impl Flow {
         Ok(())
     }
 
+    /// Whether a block needn't be run for its new cells: all that is new in them it passes on as it comes. Not so where
+    /// it wasn't run for those before, and of the first block, which begins with the params.
+    fn passes_on(&self, block: usize, new: &Option<Vec<Cell>>) -> bool {
+        let is_left = self
+            .narrowings
+            .get(block)
+            .is_some_and(|times| *times <= NARROWINGS);
+        match (self.known.cells(block), new, self.touched.get(block)) {
+            (Some(old), Some(new), Some(touched)) => {
+                block > 0 && is_left && are_same_to(touched, old, new.as_slice())
+            }
+            _ => false,
+        }
+    }
+
+    /// Passes on what a block doesn't touch; where what is known at a way's end changes, the block there is to be
+    /// visited.
+    fn pass_on(&mut self, function: &Function, block: usize) {
+        for (way, to) in successors_in(function, block).into_iter().enumerate() {
+            if let Some(to) = to
+                && let Some(touched) = self.touched.get(block)
+                && self.known.pass_on(touched, block, way_of(block, way))
+            {
+                self.mark_near(to);
+            }
+        }
+    }
+
+    /// Goes on from a block whose cells were replaced.
+    fn go_on(
+        &mut self,
+        setting: &Setting,
+        block: usize,
+        passes: bool,
+        state: &mut State,
+    ) -> Result<(), AllocError> {
+        if passes {
+            self.pass_on(setting.function, block);
+            Ok(())
+        } else {
+            self.leave(setting, block, state)
+        }
+    }
+
     /// What a head's cells become: what comes into its loop is joined, and what only grows by the ways back goes to
     /// thresholds.
     fn raised_head(
@@ -404,10 +453,11 @@ impl Flow {
             let changes = self.changes.get(block).copied().unwrap_or(0);
             let cells = self.raised(setting.alloc, thresholds, block, changes)?;
             let cells = setting.with_said(block, cells);
+            let passes = self.passes_on(block, &cells);
             let is_new = cells.is_some() && replace(&mut self.known.cells, block, cells);
             if is_new || (block == 0 && changes == 0) {
                 count(&mut self.changes, block);
-                self.leave(setting, block, state)?;
+                self.go_on(setting, block, passes, state)?;
             }
         }
         Err(Fault::new(
@@ -438,11 +488,12 @@ impl Flow {
             };
             let cells = self.known.incoming(setting.alloc, &self.shape, block)?;
             let cells = setting.with_said(block, cells);
+            let passes = self.passes_on(block, &cells);
             if block > 0
                 && replace(&mut self.known.cells, block, cells)
                 && count(&mut self.narrowings, block) <= NARROWINGS
             {
-                self.leave(setting, block, state)?;
+                self.go_on(setting, block, passes, state)?;
             }
         }
         Ok(())

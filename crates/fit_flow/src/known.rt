@@ -1,5 +1,7 @@
 //! What is known of a function's blocks and ways so far.
+use crate::passing::take_over;
 use fit_cells::{Shape, are_same, are_within, joined};
+use fit_live::Locations;
 use sbx_range::Cell;
 use std::alloc::{AllocError, Global};
 
@@ -69,6 +71,15 @@ impl Known {
     /// Whether a way can be gone.
     pub fn is_open(&self, way: usize) -> bool {
         at(self.ways.as_slice(), way).is_some()
+    }
+
+    /// What a block doesn't touch is known where one of its ways ends as it is where the block begins, if the way can be
+    /// gone. Says whether it wasn't before.
+    pub fn pass_on(&mut self, touched: &Locations, block: usize, way: usize) -> bool {
+        match (self.cells.get(block), self.ways.get_mut(way)) {
+            (Some(Some(cells)), Some(Some(end))) => take_over(touched, cells.as_slice(), end),
+            _ => false,
+        }
     }
 
     /// Forgets what is known where a way ends, and gives it.

@@ -4,5 +4,6 @@
 
 mod flow;
 mod known;
+mod passing;
 
 pub use flow::{Call, Flow, Setting};
