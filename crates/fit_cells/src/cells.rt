@@ -45,7 +45,19 @@ fn widened(thresholds: Option<&Thresholds>, location: u16, old: Range, new: Rang
     }
 }
 
-/// The cells of both lists, each with what its two ranges give.
+/// The first place from one on, among cells that stand by location, where a location isn't below this one.
+fn place_from(cells: &[Cell], start: usize, location: u16) -> usize {
+    for place in start..cells.len() {
+        if let Some(cell) = cells.get(place)
+            && cell.location >= location
+        {
+            return place;
+        }
+    }
+    cells.len()
+}
+
+/// The cells of both lists, which stand by location, each with what its two ranges give.
 fn combined<F: Fn(u16, Range, Range) -> Range>(
     alloc: Global,
     a: &[Cell],
@@ -55,13 +67,15 @@ fn combined<F: Fn(u16, Range, Range) -> Range>(
     requires { F.IsAlwaysCallable with.now }
 {
     let mut both = Vec::with_capacity(alloc, a.len())?;
+    let mut place = 0;
     for cell in a {
         let location = cell.location;
-        if let Some(range) = range_in(b, location) {
-            both.push(Cell {
-                location,
-                range: with(location, cell.range, range),
-            })?;
+        place = place_from(b, place, location);
+        if let Some(other) = b.get(place)
+            && other.location == location
+        {
+            let range = with(location, cell.range, other.range);
+            both.push(Cell { location, range })?;
         }
     }
     Ok(both)

@@ -252,18 +252,30 @@ impl Compared {
         Ok(())
     }
 
+    /// Makes room for all locations.
+    fn extend(&mut self, alloc: Global) -> Result<(), AllocError> {
+        for _ in 0..LOCATIONS {
+            self.numbers.push(Vec::new(alloc))?;
+        }
+        Ok(())
+    }
+
+    /// Adds what the blocks of a function compare.
+    fn add_blocks(&mut self, function: &Function) -> Result<(), AllocError> {
+        for block in &function.blocks {
+            self.block(function.frame, block)?;
+        }
+        Ok(())
+    }
+
     /// What a function compares.
     pub fn of(alloc: Global, function: &Function) -> Result<Compared, AllocError> {
         let mut compared = Compared {
             numbers: Vec::with_capacity(alloc, LOCATIONS)?,
             pairs: Vec::new(alloc),
         };
-        for _ in 0..LOCATIONS {
-            compared.numbers.push(Vec::new(alloc))?;
-        }
-        for block in &function.blocks {
-            compared.block(function.frame, block)?;
-        }
+        compared.extend(alloc)?;
+        compared.add_blocks(function)?;
         compared.join_pairs(alloc)?;
         Ok(compared)
     }

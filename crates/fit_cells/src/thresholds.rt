@@ -83,6 +83,16 @@ impl Thresholds {
         Ok(())
     }
 
+    /// Adds the numbers of a program, and of a function that is called with these params; the least first, and each once.
+    fn add_all(&mut self, program: &Program, params: &[Range]) -> Result<(), AllocError> {
+        self.add_objects(program)?;
+        self.add_regions(program)?;
+        self.add_params(params)?;
+        sort(&mut self.addresses);
+        sort(&mut self.numbers);
+        Ok(())
+    }
+
     /// The thresholds of all locations near a number.
     fn near(&self, number: i32) -> &[i32] {
         if self.start <= number && number <= self.end.saturating_add(1) {
@@ -148,10 +158,6 @@ pub fn thresholds_of(
         start: i32::MAX,
         end: i32::MIN,
     };
-    thresholds.add_objects(program)?;
-    thresholds.add_regions(program)?;
-    thresholds.add_params(params)?;
-    sort(&mut thresholds.addresses);
-    sort(&mut thresholds.numbers);
+    thresholds.add_all(program, params)?;
     Ok(thresholds)
 }
