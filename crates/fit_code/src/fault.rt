@@ -56,6 +56,14 @@ impl Naming {
 /// Sums of turns that pass this number stay there.
 const STAYS: u64 = 0x7fff_ffff_ffff_ffff;
 
+/// The least budget that is refused.
+const BOUND: u64 = 1 << 40;
+
+/// What a budget that is refused lies above.
+fn limit_below(turns: u64) -> &'static str {
+    if turns > BOUND { "2^40" } else { "2^40 - 1" }
+}
+
 /// Why a program is refused.
 #[derive(Drop)]
 pub enum Reason {
@@ -141,7 +149,8 @@ impl fmt::Display for Reason {
             ),
             Reason::Budget { turns, .. } => {
                 let least = if *turns < STAYS { "" } else { "at least " };
-                write!(f, "the budget would be {least}{turns}, above 2^40")
+                let limit = limit_below(*turns);
+                write!(f, "the budget would be {least}{turns}, above {limit}")
             }
             Reason::Unreadable(what) => f.write_str(what),
             Reason::Named(naming, name) => {
