@@ -1,5 +1,6 @@
 //! Sources that are refused.
-use crate::told::are_told;
+use crate::told::{are_told, is_shown};
+use fit_code::{Fault, Line, Reason};
 
 /// What stands behind `main:` in the fourth line, and why there is no program.
 static REFUSED: [(&str, &str); 20] = [
@@ -92,4 +93,36 @@ static REFUSED: [(&str, &str); 20] = [
 #[test]
 fn sources_are_refused(rt: HostRuntime) {
     are_told(&rt, rt.alloc(), &REFUSED);
+}
+
+/// The fault of a budget of so many turns, most of which the loop in a line may take.
+fn budget_of(turns: u64) -> Fault {
+    let reason = Reason::Budget {
+        turns,
+        is_loop: true,
+    };
+    let line = Line { file: 0, number: 9 };
+    Fault::new(line, reason)
+}
+
+/// What a budget that is refused is told with, behind the number that it is above.
+const MOST_OF_IT: &str =
+    ": the loop at a.c:9 may take the most of it: ask for fewer turns, or let loops have fewer rounds";
+
+#[test]
+fn budgets_are_refused(rt: HostRuntime) {
+    let alloc = rt.alloc();
+    for (turns, told) in [
+        (1 << 40, "1099511627776, above 2^40 - 1"),
+        ((1 << 40) + 1, "1099511627777, above 2^40"),
+    ] {
+        let wanted = format!(in alloc; "a.c:9: refused: the budget would be {told}{MOST_OF_IT}");
+        let is_told = wanted.is_ok_and(|wanted| is_shown(
+            alloc,
+            &budget_of(turns),
+            "a.c",
+            wanted.as_str(),
+        ));
+        assert!(rt; is_told, "{turns}");
+    }
 }

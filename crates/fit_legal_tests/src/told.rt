@@ -47,6 +47,19 @@ fn fault_told(alloc: Global, source: &Source, fault: &Fault) -> Result<String, A
     format!(in alloc; "{shown}")
 }
 
+/// Whether a fault is shown so, where its file has this name.
+pub(crate) fn is_shown(alloc: Global, fault: &Fault, name: &str, wanted: &str) -> bool {
+    let mut source = Source::new(alloc);
+    let is_named = match String::from_str(alloc, name) {
+        Ok(name) => source.files.push(name).is_ok(),
+        Err(AllocError) => false,
+    };
+    match fault_told(alloc, &source, fault) {
+        Ok(told) => is_named && told.as_str() == wanted,
+        Err(AllocError) => false,
+    }
+}
+
 /// What each source begins with.
 const HEAD: &str = ".global main\n.type main,#function\n.type f,#function\nmain:\n";
 
