@@ -83,7 +83,8 @@ impl Thresholds {
         Ok(())
     }
 
-    /// Adds the numbers of a program, and of a function that is called with these params; the least first, and each once.
+    /// Adds the numbers of a program, and of a function that is called with these params; the least first, and each
+    /// once.
     fn add_all(&mut self, program: &Program, params: &[Range]) -> Result<(), AllocError> {
         self.add_objects(program)?;
         self.add_regions(program)?;

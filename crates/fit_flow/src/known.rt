@@ -73,8 +73,8 @@ impl Known {
         at(self.ways.as_slice(), way).is_some()
     }
 
-    /// What a block doesn't touch is known where one of its ways ends as it is where the block begins, if the way can be
-    /// gone. Says whether it wasn't before.
+    /// What a block doesn't touch is known where one of its ways ends as it is where the block begins, if the way can
+    /// be gone. Says whether it wasn't before.
     pub fn pass_on(&mut self, touched: &Locations, block: usize, way: usize) -> bool {
         match (self.cells.get(block), self.ways.get_mut(way)) {
             (Some(Some(cells)), Some(Some(end))) => take_over(touched, cells.as_slice(), end),

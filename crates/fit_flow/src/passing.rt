@@ -1,5 +1,5 @@
-//! What blocks pass on: a location that no step of a block reads or writes has the same range behind the block as before
-//! it, whatever that is, and decides nothing else.
+//! What blocks pass on: a location that no step of a block reads or writes has the same range behind the block as
+//! before it, whatever that is, and decides nothing else.
 use fit_cells::range_in;
 use fit_code::{Block, Function, Step};
 use fit_live::{Effects, Locations, effects_of};

@@ -66,11 +66,12 @@ fn fault_of(fault: StreamFault) -> RunFault
 /// whatever its error, is `Reader`, and a write that fails or takes no byte is `Writer`: neither is tried again.
 /// Nothing is flushed, and no memory grows with the input or the output.
 ///
-/// On Ok what was written is the output that `run_accepted` has, and the status, the counts and the pages are its own, on every input
-/// that begins with the bytes read, or on these alone where their end was met; `output` is empty. An image of version 3 overflows and
-/// underflows no window where `N` is at least two more than its first function's declared depth. On a fault what was written are the
-/// first bytes of that output, and the run that the fault ended is contained. `Memory` comes before anything is read or written,
-/// `Reader` where the input's end wasn't met, and `Writer` where the output goes on.
+/// On Ok what was written is the output that `run_accepted` has, and the status, the counts and the pages are its own,
+/// on every input that begins with the bytes read, or on these alone where their end was met; `output` is empty. An
+/// image of version 3 overflows and underflows no window where `N` is at least two more than its first function's
+/// declared depth. On a fault what was written are the first bytes of that output, and the run that the fault ended is
+/// contained. `Memory` comes before anything is read or written, `Reader` where the input's end wasn't met, and
+/// `Writer` where the output goes on.
 pub fn run_stream<const N: usize, R: Read, W: Write>(
     alloc: Global,
     accepted: &Accepted,
