@@ -31,7 +31,8 @@ fn push_change(
 /// Pushes a line for each word of RAM that is another than at first.
 pub fn push_changes<B: Bus>(text: &mut String, first: &B, now: &B) -> Result<(), AllocError>
     ensures { OnOk result
-        (string_bytes text.new ≡ string_bytes text.old ++ changes_text (B.ram first.now) (B.ram now.now) WORDS) }
+        (string_bytes text.new ≡
+        string_bytes text.old ++ changes_text (B.state first.now).held.ram (B.state now.now).held.ram WORDS) }
 {
     for number in 0..COUNT {
         let place = 4 * number;

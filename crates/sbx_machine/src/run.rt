@@ -26,9 +26,11 @@ fn tell_changes<B: Bus, W: Write>(
     out: &mut W,
 ) -> Result<(), RunFault>
     ensures whole { OnOk result
-        (Appends (W.contents out.old) (W.contents out.new) (changes_text (B.ram first.now) (B.ram now.now) WORDS)) }
+        (Appends (W.contents out.old) (W.contents out.new)
+        (changes_text (B.state first.now).held.ram (B.state now.now).held.ram WORDS)) }
     ensures part { OnErr result
-        (WroteSome (W.contents out.old) (W.contents out.new) (changes_text (B.ram first.now) (B.ram now.now) WORDS)) }
+        (WroteSome (W.contents out.old) (W.contents out.new)
+        (changes_text (B.state first.now).held.ram (B.state now.now).held.ram WORDS)) }
     ensures fault { IfErr result IsOwnFault }
 {
     let mut text = String::new(alloc);

@@ -45,7 +45,7 @@ pub fn push_access(line: &mut String, access: &Option<DataAccess>) -> Result<(),
 
 /// Where the page entry lies that ends the walk of an address, where it leads to a page.
 pub fn entry_place<B: Bus>(bus: &B, mmu: &MmuRegs, va: u32) -> Option<u64>
-    ensures { EntryIs (B.ram bus.now) (root_of mmu.now) va result }
+    ensures { EntryIs (B.state bus.now).held.ram (root_of mmu.now) va result }
 {
     match follow(bus, mmu, va) {
         Ok(path) => Some(path.place),
@@ -55,7 +55,7 @@ pub fn entry_place<B: Bus>(bus: &B, mmu: &MmuRegs, va: u32) -> Option<u64>
 
 /// Where the page entry of a data access lies.
 pub fn access_place<B: Bus>(bus: &B, mmu: &MmuRegs, access: &Option<DataAccess>) -> Option<u64>
-    ensures { EntryOfIs (B.ram bus.now) (root_of mmu.now) access.now result }
+    ensures { EntryOfIs (B.state bus.now).held.ram (root_of mmu.now) access.now result }
 {
     match access {
         Some(access) => entry_place(bus, mmu, access.va),

@@ -49,8 +49,8 @@ fn push_turn(line: &mut String, number: u64, before: &Shown, turn: &Turn) -> Res
 
 /// Where the words lie that a turn may have changed, by walks in a memory.
 fn places_of<B: Bus>(memory: &B, mmu: &MmuRegs, pc: u32, turn: &Turn) -> Places
-    ensures fetched { EntryIs (B.ram memory.now) (root_of mmu.now) pc result.fetched }
-    ensures accessed { EntryOfIs (B.ram memory.now) (root_of mmu.now) turn.now.access result.accessed }
+    ensures fetched { EntryIs (B.state memory.now).held.ram (root_of mmu.now) pc result.fetched }
+    ensures accessed { EntryOfIs (B.state memory.now).held.ram (root_of mmu.now) turn.now.access result.accessed }
     ensures stored { result.stored ≡ stored_place turn.now.access }
     ensures second { result.second ≡ second_place turn.now.access }
 {
@@ -93,10 +93,14 @@ impl<const N: usize, B: Bus> Teller<N, B> {
 
     /// Pushes what a turn changed: registers, and the words at some places.
     fn put_changes(&mut self, machine: &Machine<N, B>, places: &Places) -> Result<(), AllocError>
-        ensures text { OnOk result (string_bytes self.new.line ≡ string_bytes self.old.line ++ (registers_text N self.old.registers machine.now.cpu ++ (told_words (B.ram self.old.memory) (B.ram machine.now.bus) places.now).0 ++ codes "\n")) }
+        ensures text { OnOk result (string_bytes self.new.line ≡
+            string_bytes self.old.line ++ (registers_text N self.old.registers machine.now.cpu
+            ++ (told_words (B.state self.old.memory).held.ram (B.state machine.now.bus).held.ram places.now).0
+            ++ codes "\n")) }
         ensures registers { OnOk result (self.new.registers ≡ told_registers N self.old.registers machine.now.cpu) }
         ensures memory { OnOk result
-            (B.ram self.new.memory ≡ (told_words (B.ram self.old.memory) (B.ram machine.now.bus) places.now).1) }
+            ((B.state self.new.memory).held.ram ≡
+            (told_words (B.state self.old.memory).held.ram (B.state machine.now.bus).held.ram places.now).1) }
     {
         self.put_registers(machine)?;
         push_words(&mut self.line, &mut self.memory, machine.bus(), places)?;
@@ -113,9 +117,10 @@ impl<const N: usize, B: Bus> Teller<N, B> {
         machine: &Machine<N, B>,
     ) -> Result<(), AllocError>
         ensures { OnOk result
-            (IsLine N (root_of mmu.now) number before.now turn.now machine.now.cpu (B.ram machine.now.bus)
-            (record { registers = self.old.registers; ram = B.ram self.old.memory })
-            (record { registers = self.new.registers; ram = B.ram self.new.memory }) (string_bytes self.new.line)) }
+            (IsLine N (root_of mmu.now) number before.now turn.now machine.now.cpu (B.state machine.now.bus).held.ram
+            (record { registers = self.old.registers; ram = (B.state self.old.memory).held.ram })
+            (record { registers = self.new.registers; ram = (B.state self.new.memory).held.ram })
+            (string_bytes self.new.line)) }
     {
         let places = places_of(&self.memory, mmu, before.pc, turn);
         self.line.clear();

@@ -2,7 +2,7 @@
 ghost use Rattle.std.specs.Prelude.{◌≡◌, ◌<◌, ◌^◌, ◌-◌, ◌++◌, IfErr, IfOk, OnErr, OnOk, string_bytes};
 ghost use Rattle.std.specs.Io.KnownBytes.{Appends};
 ghost use Rattle.sbx_put.specs.Fronts.{Wrote, WroteSome};
-ghost use Rattle.v8_core.specs.Accesses.{world};
+ghost use Rattle.v8_core.specs.Completes.{world_of};
 ghost use Rattle.sbx_states.specs.Lines.{end_line, start_line, told_registers};
 ghost use Rattle.sbx_states.specs.Runs.{BeginsStates, IsFaultOf, IsOwnFault, IsPart, IsStates, ToldRun, ToldSome};
 ghost use Rattle.sbx_states.specs.Runs.{ToldTurn, is_over};
@@ -18,7 +18,7 @@ use want::Want;
 /// Whether the device has stopped a machine, or it is in error mode.
 fn is_over<const N: usize, B: Bus>(machine: &Machine<N, B>) -> bool
     ensures { result ≡
-        is_over B.meaning N (world N machine.now.cpu (B.ram machine.now.bus) (B.device machine.now.bus)) }
+        is_over B.meaning N (world_of N machine.now.cpu (B.state machine.now.bus)).held }
 {
     machine.bus().stop().is_some() || machine.error_mode().is_some()
 }
@@ -34,14 +34,16 @@ fn tell_turn<const N: usize, B: Bus, W: Write>(
     requires { machine.old.mmu ≡ mmu.now }
     ensures mmu { machine.new.mmu ≡ machine.old.mmu }
     ensures whole { OnOk result (ToldTurn B.meaning N mmu.now number
-        (world N machine.old.cpu (B.ram machine.old.bus) (B.device machine.old.bus))
-        (world N machine.new.cpu (B.ram machine.new.bus) (B.device machine.new.bus))
-        (record { registers = teller.old.registers; ram = B.ram teller.old.memory })
-        (record { registers = teller.new.registers; ram = B.ram teller.new.memory }) (W.contents out.old) (W.contents out.new)) }
+        (world_of N machine.old.cpu (B.state machine.old.bus)).held
+        (world_of N machine.new.cpu (B.state machine.new.bus)).held
+        (record { registers = teller.old.registers; ram = (B.state teller.old.memory).held.ram })
+        (record { registers = teller.new.registers; ram = (B.state teller.new.memory).held.ram })
+        (W.contents out.old) (W.contents out.new)) }
     ensures part { OnErr result (ToldSome B.meaning N mmu.now number
-        (world N machine.old.cpu (B.ram machine.old.bus) (B.device machine.old.bus))
-        (record { registers = teller.old.registers; ram = B.ram teller.old.memory }) (W.contents out.old) (W.contents out.new)) }
-    ensures fault { IfErr result (IsFaultOf (B.fault machine.new.bus)) }
+        (world_of N machine.old.cpu (B.state machine.old.bus)).held
+        (record { registers = teller.old.registers; ram = (B.state teller.old.memory).held.ram })
+        (W.contents out.old) (W.contents out.new)) }
+    ensures fault { IfErr result (IsFaultOf (B.state machine.new.bus).port.fault) }
 {
     let before = shown_of(machine);
     let turn = match machine.step() {
@@ -69,14 +71,15 @@ fn tell_turns<const N: usize, B: Bus, W: Write>(
     requires { machine.old.mmu ≡ mmu.now }
     ensures mmu { machine.new.mmu ≡ machine.old.mmu }
     ensures whole { IfOk result (λ count. ToldRun B.meaning N mmu.now limit
-        (world N machine.old.cpu (B.ram machine.old.bus) (B.device machine.old.bus))
-        (world N machine.new.cpu (B.ram machine.new.bus) (B.device machine.new.bus)) count
-        (record { registers = teller.old.registers; ram = B.ram teller.old.memory })
-        (record { registers = teller.new.registers; ram = B.ram teller.new.memory }) (W.contents out.old) (W.contents out.new)) }
+        (world_of N machine.old.cpu (B.state machine.old.bus)).held
+        (world_of N machine.new.cpu (B.state machine.new.bus)).held count
+        (record { registers = teller.old.registers; ram = (B.state teller.old.memory).held.ram })
+        (record { registers = teller.new.registers; ram = (B.state teller.new.memory).held.ram })
+        (W.contents out.old) (W.contents out.new)) }
     ensures part { OnErr result (Wrote (W.contents out.old) (W.contents out.new) (IsPart B.meaning N mmu.now limit
-        (world N machine.old.cpu (B.ram machine.old.bus) (B.device machine.old.bus))
-        (record { registers = teller.old.registers; ram = B.ram teller.old.memory }))) }
-    ensures fault { IfErr result (IsFaultOf (B.fault machine.new.bus)) }
+        (world_of N machine.old.cpu (B.state machine.old.bus)).held
+        (record { registers = teller.old.registers; ram = (B.state teller.old.memory).held.ram }))) }
+    ensures fault { IfErr result (IsFaultOf (B.state machine.new.bus).port.fault) }
 {
     for done in 0..limit {
         if is_over(machine) {
@@ -152,13 +155,13 @@ pub fn tell_states<const N: usize, B: Bus, W: Write>(
     requires { machine.old.mmu ≡ mmu.now }
     ensures mmu { machine.new.mmu ≡ machine.old.mmu }
     ensures whole { OnOk result (Wrote (W.contents out.old) (W.contents out.new) (IsStates B.meaning N mmu.now limit
-        (world N machine.old.cpu (B.ram machine.old.bus) (B.device machine.old.bus))
-        (world N machine.new.cpu (B.ram machine.new.bus) (B.device machine.new.bus))
-        (record { registers = teller.old.registers; ram = B.ram teller.old.memory }))) }
+        (world_of N machine.old.cpu (B.state machine.old.bus)).held
+        (world_of N machine.new.cpu (B.state machine.new.bus)).held
+        (record { registers = teller.old.registers; ram = (B.state teller.old.memory).held.ram }))) }
     ensures part { OnErr result (Wrote (W.contents out.old) (W.contents out.new) (BeginsStates B.meaning N mmu.now limit
-        (world N machine.old.cpu (B.ram machine.old.bus) (B.device machine.old.bus))
-        (record { registers = teller.old.registers; ram = B.ram teller.old.memory }))) }
-    ensures fault { IfErr result (IsFaultOf (B.fault machine.new.bus)) }
+        (world_of N machine.old.cpu (B.state machine.old.bus)).held
+        (record { registers = teller.old.registers; ram = (B.state teller.old.memory).held.ram }))) }
+    ensures fault { IfErr result (IsFaultOf (B.state machine.new.bus).port.fault) }
 {
     match put_start(machine, teller, out) {
         Ok(()) => {}

@@ -32,8 +32,10 @@ fn push_change<B: Bus>(
 ) -> Result<(), AllocError>
     ensures text { OnOk result
         (string_bytes line.new ≡
-        string_bytes line.old ++ (change_at letter.now (B.ram known.old) (B.ram bus.now) place).0) }
-    ensures ram { OnOk result (B.ram known.new ≡ (change_at letter.now (B.ram known.old) (B.ram bus.now) place).1) }
+        string_bytes line.old
+        ++ (change_at letter.now (B.state known.old).held.ram (B.state bus.now).held.ram place).0) }
+    ensures ram { OnOk result ((B.state known.new).held.ram ≡
+        (change_at letter.now (B.state known.old).held.ram (B.state bus.now).held.ram place).1) }
 {
     let Some(place) = place else {
         return Ok(());
@@ -57,8 +59,10 @@ pub fn push_words<B: Bus>(
     places: &Places,
 ) -> Result<(), AllocError>
     ensures text { OnOk result
-        (string_bytes line.new ≡ string_bytes line.old ++ (told_words (B.ram known.old) (B.ram bus.now) places.now).0) }
-    ensures ram { OnOk result (B.ram known.new ≡ (told_words (B.ram known.old) (B.ram bus.now) places.now).1) }
+        (string_bytes line.new ≡
+        string_bytes line.old ++ (told_words (B.state known.old).held.ram (B.state bus.now).held.ram places.now).0) }
+    ensures ram { OnOk result ((B.state known.new).held.ram ≡
+        (told_words (B.state known.old).held.ram (B.state bus.now).held.ram places.now).1) }
 {
     push_change(line, "e", known, bus, places.fetched)?;
     push_change(line, "e", known, bus, places.accessed)?;

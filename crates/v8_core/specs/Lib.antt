@@ -44,6 +44,7 @@ pub use Rattle.v8_mmu.specs.Meaning
 pub use Rattle.v8_mmu.specs.Paths
 pub use Rattle.v8_mmu.specs.Permissions
 pub use Rattle.v8_mmu.specs.Ram
+pub use Rattle.v8_mmu.specs.States
 pub use Rattle.v8_mmu.specs.Walked
 pub use Rattle.v8_mmu.specs.declared.access.Access
 pub use Rattle.v8_mmu.specs.declared.access.AccessKind

@@ -1,15 +1,14 @@
 //! The machine: a processor and an MMU on a bus.
-ghost use Rattle.std.specs.Prelude.{◌≡◌, ℕ, ◌+◌, ◌*◌, ◌/◌, ◌%◌, ◌^◌, ◌<◌, ◌≤◌, ◌↔◌, IsTrue, IfErr, IfOk, IfSome, OnErr};
+ghost use Rattle.std.specs.Prelude.{◌≡◌, ℕ, ◌+◌, ◌*◌, ◌/◌, ◌%◌, ◌^◌, ◌<◌, ◌≤◌, ◌↔◌, IsTrue, IfSome};
 ghost use Rattle.std.specs.Prelude.{if◌then◌else◌};
 ghost use Rattle.std.specs.Borrow.{Lends, sem};
-ghost use Rattle.v8_mmu.specs.Answers.{Grows, failed_after};
 ghost use Rattle.v8_mmu.specs.Paths.{LeadsTo};
 ghost use Rattle.v8_mmu.specs.Walked.{root_of};
 ghost use Rattle.v8_state.specs.Windows.{IsFile, reg_of, with_reg};
 ghost use Rattle.v8_state.specs.Registers.{booted, cleared, psr_of, psr_window, started_with, tbr_of, trap_base};
 ghost use Rattle.v8_state.specs.Registers.{with_psr, with_wim};
-ghost use Rattle.v8_core.specs.Accesses.{world};
-ghost use Rattle.v8_core.specs.Calls.{calls_by, most_calls};
+ghost use Rattle.v8_core.specs.Calls.{calls_by};
+ghost use Rattle.v8_core.specs.Completes.{Completes, world_of};
 ghost use Rattle.v8_core.specs.Steps.{next};
 
 use crate::step::{try_one, turn_by};
@@ -39,7 +38,7 @@ impl<const N: usize, B: Bus> Model for Machine<N, B> {
     ghost use Rattle.v8_mmu.specs.Walked.{root_of};
     ghost use Rattle.v8_cache.specs.Holds.{Holds};
 
-    ghost invariant = { λ m. Holds (B.ram m.bus) (root_of m.mmu) m.cache };
+    ghost invariant = { λ m. Holds (B.state m.bus).held.ram (root_of m.mmu) m.cache };
 }
 
 impl<const N: usize, B: Bus> Machine<N, B> {
@@ -81,17 +80,10 @@ impl<const N: usize, B: Bus> Machine<N, B> {
     #[tactic(auto, unfolding(crate::specs::Steps::next))]
     #[inline(always)]
     pub fn step(&mut self) -> Result<Turn, PortFault>
-        ensures step { IfOk result (λ turn. next B.meaning N self.old.mmu
-            (world N self.old.cpu (B.ram self.old.bus) (B.device self.old.bus))
-            ≡ (turn, world N self.new.cpu (B.ram self.new.bus) (B.device self.new.bus))) }
+        ensures step { Completes (next B.meaning N self.old.mmu)
+            (λ turn. calls_by B.meaning (B.state self.old.bus).held.device turn.access) result
+            (world_of N self.old.cpu (B.state self.old.bus)) (world_of N self.new.cpu (B.state self.new.bus)) }
         ensures mmu { self.new.mmu ≡ self.old.mmu }
-        ensures cpu { OnErr result (self.new.cpu ≡ self.old.cpu) }
-        ensures ram { OnErr result (B.ram self.new.bus ≡ B.ram self.old.bus) }
-        ensures device { OnErr result (B.device self.new.bus ≡ B.device self.old.bus) }
-        ensures count { B.failed self.new.bus ≡ failed_after result (B.failed self.old.bus) }
-        ensures calls { Grows (most_calls (λ turn. calls_by B.meaning (B.device self.old.bus) turn.access) result)
-            (B.calls self.old.bus) (B.calls self.new.bus) }
-        ensures own { IfErr result (λ fault. B.fault self.new.bus ≡ fault) }
     {
         if let Some(stop) = self.bus.stop() {
             return Ok(turn_by(&self.cpu, Event::Stopped(stop), None, None));
@@ -270,7 +262,7 @@ impl<const N: usize, B: Bus> Machine<N, B> {
 
     /// What an address leads to, if the machine keeps it: the page's path, as a walk of the tables finds it now.
     pub fn cached(&self, va: u32) -> Option<Found>
-        ensures { IfSome result (λ f. LeadsTo (B.ram self.now.bus) (root_of self.now.mmu) va f) }
+        ensures { IfSome result (λ f. LeadsTo (B.state self.now.bus).held.ram (root_of self.now.mmu) va f) }
     {
         self.cache.found(va)
     }

@@ -307,16 +307,11 @@ impl<const M: usize> Bus for Small<M> {
 
     ghost Device = { Option Stop };
 
-    ghost ram = { λ b. b.bytes };
-
-    ghost device = { λ b. b.stop };
-
-    ghost failed = { λ b. b.failures };
-
     // Each call of the port fails.
-    ghost calls = { λ b. b.failures };
-
-    ghost fault = { λ b. b.fault };
+    ghost state = { λ b. record {
+      held = record { ram = b.bytes; device = b.stop };
+      port = record { failed = b.failures; calls = b.failures; fault = b.fault };
+    } };
 
     ghost meaning = { small };
 

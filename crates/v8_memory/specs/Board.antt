@@ -7,8 +7,10 @@ use Rattle.v8_mmu.specs.declared.bus.Stop.{Stop}
 use Rattle.v8_mmu.specs.declared.bus.Stop.TheVariants.{Exit, Trapped}
 use Rattle.v8_mmu.specs.Meaning.{Meaning, exchanged_after}
 use Rattle.v8_mmu.specs.Ram.{number_at, with_number}
+use Rattle.v8_mmu.specs.States.{Memory, Ported}
 use Rattle.v8_map.specs.declared.TheConstants.{DEVICE_PLACE, RAM}
 use Rattle.v8_memory.specs.Input.{next_byte}
+use Rattle.v8_memory.specs.declared.port.Port.{Ghosts}
 
 -- The device: the input that is left, whether its end was met, the output so far, and what has stopped the machine.
 pub record Device : Type 0 where
@@ -19,6 +21,13 @@ pub record Device : Type 0 where
 
 abbrev pub seen : List ℕ → Bool → List ℕ → Option Stop → Device
 seen i e o s = record { input = i; ended = e; output = o; stopped = s }
+
+-- RAM and the device, whose port this is, as a bus is seen
+abbrev pub board_seen : {P : Type 0} → (g : Ghosts P) → List ℕ → P → Bool → Option Stop → Ported (Memory Device)
+board_seen g ram port ended stopped = record {
+  held = record { ram = ram; device = seen (g.input port) ended (g.output port) stopped };
+  port = record { failed = g.failed port; calls = g.calls port; fault = g.fault port };
+}
 
 -- RAM as it is made
 pub record IsBlank (ram : List ℕ) : Type 0 where

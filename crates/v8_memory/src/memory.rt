@@ -1,11 +1,13 @@
 //! RAM and the device, as a bus.
 ghost use Rattle.std.specs.Prelude.{◌≡◌, ℕ, ◌+◌, ◌*◌, ◌%◌, ◌-◌, ◌^◌, ◌<◌, ◌≤◌, ◌==◌, not, [], length, IfErr, IfOk};
-ghost use Rattle.std.specs.Prelude.{OnOk, OnErr, None, false, Option};
-ghost use Rattle.v8_mmu.specs.Answers.{Grows, IfPort, OnUnanswered, bus_failed_after, call_if, calls_of, failed_after};
+ghost use Rattle.std.specs.Prelude.{OnErr, None, false, Option};
+ghost use Rattle.v8_mmu.specs.Answers.{Grows, call_if, failed_after};
+ghost use Rattle.v8_mmu.specs.Meaning.{stored_after};
+ghost use Rattle.v8_mmu.specs.States.{Leaves};
 ghost use Rattle.v8_map.specs.declared.TheConstants.{RAM};
 ghost use Rattle.v8_memory.specs.Placing.{HasWords, HasBytesOf};
 ghost use Rattle.v8_mmu.specs.Ram.{AreBytes, entry_of};
-ghost use Rattle.v8_memory.specs.Board.{IsBlank, device_store, gets, seen};
+ghost use Rattle.v8_memory.specs.Board.{IsBlank, board_seen, device_store, gets, seen, with_ram};
 
 use crate::port::Port;
 use crate::ram::Ram;
@@ -130,23 +132,11 @@ impl<P: Port> Memory<P> {
     #[tactic(auto, unfolding(crate::specs::Board::device_store))]
     fn put_word(&mut self, place: u64, value: u64) -> Result<(), BusFault>
         requires { value < 2 ^ 32 }
-        ensures ok { OnOk result
-            (device_store
-            (seen (P.input self.old.port) self.old.ended
-            (P.output self.old.port) self.old.stopped) place Size.Word value ≡
-            Some (seen (P.input self.new.port) self.new.ended (P.output self.new.port) self.new.stopped)) }
-        ensures refused { OnUnanswered result
-            (device_store
-            (seen (P.input self.old.port) self.old.ended
-            (P.output self.old.port) self.old.stopped) place Size.Word value ≡ None) }
+        ensures ends { let old = board_seen P.Port self.old.ram self.old.port self.old.ended self.old.stopped in
+            Leaves (stored_after tt (with_ram self.old.ram (device_store old.held.device place Size.Word value)))
+            (call_if (place == 4)) result old
+            (board_seen P.Port self.new.ram self.new.port self.new.ended self.new.stopped) }
         ensures ram { self.new.ram ≡ self.old.ram }
-        ensures ended { self.new.ended ≡ self.old.ended }
-        ensures stopped { OnErr result (self.new.stopped ≡ self.old.stopped) }
-        ensures input { P.input self.new.port ≡ P.input self.old.port }
-        ensures output { OnErr result (P.output self.new.port ≡ P.output self.old.port) }
-        ensures count { P.failed self.new.port ≡ bus_failed_after result (P.failed self.old.port) }
-        ensures calls { Grows (calls_of (place == 4) result) (P.calls self.old.port) (P.calls self.new.port) }
-        ensures own { IfPort result (λ fault. P.fault self.new.port ≡ fault) }
     {
         match place {
             4 => match self.port.put((value & 0xFF) as u8) {
@@ -168,19 +158,11 @@ impl<P: Port> Memory<P> {
 
 #[tactic(auto, unfolding(crate::specs::Board::board_load, crate::specs::Board::board_store, crate::specs::Board::device_load, crate::specs::Board::device_store))]
 impl<P: Port> Bus for Memory<P> {
-    ghost use Rattle.v8_memory.specs.Board.{Device, board, seen};
+    ghost use Rattle.v8_memory.specs.Board.{Device, board, board_seen};
 
     ghost Device = { Device };
 
-    ghost ram = { λ m. m.ram };
-
-    ghost device = { λ m. seen (P.input m.port) m.ended (P.output m.port) m.stopped };
-
-    ghost failed = { λ m. P.failed m.port };
-
-    ghost calls = { λ m. P.calls m.port };
-
-    ghost fault = { λ m. P.fault m.port };
+    ghost state = { λ m. board_seen P.Port m.ram m.port m.ended m.stopped };
 
     ghost meaning = { board };
 

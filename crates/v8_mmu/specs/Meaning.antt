@@ -26,7 +26,13 @@ limit_of Half = 2 ^ 16
 limit_of Word = 2 ^ 32
 limit_of Double = 2 ^ 64
 
-abbrev pub stored_after : {D : Type 0} → ℕ → Option (List ℕ × D) → Option (ℕ × List ℕ × D)
+-- the number that comes in, and RAM and device afterwards; a load leaves RAM
+abbrev pub loaded_from : {D : Type 0} → List ℕ → Option (ℕ × D) → Option (ℕ × List ℕ × D)
+loaded_from ram (Some answer) = Some (answer.0, ram, answer.1)
+loaded_from ram None = None
+
+-- the same of a store, with this value
+abbrev pub stored_after : {D T : Type 0} → T → Option (List ℕ × D) → Option (T × List ℕ × D)
 stored_after old (Some new) = Some (old, new.0, new.1)
 stored_after old None = None
 

@@ -23,15 +23,10 @@ impl<const M: usize> Bus for Words<M> {
 
     ghost Device = { Unit {0} };
 
-    ghost ram = { λ b. bytes_of b.words };
-
-    ghost device = { λ b. tt };
-
-    ghost failed = { λ b. 0 };
-
-    ghost calls = { λ b. 0 };
-
-    ghost fault = { λ b. faults.Reader };
+    ghost state = { λ b. record {
+      held = record { ram = bytes_of b.words; device = tt };
+      port = record { failed = 0; calls = 0; fault = faults.Reader };
+    } };
 
     ghost meaning = { word_bus };
 

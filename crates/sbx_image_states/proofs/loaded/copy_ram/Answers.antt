@@ -19,11 +19,12 @@ loop-number-preserved g c =
     let l = c.loop-number in
     let size = l.invariant.size in
     let fits : 4 * l.number + 4 ≤ length l.memory.ram = omega arith in
+    let ram = ap (λ s. s.held.ram) c.set_entry.ensures in
     record {
-      size = ap length c.set_entry.ensures.ram ∙ length-with_entry l.memory.ram (4 * l.number) c.word_at.result fits ∙ size;
+      size = ap length ram ∙ length-with_entry l.memory.ram (4 * l.number) c.word_at.result fits ∙ size;
       copied = copied_more l.number c.word_at.result c.args.board.now.state.world.memory.ram l.memory.ram c.set_entry.new.self.ram
-          c.requires.state.bytes c.word_at.ensures fits l.invariant.copied c.set_entry.ensures.ram;
-      device = c.set_entry.ensures.device ∙ l.invariant.device;
+          c.requires.state.bytes c.word_at.ensures fits l.invariant.copied ram;
+      device = ap (λ s. s.held.device) c.set_entry.ensures ∙ l.invariant.device;
     }
 
 pub returns-clause-ram : goal.returns-clause-ram

@@ -1,5 +1,5 @@
 use Rattle.std.proofs.Common.{refl, ◌∙◌, sym, arith}
-use Rattle.v8_core.specs.Accesses.{world}
+use Rattle.v8_core.specs.Completes.{world_of}
 use Rattle.sbx_states.proofs.Told.{all_told, nothing_told, part_told, run_told, told_more}
 use Rattle.sbx_states.proofs.turns.tell_turns.Goals as goal
 
@@ -7,8 +7,8 @@ pub loop-done-init : goal.loop-done-init
 loop-done-init g c = (
   refl,
   nothing_told g.B.Bus.meaning g.row.N c.args.mmu.now
-      (world g.row.N c.args.machine.now.cpu (g.B.Bus.ram c.args.machine.now.bus) (g.B.Bus.device c.args.machine.now.bus))
-      (record { registers = c.args.teller.now.registers; ram = g.B.Bus.ram c.args.teller.now.memory }) (g.W.Write.contents c.args.out.now),
+      (world_of g.row.N c.args.machine.now.cpu (g.B.Bus.state c.args.machine.now.bus)).held
+      (record { registers = c.args.teller.now.registers; ram = (g.B.Bus.state c.args.teller.now.memory).held.ram }) (g.W.Write.contents c.args.out.now),
 )
 
 pub loop-done-preserved : goal.loop-done-preserved

@@ -6,8 +6,8 @@ use Rattle.sbx_states.proofs.words.push_words.Goals as goal
 pub returns-clause-text : goal.returns-clause-text
 returns-clause-text g c =
     on_ok_weaker c.push_change-4.result
-    (words_text (g.B.Bus.ram c.args.known.now) (g.B.Bus.ram c.args.bus.now) (g.B.Bus.ram c.push_change.new.known) (g.B.Bus.ram c.push_change-2.new.known)
-    (g.B.Bus.ram c.push_change-3.new.known) c.args.places.now (string_bytes c.args.line.now) (string_bytes c.push_change.new.line)
+    (words_text (g.B.Bus.state c.args.known.now).held.ram (g.B.Bus.state c.args.bus.now).held.ram (g.B.Bus.state c.push_change.new.known).held.ram (g.B.Bus.state c.push_change-2.new.known).held.ram
+    (g.B.Bus.state c.push_change-3.new.known).held.ram c.args.places.now (string_bytes c.args.line.now) (string_bytes c.push_change.new.line)
     (string_bytes c.push_change-2.new.line) (string_bytes c.push_change-3.new.line) (string_bytes c.push_change-4.new.line)
     c.in_ok-push_change.ensures.text c.in_ok-push_change.ensures.ram c.in_ok-push_change-2.ensures.text c.in_ok-push_change-2.ensures.ram
     c.in_ok-push_change-3.ensures.text c.in_ok-push_change-3.ensures.ram) c.push_change-4.ensures.text
@@ -15,6 +15,6 @@ returns-clause-text g c =
 pub returns-clause-ram : goal.returns-clause-ram
 returns-clause-ram g c =
     on_ok_weaker c.push_change-4.result
-    (words_ram (g.B.Bus.ram c.args.known.now) (g.B.Bus.ram c.args.bus.now) (g.B.Bus.ram c.push_change.new.known) (g.B.Bus.ram c.push_change-2.new.known)
-    (g.B.Bus.ram c.push_change-3.new.known) (g.B.Bus.ram c.push_change-4.new.known) c.args.places.now
+    (words_ram (g.B.Bus.state c.args.known.now).held.ram (g.B.Bus.state c.args.bus.now).held.ram (g.B.Bus.state c.push_change.new.known).held.ram (g.B.Bus.state c.push_change-2.new.known).held.ram
+    (g.B.Bus.state c.push_change-3.new.known).held.ram (g.B.Bus.state c.push_change-4.new.known).held.ram c.args.places.now
     c.in_ok-push_change.ensures.ram c.in_ok-push_change-2.ensures.ram c.in_ok-push_change-3.ensures.ram) c.push_change-4.ensures.ram

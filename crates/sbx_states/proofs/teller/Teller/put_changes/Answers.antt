@@ -7,12 +7,14 @@ use Rattle.sbx_states.proofs.teller.Teller.put_changes.Goals as goal
 
 pub returns-clause-text : goal.returns-clause-text
 returns-clause-text g c =
-    let words = same_ram_text (g.B.Bus.ram c.args.self.now.memory) (g.B.Bus.ram c.put_registers.new.self.memory) (g.B.Bus.ram c.args.machine.now.bus) (g.B.Bus.ram c.bus.result.now)
-    c.args.places.now (string_bytes c.put_registers.new.self.line) (string_bytes c.push_words.new.line) (ap g.B.Bus.ram c.put_registers.ensures.memory)
-    (ap g.B.Bus.ram c.bus.ensures) c.in_ok-push_words.ensures.text in
+    let words = same_ram_text (g.B.Bus.state c.args.self.now.memory).held.ram (g.B.Bus.state c.put_registers.new.self.memory).held.ram
+    (g.B.Bus.state c.args.machine.now.bus).held.ram (g.B.Bus.state c.bus.result.now).held.ram
+    c.args.places.now (string_bytes c.put_registers.new.self.line) (string_bytes c.push_words.new.line) (ap (λ m. (g.B.Bus.state m).held.ram) c.put_registers.ensures.memory)
+    (ap (λ m. (g.B.Bus.state m).held.ram) c.bus.ensures) c.in_ok-push_words.ensures.text in
     on_ok_weaker c.push_str.result
     (changes_are (string_bytes c.args.self.now.line) (string_bytes c.put_registers.new.self.line) (string_bytes c.push_words.new.line) (string_bytes c.push_str.new.self)
-    (registers_text g.row.N c.args.self.now.registers c.args.machine.now.cpu) (told_words (g.B.Bus.ram c.args.self.now.memory) (g.B.Bus.ram c.args.machine.now.bus) c.args.places.now).0
+    (registers_text g.row.N c.args.self.now.registers c.args.machine.now.cpu)
+    (told_words (g.B.Bus.state c.args.self.now.memory).held.ram (g.B.Bus.state c.args.machine.now.bus).held.ram c.args.places.now).0
     c.in_ok-put_registers.ensures.text words)
     (pushed c.push_str.result (string_bytes c.push_words.new.line) (string_bytes c.push_str.new.self) (codes "\n") c.push_str.ensures.bytes)
 
@@ -22,5 +24,8 @@ returns-clause-registers g c = always c.push_str.result c.in_ok-put_registers.en
 pub returns-clause-memory : goal.returns-clause-memory
 returns-clause-memory g c =
     always c.push_str.result
-    (same_ram_ram (g.B.Bus.ram c.args.self.now.memory) (g.B.Bus.ram c.put_registers.new.self.memory) (g.B.Bus.ram c.args.machine.now.bus) (g.B.Bus.ram c.bus.result.now)
-    (g.B.Bus.ram c.push_words.new.known) c.args.places.now (ap g.B.Bus.ram c.put_registers.ensures.memory) (ap g.B.Bus.ram c.bus.ensures) c.in_ok-push_words.ensures.ram)
+    (same_ram_ram (g.B.Bus.state c.args.self.now.memory).held.ram (g.B.Bus.state c.put_registers.new.self.memory).held.ram
+    (g.B.Bus.state c.args.machine.now.bus).held.ram (g.B.Bus.state c.bus.result.now).held.ram
+    (g.B.Bus.state c.push_words.new.known).held.ram c.args.places.now
+    (ap (λ m. (g.B.Bus.state m).held.ram) c.put_registers.ensures.memory)
+    (ap (λ m. (g.B.Bus.state m).held.ram) c.bus.ensures) c.in_ok-push_words.ensures.ram)

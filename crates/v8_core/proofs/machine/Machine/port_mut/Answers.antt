@@ -1,5 +1,5 @@
 use Rattle.std.proofs.lemmas.Grind.{common_steps}
-use Rattle.std.proofs.Common.{arith, rules, sym, subst}
+use Rattle.std.proofs.Common.{arith, sym, subst}
 use Rattle.v8_mmu.specs.Walked.{root_of}
 use Rattle.v8_cache.specs.Holds.{Holds}
 use Rattle.v8_core.proofs.machine.Machine.port_mut.Goals as goal

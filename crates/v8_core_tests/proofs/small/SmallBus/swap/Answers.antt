@@ -1,9 +1,5 @@
-use Rattle.std.proofs.Common.{rules}
 use Rattle.v8_core_tests.proofs.Kept.{small_keeps}
 use Rattle.v8_core_tests.proofs.small.SmallBus.swap.Goals as goal
-
-pub returns-then-take-clause-ok : goal.returns-then-take-clause-ok
-returns-then-take-clause-ok g c = search rules
 
 pub returns-then-take-clause-elsewhere : goal.returns-then-take-clause-elsewhere
 returns-then-take-clause-elsewhere g c = small_keeps _ _ _ _ _ _ _ (rw c.if-take.true at c.take.ensures.done)

@@ -6,29 +6,11 @@ use Rattle.v8_memory.proofs.memory.MemoryBus.write.Goals as goal
 pub returns-then-write-clause-elsewhere : goal.returns-then-write-clause-elsewhere
 returns-then-write-clause-elsewhere g c = write_keeps _ _ _ _ _ _ c.write.ensures.missing c.requires c.write.ensures.change
 
-pub returns-in-Word-clause-count : goal.returns-in-Word-clause-count
-returns-in-Word-clause-count g c = assumption
-
-pub returns-in-Word-clause-own : goal.returns-in-Word-clause-own
-returns-in-Word-clause-own g c = assumption
-
-pub returns-else-write-clause-ram : goal.returns-else-write-clause-ram
-returns-else-write-clause-ram g c = grind (arith, common_steps)
-
 pub returns-in-Word-clause-elsewhere : goal.returns-in-Word-clause-elsewhere
 returns-in-Word-clause-elsewhere g c = grind (arith, common_steps)
 
 pub returns-else-write-clause-elsewhere : goal.returns-else-write-clause-elsewhere
 returns-else-write-clause-elsewhere g c = grind (arith, common_steps)
 
-pub returns-in-Word-clause-calls : goal.returns-in-Word-clause-calls
-returns-in-Word-clause-calls g c = grind (arith, common_steps)
-
-pub returns-in-Word-clause-ram : goal.returns-in-Word-clause-ram
-returns-in-Word-clause-ram g c = grind (arith, common_steps)
-
 pub put_word-requires : goal.put_word-requires
 put_word-requires g c = grind (arith, common_steps)
-
-pub returns-in-Word-clause-device : goal.returns-in-Word-clause-device
-returns-in-Word-clause-device g c = grind (arith, common_steps)
