@@ -1,5 +1,0 @@
-use Rattle.std.proofs.Common.{rules}
-use Rattle.v8_core.proofs.machine.Machine.error_mode.Goals as goal
-
-pub returns : goal.returns
-returns g c = search rules
