@@ -3,3 +3,4 @@ pub mod Served
 pub mod Onward
 pub mod Ends
 pub mod Stepping
+pub mod Gliding

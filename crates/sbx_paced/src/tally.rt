@@ -42,14 +42,17 @@ impl Tally {
         }
     }
 
-    /// Counts a turn.
+    /// Counts turns up to this count, behind which so many windows are taken, and each of which found one.
     #[inline(always)]
-    pub fn count_one(&mut self)
-        requires { self.old.traffic.turns < 2 ^ 62 }
+    pub fn count_up_to(&mut self, turns: u64, windows: u32)
+        requires onward { self.old.traffic.turns ≤ turns }
+        requires few { turns ≤ 2 ^ 62 }
+        requires taken { (1 ≤ windows) × (windows < self.old.windows) }
         ensures windows { self.new.windows ≡ self.old.windows }
-        ensures turns { self.new.traffic ≡ record self.old.traffic { turns = self.old.traffic.turns + 1 } }
+        ensures turns { self.new.traffic ≡ record self.old.traffic { windows = windows; turns = turns } }
     {
-        self.traffic.turns += 1;
+        self.traffic.windows = windows;
+        self.traffic.turns = turns;
     }
 
     /// The counts behind the next step, of a decoded word or of none; None where they would have more turns than the
