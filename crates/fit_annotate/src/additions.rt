@@ -108,14 +108,19 @@ impl Own<'_> {
         Ok(())
     }
 
+    /// Whether the source tells the function's depth.
+    fn has_depth(&self) -> bool {
+        for given in &self.head.given {
+            if matches!(given.directive, Directive::Depth(_)) {
+                return true;
+            }
+        }
+        false
+    }
+
     /// Adds a function's depth, where the source tells depths and not this one.
     fn add_depth(&mut self, depth: u64) -> Result<(), AllocError> {
-        let has_one = self
-            .head
-            .given
-            .iter()
-            .any(|given| matches!(given.directive, Directive::Depth(_)));
-        if depth > 0 && !has_one {
+        if depth > 0 && !self.has_depth() {
             let before = self.head.line.saturating_add(1);
             self.push(before, Annotation::Depth(depth))?;
         }
@@ -137,10 +142,10 @@ impl Own<'_> {
         let mut done = self.head.line.saturating_add(1);
         self.move_to(done, additions)?;
         for given in &self.head.given {
-            for line in [given.line, given.line.saturating_add(1)] {
-                if done < line {
-                    done = line;
-                    self.move_to(line, additions)?;
+            for line in &[given.line, given.line.saturating_add(1)] {
+                if done < *line {
+                    done = *line;
+                    self.move_to(done, additions)?;
                 }
             }
         }

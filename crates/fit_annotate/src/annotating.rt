@@ -4,13 +4,14 @@ ghost use Rattle.sbx_asm.specs.Items.{lines_of};
 ghost use Rattle.sbx_asm.specs.Images.{source_image};
 ghost use Rattle.fit_insert.specs.Lines.{IsAnnotated, without};
 
-use crate::additions::additions_of;
+use crate::additions::{Added, additions_of};
 use crate::declared::{Declared, Looking, declared_by};
 use crate::notes::{Asked, Note};
 use fit_code::{Fault, NO_LINE, Reason};
 use fit_insert::insert;
-use fit_source::{lines_of, program_of};
+use fit_source::{Lines, lines_of, program_of};
 use sbx_asm::{AsmFault, assemble};
+use sbx_image::Image;
 use std::alloc::{AllocError, Global};
 
 /// Why there is no annotated source.
@@ -77,6 +78,25 @@ fn notes_of(looking: &Looking<'_>, declared: Declared) -> Result<Vec<Note>, Allo
     Ok(notes)
 }
 
+/// What is put into a source, of which the assembler makes an image, and notes of what isn't shown.
+fn found_of(
+    alloc: Global,
+    file: &str,
+    image: &Image,
+    lines: &Lines,
+) -> Result<(Added, Vec<Note>), Refusal> {
+    let read = program_of(alloc, file, image, lines)?;
+    let looking = Looking {
+        alloc,
+        image,
+        heads: lines.heads.as_slice(),
+    };
+    let declared = declared_by(&looking, read)?;
+    let added = additions_of(alloc, &looking, &declared)?;
+    let notes = notes_of(&looking, declared)?;
+    Ok((added, notes))
+}
+
 /// What an inserted line that is no annotation is told as; it can't be.
 fn misplaced() -> Refusal {
     Refusal::Program(Fault::new(
@@ -113,15 +133,7 @@ pub fn annotate(alloc: Global, file: &str, source: &[u8]) -> Result<Annotated, R
 {
     let image = assemble(alloc, source)?;
     let lines = lines_of(alloc, source)?;
-    let read = program_of(alloc, file, &image, &lines)?;
-    let looking = Looking {
-        alloc,
-        image: &image,
-        heads: lines.heads.as_slice(),
-    };
-    let declared = declared_by(&looking, read)?;
-    let added = additions_of(alloc, &looking, &declared)?;
-    let notes = notes_of(&looking, declared)?;
+    let (added, notes) = found_of(alloc, file, &image, &lines)?;
     let inserted = insert(
         alloc,
         source,

@@ -1,11 +1,10 @@
 //! What the functions of a source declare: what it says of them itself, and what is found.
 use crate::notes::{Asked, Note};
-use fit_asks::{Asking, asks_of};
-use fit_bounds::bounds_of;
 use fit_code::{Fault, Function, Program, Reason};
-use fit_fuel::{declare_function, total_of};
+use fit_fuel::{bounds_of, declare_function, total_of};
 use fit_ranges::Ranges;
 use fit_source::{Head, Read};
+use fit_tests::{Asking, asks_of};
 use fit_text::FunctionNotes;
 use sbx_directives::Directive;
 use sbx_domain::State;
@@ -35,10 +34,12 @@ pub struct Looking<'l> {
 
 /// Whether the source says something of a block's fuel.
 fn says_fuel(head: &Head) -> bool {
-    head.given.iter().any(|given| matches!(
-        given.directive,
-        Directive::Fuel(_) | Directive::Term(_)
-    ))
+    for given in &head.given {
+        if matches!(given.directive, Directive::Fuel(_) | Directive::Term(_)) {
+            return true;
+        }
+    }
+    false
 }
 
 /// The cells that the source says of each function's blocks.
@@ -56,12 +57,16 @@ fn said_cells(looking: &Looking<'_>) -> Result<Vec<Vec<Vec<Cell>>>, AllocError> 
 
 /// Whether one of a function's calls goes where the budget isn't known.
 fn calls_unknown(function: &Function, known: &[bool]) -> bool {
-    function.blocks.iter().any(|block| {
-        block.steps.iter().any(|step| match step.callee {
-            Some(callee) => !known.get(callee).copied().unwrap_or(false),
-            None => false,
-        })
-    })
+    for block in &function.blocks {
+        for step in &block.steps {
+            if let Some(callee) = step.callee
+                && !known.get(callee).copied().unwrap_or(false)
+            {
+                return true;
+            }
+        }
+    }
+    false
 }
 
 /// Notes of what isn't shown of a function's steps.
@@ -106,7 +111,12 @@ impl<'l> Looking<'l> {
 
     /// Whether the source says something of a function's fuel.
     fn says_fuel_of(&self, number: usize) -> bool {
-        self.heads_of(number).iter().any(says_fuel)
+        for head in self.heads_of(number) {
+            if says_fuel(head) {
+                return true;
+            }
+        }
+        false
     }
 
     /// The fuel with which a function begins, as the source says it.
@@ -301,21 +311,27 @@ impl Declared {
             total.room,
         )?;
         let depth = self.settled(line, "the depth", u64::from(said.depth), total.depth)?;
-        if let Some(place) = self.functions.get_mut(number) {
-            *place = Some(FunctionNotes {
-                budget,
-                room,
-                depth,
-                blocks,
-            });
-        }
+        let notes = FunctionNotes {
+            budget,
+            room,
+            depth,
+            blocks,
+        };
+        self.put(number, notes, is_known);
+        Ok(())
+    }
+
+    /// Says of a function what it declares, and whether its budget is known.
+    fn put(&mut self, number: usize, notes: FunctionNotes, is_known: bool) {
         if let Some(place) = self.budgets.get_mut(number) {
-            *place = budget;
+            *place = notes.budget;
         }
         if let Some(place) = self.known.get_mut(number) {
             *place = is_known;
         }
-        Ok(())
+        if let Some(place) = self.functions.get_mut(number) {
+            *place = Some(notes);
+        }
     }
 }
 

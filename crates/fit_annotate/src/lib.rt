@@ -9,6 +9,3 @@ mod notes;
 
 pub use annotating::{Annotated, Refusal, annotate};
 pub use notes::{Asked, Note, Shown};
-
-#[cfg(test)]
-mod tests;

@@ -1,6 +1,6 @@
 //! What isn't shown of a source, as notes to its author.
-use fit_asks::{Access, Lack, needed_alignment};
 use fit_code::Fault;
+use fit_tests::{Access, Lack, needed_alignment};
 use sbx_declare::Location;
 use sbx_image::Range;
 use std::fmt::{self, Error, Formatter, Write};

@@ -28,16 +28,32 @@ pub fn hull(a: Range, b: Range) -> Range
     }
 }
 
+/// The threshold of a location at or below a number; the least word where none is known.
+fn lower_end(thresholds: Option<&Thresholds>, location: u16, number: i32) -> i32 {
+    match thresholds {
+        Some(thresholds) => thresholds.lower(location, number),
+        None => i32::MIN,
+    }
+}
+
+/// The threshold of a location at or above a number; the greatest word where none is known.
+fn upper_end(thresholds: Option<&Thresholds>, location: u16, number: i32) -> i32 {
+    match thresholds {
+        Some(thresholds) => thresholds.upper(location, number),
+        None => i32::MAX,
+    }
+}
+
 /// A range of a location that holds the words of both, whose ends are thresholds where they aren't those of the first.
 fn widened(thresholds: Option<&Thresholds>, location: u16, old: Range, new: Range) -> Range {
     Range {
         lo: if new.lo < old.lo {
-            thresholds.map_or(i32::MIN, |it| it.lower(location, new.lo))
+            lower_end(thresholds, location, new.lo)
         } else {
             old.lo
         },
         hi: if new.hi > old.hi {
-            thresholds.map_or(i32::MAX, |it| it.upper(location, new.hi))
+            upper_end(thresholds, location, new.hi)
         } else {
             old.hi
         },
@@ -103,16 +119,22 @@ pub fn widened_cells(
 
 /// Whether two lists are the same.
 pub fn are_same(a: &[Cell], b: &[Cell]) -> bool {
+    for (place, x) in a.iter().enumerate() {
+        match b.get(place) {
+            Some(y) if x.location == y.location && x.range == y.range => {}
+            _ => return false,
+        }
+    }
     a.len() == b.len()
-        && a.iter()
-            .zip(b)
-            .all(|(x, y)| x.location == y.location && x.range == y.range)
 }
 
 /// Whether each cell of the second list is defined by the first one, and lies within it.
 pub fn are_within(found: &[Cell], wanted: &[Cell]) -> bool {
-    wanted.iter().all(|cell| match range_in(found, cell.location) {
-        Some(range) => is_within(range, cell.range),
-        None => false,
-    })
+    for cell in wanted {
+        match range_in(found, cell.location) {
+            Some(range) if is_within(range, cell.range) => {}
+            _ => return false,
+        }
+    }
+    true
 }

@@ -1,7 +1,7 @@
 //! The numbers that a function compares the words of its locations with: where a range that grows in a loop is to stop,
 //! one of these mostly ends it.
 use fit_code::{Block, Function, Step};
-use fit_live::effects_of;
+use fit_graph::effects_of;
 use sbx_domain::{LOCATIONS, frame_word_of};
 use std::alloc::{AllocError, Global};
 use v8_formats::{Operand, Reg, Three};
@@ -125,8 +125,8 @@ impl Compared {
     /// Adds a number and those beside it to a location's.
     fn add(&mut self, location: u16, number: i64) -> Result<(), AllocError> {
         if let Some(numbers) = self.numbers.get_mut(usize::from(location)) {
-            for beside in [number.saturating_sub(1), number, number.saturating_add(1)] {
-                if let Ok(number) = i32::try_from(beside) {
+            for beside in &[number.saturating_sub(1), number, number.saturating_add(1)] {
+                if let Ok(number) = i32::try_from(*beside) {
                     numbers.push(number)?;
                 }
             }

@@ -3,27 +3,49 @@ use fit_code::Function;
 use fit_graph::{Loop, Order, loops_of, order_of, successors_in};
 use std::alloc::{AllocError, Global};
 
+/// The place of a block.
+fn place_of(blocks: &[usize], block: usize) -> Option<usize> {
+    for (place, other) in blocks.iter().enumerate() {
+        if *other == block {
+            return Some(place);
+        }
+    }
+    None
+}
+
+/// The blocks from a place on as far as those of a loop go: the loop's, in their order, and behind them the others.
+fn gathered(
+    alloc: Global,
+    blocks: &[usize],
+    start: usize,
+    within: &Loop,
+) -> Result<Vec<usize>, AllocError> {
+    let mut inside = Vec::new(alloc);
+    let mut between: Vec<usize> = Vec::new(alloc);
+    for (place, block) in blocks.iter().enumerate() {
+        if place >= start && inside.len() < within.size {
+            let list = if within.has(*block) {
+                &mut inside
+            } else {
+                &mut between
+            };
+            list.push(*block)?;
+        }
+    }
+    inside.extend_from_slice(between.as_slice())?;
+    Ok(inside)
+}
+
 /// Puts a loop's blocks right behind its head, in their order, and behind them those that stood between them.
 fn gather(alloc: Global, blocks: &mut [usize], within: &Loop) -> Result<(), AllocError> {
-    let Some(start) = blocks.iter().position(|block| *block == within.head) else {
+    let Some(start) = place_of(blocks, within.head) else {
         return Ok(());
     };
-    let mut inside = Vec::new(alloc);
-    let mut between = Vec::new(alloc);
-    for block in blocks.iter().skip(start) {
-        if inside.len() >= within.size {
-            break;
+    let found = gathered(alloc, blocks, start, within)?;
+    for (place, block) in found.iter().enumerate() {
+        if let Some(slot) = blocks.get_mut(start.saturating_add(place)) {
+            *slot = *block;
         }
-        let list = if within.has(*block) {
-            &mut inside
-        } else {
-            &mut between
-        };
-        list.push(*block)?;
-    }
-    let found = inside.iter().chain(between.iter());
-    for (slot, block) in blocks.iter_mut().skip(start).zip(found) {
-        *slot = *block;
     }
     Ok(())
 }
@@ -53,8 +75,9 @@ fn ends_of(alloc: Global, function: &Function, order: &Order) -> Result<Vec<usiz
         ends.push(place.saturating_add(1))?;
     }
     for (place, from) in order.blocks.iter().enumerate() {
-        for to in successors_in(function, *from).into_iter().flatten() {
-            if let Some(earlier) = order.place(to)
+        for to in &successors_in(function, *from) {
+            if let Some(to) = to
+                && let Some(earlier) = order.place(*to)
                 && let Some(end) = ends.get_mut(earlier)
             {
                 *end = place.saturating_add(1).max(*end);

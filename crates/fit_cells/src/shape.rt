@@ -1,8 +1,7 @@
 //! The shape of a function, for who goes along its ways.
 use crate::order::{order_by_loops, stretches_of};
 use fit_code::Function;
-use fit_graph::{Order, successors_in};
-use fit_live::Locations;
+use fit_graph::{Locations, Order, successors_in};
 use std::alloc::{AllocError, Global};
 
 /// What stays the same while a function's ranges are looked for.
@@ -47,9 +46,9 @@ fn empty_lists(alloc: Global, count: usize) -> Result<Vec<Vec<usize>>, AllocErro
 fn sources_of(alloc: Global, function: &Function) -> Result<Vec<Vec<usize>>, AllocError> {
     let mut sources = empty_lists(alloc, function.blocks.len())?;
     for from in 0..function.blocks.len() {
-        for (way, to) in successors_in(function, from).into_iter().enumerate() {
+        for (way, to) in successors_in(function, from).iter().enumerate() {
             if let Some(to) = to
-                && let Some(list) = sources.get_mut(to)
+                && let Some(list) = sources.get_mut(*to)
             {
                 list.push(way_of(from, way))?;
             }
@@ -62,10 +61,11 @@ fn sources_of(alloc: Global, function: &Function) -> Result<Vec<Vec<usize>>, All
 fn heads_of(alloc: Global, function: &Function, order: &Order) -> Result<Vec<bool>, AllocError> {
     let mut heads = vec![in alloc; false; function.blocks.len()]?;
     for (place, from) in order.blocks.iter().enumerate() {
-        for to in successors_in(function, *from).into_iter().flatten() {
-            if let Some(earlier) = order.place(to)
+        for to in &successors_in(function, *from) {
+            if let Some(to) = to
+                && let Some(earlier) = order.place(*to)
                 && earlier <= place
-                && let Some(head) = heads.get_mut(to)
+                && let Some(head) = heads.get_mut(*to)
             {
                 *head = true;
             }

@@ -75,9 +75,9 @@ impl Thresholds {
     /// Adds the ends of params.
     fn add_params(&mut self, params: &[Range]) -> Result<(), AllocError> {
         for range in params {
-            for number in [range.lo, range.hi] {
-                push_around(&mut self.numbers, number)?;
-                push_around(&mut self.addresses, number)?;
+            for number in &[range.lo, range.hi] {
+                push_around(&mut self.numbers, *number)?;
+                push_around(&mut self.addresses, *number)?;
             }
         }
         Ok(())
@@ -133,8 +133,8 @@ fn push_ends(thresholds: &mut Vec<i32>, start: i32, length: i32) -> Result<(), A
     let end = start.saturating_add(length);
     push_around(thresholds, start)?;
     push_around(thresholds, end)?;
-    for size in [2, 4, 8] {
-        thresholds.push(end.saturating_sub(size))?;
+    for size in &[2, 4, 8] {
+        thresholds.push(end.saturating_sub(*size))?;
     }
     Ok(())
 }

@@ -1,12 +1,12 @@
-//! Fuel: what each block of a fitted program declares, so that a run is shown to end.
+//! Fuel: what each block of a fitted program declares, so that a run is shown to end; and the meter, by which loops
+//! that no counter bounds are.
 #![tactic(auto)]
 
-mod dearest;
+mod bounds;
 mod declaring;
-mod limits;
-mod metering;
-mod terms;
-mod totals;
+mod meter;
+mod ways;
 
-pub use declaring::{declare, declare_function};
-pub use totals::{Total, total_of};
+pub use bounds::{bounded_heads, bounds_of};
+pub use declaring::{declare, declare_function, total_of};
+pub use meter::{Meter, put_number, put_step, step_of};

@@ -64,15 +64,20 @@ impl Source {
         Ok(())
     }
 
+    /// How many bytes an object has by now.
+    fn length_of(&self, number: usize) -> usize {
+        match self.objects.get(number) {
+            Some(object) => object.bytes.len(),
+            None => 0,
+        }
+    }
+
     /// Aligns what is added next within the object that is read.
     fn pad(&mut self) -> Result<(), Fault> {
         let align = self.align as usize;
         self.align = 1;
         let length = match self.object {
-            Some(number) => self
-                .objects
-                .get(number)
-                .map_or(0, |object| object.bytes.len()),
+            Some(number) => self.length_of(number),
             None => 0,
         };
         match length.checked_rem(align) {

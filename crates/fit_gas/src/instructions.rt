@@ -37,6 +37,16 @@ pub fn with_part(instr: u32, part: Part, word: u32) -> u32 {
     instr | field
 }
 
+/// Where the first parenthesis from a place on closes.
+fn closing_from(text: &[u8], start: usize) -> Option<usize> {
+    for (place, byte) in text.iter().enumerate() {
+        if place >= start && *byte == b')' {
+            return Some(place);
+        }
+    }
+    None
+}
+
 /// A part of an address among operands: where it begins, where its parenthesis closes, and which one it is.
 fn part_in(text: &[u8]) -> Option<(usize, usize, Part)> {
     for start in 0..text.len() {
@@ -45,9 +55,7 @@ fn part_in(text: &[u8]) -> Option<(usize, usize, Part)> {
             b"%lo(" => Part::Low,
             _ => continue,
         };
-        let behind = bytes_between(text, start, text.len());
-        let length = behind.iter().position(|byte| *byte == b')')?;
-        return Some((start, start.saturating_add(length), part));
+        return Some((start, closing_from(text, start)?, part));
     }
     None
 }

@@ -12,10 +12,30 @@ fn is_name_byte(byte: u8) -> bool {
     byte.is_ascii_alphanumeric() || byte == b'_' || byte == b'.' || byte == b'$'
 }
 
+/// How many bytes of a text, from its beginning on, may stand in a name.
+fn name_length(text: &[u8]) -> usize {
+    for (place, byte) in text.iter().enumerate() {
+        if !is_name_byte(*byte) {
+            return place;
+        }
+    }
+    text.len()
+}
+
+/// Where the first blank of a text stands; its length where there is none.
+fn first_blank(text: &[u8]) -> usize {
+    for (place, byte) in text.iter().enumerate() {
+        if is_blank(*byte) {
+            return place;
+        }
+    }
+    text.len()
+}
+
 /// Whether some bytes are a name: letters, digits, `_`, `.` and `$`, no digit first.
 pub fn is_name(bytes: &[u8]) -> bool {
     match bytes.first() {
-        Some(first) => !first.is_ascii_digit() && bytes.iter().all(|byte| is_name_byte(*byte)),
+        Some(first) => !first.is_ascii_digit() && name_length(bytes) == bytes.len(),
         None => false,
     }
 }
@@ -62,10 +82,7 @@ pub fn content(line: &[u8]) -> &[u8] {
 
 /// What stands before the first blank, and what stands behind it.
 pub fn first_word(text: &[u8]) -> (&[u8], &[u8]) {
-    let end = text
-        .iter()
-        .position(|byte| is_blank(*byte))
-        .unwrap_or(text.len());
+    let end = first_blank(text);
     let rest = bytes_between(text, end, text.len()).trim_ascii();
     (bytes_between(text, 0, end), rest)
 }
@@ -79,10 +96,7 @@ pub fn first_operand(text: &[u8]) -> (&[u8], &[u8]) {
 
 /// The name of the label that a line begins with, and what stands behind it.
 pub fn first_label(text: &[u8]) -> Option<(&[u8], &[u8])> {
-    let end = text
-        .iter()
-        .position(|byte| !is_name_byte(*byte))
-        .unwrap_or(text.len());
+    let end = name_length(text);
     match text.get(end) {
         Some(b':') => {
             let rest = bytes_between(text, end.saturating_add(1), text.len());
@@ -149,10 +163,7 @@ pub fn expression_of(text: &[u8]) -> Option<(&[u8], i64)> {
     if let Some(number) = number_of(text) {
         return Some((&[], number));
     }
-    let end = text
-        .iter()
-        .position(|byte| !is_name_byte(*byte))
-        .unwrap_or(text.len());
+    let end = name_length(text);
     let name = bytes_between(text, 0, end);
     let offset = offset_of(bytes_between(text, end, text.len()).trim_ascii())?;
     if is_name(name) {

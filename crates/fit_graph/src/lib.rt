@@ -1,13 +1,12 @@
 //! What the ends of a function's blocks say: which blocks follow which, which stand on each way to others, and its
-//! loops.
+//! loops; and which locations are live where the blocks of a program begin.
 #![tactic(auto)]
 
-mod dominators;
 mod graph;
-mod loops;
-mod tangles;
+mod live;
 
-pub use dominators::{Dominators, dominators_of};
-pub use graph::{Order, order_of, predecessors_of, successors_in};
-pub use loops::{Loop, enters_beside_head, loops_of};
-pub use tangles::{Tangle, reached_from, successors_of, tangle_of};
+pub use graph::{
+    Loop, Order, Tangle, enters_beside_head, loops_of, order_of, predecessors_of, reached_from,
+    successors_in, successors_of, tangle_of,
+};
+pub use live::{Effects, Liveness, Locations, effects_of, read_at_end};

@@ -8,6 +8,3 @@ mod pieces;
 
 pub use annotation::{Addition, Annotation, Total};
 pub use inserting::insert;
-
-#[cfg(test)]
-mod tests;

@@ -1,7 +1,10 @@
-//! Makes a program of code that compilers wrote: blocks without delay slots, what the rules forbid put otherwise,
-//! data laid out, functions in the order of their calls.
+//! A program out of a source: functions in the order of their calls, each put in forms that the rules know.
 #![tactic(auto)]
 
-mod program;
+mod arguments;
+mod calls;
+mod frames;
+mod places;
+mod programs;
 
-pub use program::program_of;
+pub use programs::program_of;

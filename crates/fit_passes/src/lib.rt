@@ -1,7 +1,8 @@
 //! All passes over a program, one after the other: from compiler-made code to an annotated source.
 #![tactic(auto)]
 
+mod metering;
 mod passes;
+mod placing;
 
-pub use fit_code::{Fault, Reason};
-pub use passes::{Made, Plan, make};
+pub use passes::{Fault, Made, Plan, Reason, make};

@@ -1,7 +1,13 @@
-//! What is known of a program's locations where its blocks begin: in what ranges they lie. Nothing rests on it, since
-//! the verifier asks all again.
+//! What is known of a program's locations where its blocks begin: in what ranges they lie, and what its accesses'
+//! addresses are worked out from. Nothing rests on it, since the verifier asks all again.
 #![tactic(auto)]
 
+mod flow;
+mod origin;
 mod ranges;
 
+pub use origin::{
+    Bounds, Origin, Trace, bounds_in_constants, bounds_of, end_of, named_object, operand_range,
+    operands_of, origin_of, register_range, trace_of,
+};
 pub use ranges::Ranges;

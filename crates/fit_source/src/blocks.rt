@@ -132,10 +132,12 @@ impl Reading<'_> {
 
     /// The function that begins at an address.
     fn function_at(&self, address: u32) -> Option<usize> {
-        self.image
-            .functions()
-            .iter()
-            .position(|function| function.entry == address)
+        for (number, function) in self.image.functions().iter().enumerate() {
+            if function.entry == address {
+                return Some(number);
+            }
+        }
+        None
     }
 }
 
@@ -147,11 +149,12 @@ impl Blocks<'_> {
 
     /// The block that begins at an address.
     fn block_at(&self, address: u32) -> Option<usize> {
-        self.function
-            .blocks
-            .as_slice()
-            .iter()
-            .position(|block| block.address == address)
+        for (number, block) in self.function.blocks.as_slice().iter().enumerate() {
+            if block.address == address {
+                return Some(number);
+            }
+        }
+        None
     }
 
     /// The address behind a block.

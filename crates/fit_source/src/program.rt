@@ -1,7 +1,7 @@
 //! A source's image as a program.
 use crate::blocks::{Blocks, Reading};
 use crate::lines::{Head, Lines};
-use fit_code::{Fault, Function, Line, NO_LINE, Object, Program, Region};
+use fit_code::{Block, Fault, Function, Line, NO_LINE, Object, Program, Region};
 use sbx_image::Image;
 use std::alloc::{AllocError, Global};
 use v8_formats::Instr;
@@ -79,6 +79,59 @@ fn add_data(alloc: Global, image: &Image, program: &mut Program) -> Result<(), A
     Ok(())
 }
 
+/// Puts a block behind others.
+fn push_block(blocks: &mut Vec<Block>, block: Block) -> Result<(), AllocError> {
+    blocks.push(block)?;
+    Ok(())
+}
+
+/// Reads the blocks of a function, by its number.
+fn read_all(blocks: &mut Blocks<'_>, number: usize, found: &mut Vec<Block>) -> Result<(), Fault> {
+    for (place, block) in blocks.function.blocks.as_slice().iter().enumerate() {
+        let made = blocks.read(number, place, block.address)?;
+        push_block(found, made)?;
+    }
+    Ok(())
+}
+
+/// Puts blocks that are slots behind the others.
+fn add_slots(
+    slots: Vec<Block>,
+    found: &mut Vec<Block>,
+    spared: &mut Vec<u64>,
+) -> Result<(), AllocError> {
+    for slot in slots {
+        found.push(slot)?;
+        spared.push(SLOT)?;
+    }
+    Ok(())
+}
+
+impl Read {
+    /// Puts a function behind the others.
+    fn add(&mut self, function: Function, spared: Vec<u64>) -> Result<(), AllocError> {
+        self.program.functions.push(function)?;
+        self.spared.push(spared)?;
+        Ok(())
+    }
+
+    /// Names the source's file.
+    fn add_file(&mut self, alloc: Global, file: &str) -> Result<(), AllocError> {
+        let name = String::from_str(alloc, file)?;
+        self.program.files.push(name)?;
+        Ok(())
+    }
+
+    /// Adds the functions of the image that is read.
+    fn add_all(&mut self, reading: &Reading<'_>, heads: &[&Head]) -> Result<(), Fault> {
+        for (number, function) in reading.image.functions().iter().enumerate() {
+            let (made, spared) = reading.function(number, function, heads.get(number).copied())?;
+            self.add(made, spared)?;
+        }
+        Ok(())
+    }
+}
+
 impl<'r> Reading<'r> {
     /// A function, by its number and where it begins; and the turns that its blocks weigh less.
     fn function(
@@ -96,28 +149,36 @@ impl<'r> Reading<'r> {
             spared: Vec::new(self.alloc),
         };
         let mut found = Vec::new(self.alloc);
-        for (place, block) in function.blocks.as_slice().iter().enumerate() {
-            found.push(blocks.read(number, place, block.address)?)?;
-        }
+        read_all(&mut blocks, number, &mut found)?;
         let Blocks {
             slots,
             mut spared,
             ..
         } = blocks;
-        for slot in slots {
-            found.push(slot)?;
-            spared.push(SLOT)?;
-        }
-        let made = Function {
-            name: String::from_str(self.alloc, head.map_or("", |head| head.name.as_str()))?,
+        add_slots(slots, &mut found, &mut spared)?;
+        Ok((self.made(function, head, found)?, spared))
+    }
+
+    /// The function of some blocks.
+    fn made(
+        &self,
+        function: &sbx_image::Function,
+        head: Option<&Head>,
+        blocks: Vec<Block>,
+    ) -> Result<Function, AllocError> {
+        let (name, line) = match head {
+            Some(head) => (head.name.as_str(), line_of(head.line)),
+            None => ("", NO_LINE),
+        };
+        Ok(Function {
+            name: String::from_str(self.alloc, name)?,
             framed: function.frame > 0,
             frame: function.frame,
-            blocks: found,
+            blocks,
             params: Vec::from_slice(self.alloc, function.params.as_slice())?,
             results: Vec::from_slice(self.alloc, function.results.as_slice())?,
-            line: head.map_or(NO_LINE, |head| line_of(head.line)),
-        };
-        Ok((made, spared))
+            line,
+        })
     }
 
     /// The address behind the last word of the function with a number.
@@ -150,13 +211,9 @@ pub fn program_of(alloc: Global, file: &str, image: &Image, lines: &Lines) -> Re
         },
         spared: Vec::new(alloc),
     };
-    read.program.files.push(String::from_str(alloc, file)?)?;
+    read.add_file(alloc, file)?;
     add_data(alloc, image, &mut read.program)?;
     let heads = function_heads(alloc, lines)?;
-    for (number, function) in image.functions().iter().enumerate() {
-        let (made, spared) = reading.function(number, function, heads.get(number).copied())?;
-        read.program.functions.push(made)?;
-        read.spared.push(spared)?;
-    }
+    read.add_all(&reading, heads.as_slice())?;
     Ok(read)
 }

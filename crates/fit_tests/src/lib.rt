@@ -2,8 +2,10 @@
 //! line. Nothing rests on them, since the verifier asks all again.
 #![tactic(auto)]
 
-mod answers;
-mod settle;
+mod asks;
+mod cuts;
+mod plans;
+mod settling;
 
-pub use answers::{Options, Tests};
-pub use fit_plans::{Kind, Shown, Test};
+pub use asks::{Access, Asking, Lack, asks_of, needed_alignment};
+pub use settling::{Kind, Options, Test, Tests};

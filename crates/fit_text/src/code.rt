@@ -31,15 +31,21 @@ fn service_of(step: &Step) -> Option<u32> {
     }
 }
 
+/// Whether a step of a block asks for a service.
+fn asks_in(block: &Block, service: u32) -> bool {
+    for step in block.steps.as_slice() {
+        if service_of(step) == Some(service) {
+            return true;
+        }
+    }
+    false
+}
+
 /// Whether a program asks for a service.
 fn asks_for(program: &Program, service: u32) -> bool {
     for function in program.functions.as_slice() {
         for block in function.blocks.as_slice() {
-            if block
-                .steps
-                .iter()
-                .any(|step| service_of(step) == Some(service))
-            {
+            if asks_in(block, service) {
                 return true;
             }
         }
@@ -82,11 +88,13 @@ fn push_step(
     names: &[String],
     step: &Step,
 ) -> Result<(), AllocError> {
-    let Some(callee) = step.callee.and_then(|number| names.get(number)) else {
-        return told.push_instr(out, &step.instr, step.line);
-    };
-    writeln!(out, "    call {callee}")?;
-    push_slot(out, step.slot)
+    if let Some(number) = step.callee
+        && let Some(callee) = names.get(number)
+    {
+        writeln!(out, "    call {callee}")?;
+        return push_slot(out, step.slot);
+    }
+    told.push_instr(out, &step.instr, step.line)
 }
 
 /// A branch, as far as its target.
@@ -212,7 +220,7 @@ fn push_function(
 }
 
 /// A program as a source in the project's language, with the lines of C in comments. Its blocks stand in their places
-/// (`fit_place::place`).
+/// (as fit_passes puts them).
 ///
 /// # Errors
 /// At the line with which the source gets longer than the assembler reads: 1,000,000 lines, or 16,777,216 bytes.

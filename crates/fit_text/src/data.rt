@@ -24,11 +24,21 @@ fn push_line(out: &mut String, bytes: &[u8]) -> Result<(), AllocError> {
     out.push_str("\n")
 }
 
+/// Whether each of some bytes is 0.
+fn are_zeros(bytes: &[u8]) -> bool {
+    for byte in bytes {
+        if *byte != 0 {
+            return false;
+        }
+    }
+    true
+}
+
 /// Bytes, those that are 0 by their number.
 fn push_bytes(out: &mut String, bytes: &[u8]) -> Result<(), AllocError> {
     let mut zeros: u64 = 0;
     for line in bytes.chunks(16) {
-        if line.iter().all(|byte| *byte == 0) {
+        if are_zeros(line) {
             zeros = zeros.saturating_add(line.len() as u64);
         } else {
             push_zeros(out, zeros)?;

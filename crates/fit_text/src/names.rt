@@ -26,14 +26,29 @@ fn stands_in(names: &[String], text: &str) -> bool {
 
 /// Whether a name may stand in a source, where `$` may not.
 fn may_stand(name: &str) -> bool {
-    let is_plain = |byte: &u8| byte.is_ascii_alphanumeric() || *byte == b'_' || *byte == b'.';
-    name.len() <= LONGEST && name.as_bytes().iter().all(is_plain)
+    for byte in name.as_bytes() {
+        if !byte.is_ascii_alphanumeric() && *byte != b'_' && *byte != b'.' {
+            return false;
+        }
+    }
+    name.len() <= LONGEST
+}
+
+/// The place of the last byte that is no digit.
+fn last_before_digits(bytes: &[u8]) -> Option<usize> {
+    let mut last = None;
+    for (place, byte) in bytes.iter().enumerate() {
+        if !byte.is_ascii_digit() {
+            last = Some(place);
+        }
+    }
+    last
 }
 
 /// Whether a name ends as that of a block does, or as one that is made here.
 fn ends_in_number(name: &str) -> bool {
     let bytes = name.as_bytes();
-    match bytes.iter().rposition(|byte| !byte.is_ascii_digit()) {
+    match last_before_digits(bytes) {
         Some(last) if last.saturating_add(1) < bytes.len() => {
             let (front, _) = bytes.split_at(last.saturating_add(1));
             front.ends_with(b".") || front.ends_with(b".of")

@@ -1,0 +1,262 @@
+//! Condition codes are set in the block that reads them: a compare whose branch stands in a later block is repeated
+//! there.
+use crate::plain::against_zero;
+use crate::points::{bit_of, fields_of, operands_read, reads_codes, sets_codes, written};
+use fit_code::{Block, End, Fault, Function, Line, Reason, Step};
+use fit_graph::predecessors_of;
+use std::alloc::{AllocError, Global};
+use v8_formats::{Instr, Operand, Three, encode};
+use v8_word::{Cond, Reg};
+
+fn is_logic(instr: &Instr) -> bool {
+    matches!(
+        instr,
+        Instr::AndCc(_)
+            | Instr::OrCc(_)
+            | Instr::XorCc(_)
+            | Instr::AndnCc(_)
+            | Instr::OrnCc(_)
+            | Instr::XnorCc(_)
+    )
+}
+
+/// The same instruction with %g0 as its destination, where it is one that may be repeated.
+fn without_result(instr: &Instr, fields: &Three) -> Option<Instr> {
+    let fields = Three {
+        rd: Reg::G0,
+        ..*fields
+    };
+    match instr {
+        Instr::SubCc(_) => Some(Instr::SubCc(fields)),
+        Instr::AddCc(_) => Some(Instr::AddCc(fields)),
+        Instr::AndCc(_) => Some(Instr::AndCc(fields)),
+        Instr::OrCc(_) => Some(Instr::OrCc(fields)),
+        Instr::XorCc(_) => Some(Instr::XorCc(fields)),
+        Instr::AndnCc(_) => Some(Instr::AndnCc(fields)),
+        Instr::OrnCc(_) => Some(Instr::OrnCc(fields)),
+        Instr::XnorCc(_) => Some(Instr::XnorCc(fields)),
+        _ => None,
+    }
+}
+
+/// An instruction that sets the same codes behind another one. Where carry and overflow aren't asked for, a compare
+/// of the result with 0 does, as it does of a logic instruction, which clears both.
+fn repeated(instr: &Instr, zero_alone: bool) -> Option<Instr> {
+    let fields = fields_of(instr)?;
+    if fields.rd != Reg::G0 && (zero_alone || is_logic(instr)) {
+        return Some(against_zero(fields.rd));
+    }
+    if bit_of(fields.rd) & operands_read(&fields) != 0 {
+        return None;
+    }
+    without_result(instr, &fields)
+}
+
+/// The registers that a step writes: of a call all that a callee may.
+fn written_in(step: &Step) -> u32 {
+    match step.callee {
+        Some(_) => 0xffff,
+        None => written(&step.instr),
+    }
+}
+
+/// Whether an instruction's operands are among some registers, a bit a register.
+fn reads_any(instr: &Instr, registers: u32) -> bool {
+    match fields_of(instr) {
+        Some(fields) => operands_read(&fields) & registers != 0,
+        None => true,
+    }
+}
+
+/// What sets the codes that a block begins with.
+#[derive(Drop)]
+struct Search {
+    /// The instruction that sets the same.
+    found: Option<Instr>,
+    /// What is written between it and the block.
+    written: u32,
+    /// Whether there is one alone, which may be repeated.
+    is_one: bool,
+    open: Vec<usize>,
+    seen: Vec<bool>,
+    zero_alone: bool,
+}
+
+impl Search {
+    /// Whether the instruction that was found sets the same codes at the start of the block.
+    fn is_answer(&self) -> bool {
+        match &self.found {
+            Some(found) => self.is_one && !reads_any(found, self.written),
+            None => false,
+        }
+    }
+
+    fn answer(&self) -> Option<Instr> {
+        if self.is_answer() { self.found } else { None }
+    }
+
+    fn take(&mut self, setter: Option<Instr>) {
+        let same = match (&self.found, &setter) {
+            (Some(old), Some(new)) => encode(old) == encode(new),
+            (None, Some(_)) => true,
+            _ => false,
+        };
+        self.is_one = self.is_one && same;
+        self.found = setter;
+    }
+
+    fn enter(&mut self, block: usize) -> Result<(), Fault> {
+        if let Some(seen) = self.seen.get_mut(block)
+            && !*seen
+        {
+            *seen = true;
+            self.open.push(block)?;
+        }
+        Ok(())
+    }
+
+    /// Looks for what sets the codes at the end of a block; goes to the blocks before it where nothing in it does.
+    fn look(&mut self, block: &Block, before: &[usize]) -> Result<(), Fault> {
+        let mut setter = None;
+        let mut later = 0;
+        for step in block.steps.iter() {
+            if sets_codes(&step.instr) {
+                setter = Some(step.instr);
+                later = 0;
+            } else {
+                later |= written_in(step);
+            }
+        }
+        self.written |= later;
+        match setter {
+            Some(instr) => self.take(repeated(&instr, self.zero_alone)),
+            None => self.go_before(before)?,
+        }
+        Ok(())
+    }
+
+    /// Goes to the blocks before one; where there are none the codes are set nowhere.
+    fn go_before(&mut self, before: &[usize]) -> Result<(), Fault> {
+        if before.is_empty() {
+            self.is_one = false;
+        }
+        self.enter_all(before)
+    }
+
+    /// Blocks are to be looked at.
+    fn enter_all(&mut self, blocks: &[usize]) -> Result<(), Fault> {
+        for block in blocks {
+            self.enter(*block)?;
+        }
+        Ok(())
+    }
+
+    /// Looks at the blocks that are to be looked at, until there is none.
+    fn look_through(
+        &mut self,
+        function: &Function,
+        predecessors: &[Vec<usize>],
+    ) -> Result<(), Fault> {
+        for _ in 0..predecessors.len() {
+            let Some(from) = self.open.pop() else {
+                break;
+            };
+            if let Some(found) = function.blocks.get(from)
+                && let Some(before) = predecessors.get(from)
+            {
+                self.look(found, before.as_slice())?;
+            }
+        }
+        Ok(())
+    }
+}
+
+/// Whether a block reads codes that it didn't set; and whether zero and sign alone matter of them.
+fn reads_before(block: &Block) -> Option<bool> {
+    for step in block.steps.iter() {
+        if reads_codes(&step.instr) {
+            return Some(false);
+        }
+        if sets_codes(&step.instr) {
+            return None;
+        }
+    }
+    match block.end {
+        End::Branch { cond, .. } => Some(matches!(
+            cond,
+            Cond::Equal | Cond::NotEqual | Cond::Negative | Cond::Positive
+        )),
+        _ => None,
+    }
+}
+
+fn refused(function: &Function, line: Line) -> Fault {
+    let name: Result<String, AllocError> = function.name.clone();
+    match name {
+        Ok(function) => Fault::new(
+            line,
+            Reason::Form {
+                function,
+                what: "condition codes of several places, or of numbers that changed since",
+            },
+        ),
+        Err(error) => Fault::from(error),
+    }
+}
+
+/// What sets the codes that a block begins with, as one instruction that may stand at its start.
+fn setter_of(
+    alloc: Global,
+    function: &Function,
+    predecessors: &[Vec<usize>],
+    block: usize,
+    zero_alone: bool,
+) -> Result<Option<Instr>, Fault> {
+    let mut search = Search {
+        found: None,
+        written: 0,
+        is_one: true,
+        open: Vec::new(alloc),
+        seen: vec![in alloc; false; predecessors.len()]?,
+        zero_alone,
+    };
+    if let Some(before) = predecessors.get(block) {
+        search.enter_all(before.as_slice())?;
+    }
+    search.look_through(function, predecessors)?;
+    Ok(search.answer())
+}
+
+fn insert_first(function: &mut Function, block: usize, instr: Instr) -> Result<(), Fault> {
+    if let Some(found) = function.blocks.get_mut(block) {
+        found.steps.insert(
+            0,
+            Step {
+                instr,
+                line: found.line,
+                callee: None,
+                object: None,
+                slot: None,
+            },
+        )?;
+    }
+    Ok(())
+}
+
+/// Repeats compares in the blocks that read the codes of other blocks' ends.
+pub fn repeat_compares(alloc: Global, function: &mut Function) -> Result<(), Fault> {
+    let predecessors = predecessors_of(alloc, function)?;
+    for block in 0..function.blocks.len() {
+        let (reads, line) = match function.blocks.get(block) {
+            Some(found) => (reads_before(found), found.line),
+            None => (None, function.line),
+        };
+        if let Some(zero_alone) = reads {
+            match setter_of(alloc, function, predecessors.as_slice(), block, zero_alone)? {
+                Some(instr) => insert_first(function, block, instr)?,
+                None => return Err(refused(function, line)),
+            }
+        }
+    }
+    Ok(())
+}

@@ -1,0 +1,6 @@
+//! Steps that compilers wrote, in forms of which more is known.
+mod plain;
+mod steps;
+
+pub use plain::{against_zero, put_plainly};
+pub use steps::push_step;

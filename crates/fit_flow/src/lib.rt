@@ -1,9 +1,0 @@
-//! The ranges of one function: what is known where its blocks begin, found by running blocks in the verifier's own
-//! domain along all ways until nothing new comes. What callees give back and what the function is called with is told.
-#![tactic(auto)]
-
-mod flow;
-mod known;
-mod passing;
-
-pub use flow::{Call, Flow, Setting};

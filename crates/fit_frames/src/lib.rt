@@ -1,6 +1,0 @@
-//! Frames of functions that compilers wrote. Nothing recurses, so what can't stay in the stack goes to the data.
-#![tactic(auto)]
-
-mod frames;
-
-pub use frames::place_frame;

@@ -1,0 +1,8 @@
+//! Which locations of a program are live where its blocks begin, and how many params and results its functions have.
+mod effects;
+mod liveness;
+mod locations;
+
+pub use effects::{Effects, effects_of};
+pub use liveness::{Counts, Liveness, read_at_end};
+pub use locations::Locations;

@@ -1,0 +1,8 @@
+//! Arguments in memory of functions that compilers wrote, and accesses to places in the data. Nothing recurses, so
+//! arguments that don't fit in registers have a place in the data.
+mod arguments;
+
+pub use arguments::{
+    Arguments, beside, bytes_of, destination, moved, moves_stack, place_arguments, push_access,
+    push_address, scratch, stack_operand,
+};

@@ -1,0 +1,203 @@
+//! From compiler-made assembly to an annotated source.
+use crate::metering::insert_meter;
+use crate::placing::{fill, place};
+use fit_code::{Block, Fault, Function, NO_LINE, Program, Reason};
+use fit_fuel::{Meter, bounded_heads, declare};
+use fit_ranges::Ranges;
+use fit_tests::{Options, Test, Tests};
+use fit_text::push_source;
+use sbx_domain::State;
+use std::alloc::{AllocError, Global};
+
+/// A loop of main has no place of the meter where a counter bounds it by so many rounds: they are paid for where it
+/// begins.
+const FEW: u64 = 300;
+
+/// The same of another function's loop, whose budget a call pays for at once.
+const SOME: u64 = 65_536;
+
+/// The loops of another function may take a thousandth of its caller's turns in a call, but at least so many.
+const SHARE: u64 = 1_000;
+
+const LEAST: u64 = 10_000;
+
+/// As often as blocks are placed: each time tests may have been added.
+const PLACINGS: u32 = 8;
+
+/// How a program is fitted.
+#[derive(Clone, Copy)]
+pub struct Plan {
+    pub turns: u64,
+    pub by_object: bool,
+    /// Whether loops that a counter bounds go without the meter.
+    pub has_bounds: bool,
+}
+
+/// A program as an annotated source.
+#[derive(Drop)]
+pub struct Made {
+    pub program: Program,
+    pub tests: Vec<Test>,
+    pub text: String,
+    /// The most turns of a run.
+    pub budget: u64,
+}
+
+/// Lowers what the functions that a block calls may take to a share.
+fn lower_shares(shares: &mut [u64], block: &Block, share: u64) {
+    for step in block.steps.as_slice() {
+        if let Some(callee) = step.callee
+            && let Some(found) = shares.get_mut(callee)
+        {
+            *found = share.min(*found);
+        }
+    }
+}
+
+/// The same of the blocks of a function that may take so many turns.
+fn share_out(shares: &mut [u64], function: &Function, turns: u64) {
+    let share = (turns / SHARE).max(LEAST);
+    for block in function.blocks.as_slice() {
+        lower_shares(shares, block, share);
+    }
+}
+
+/// The turns that the loops of each function may take in a call. Functions call those of larger numbers alone.
+fn shares_of(alloc: Global, program: &Program, turns: u64) -> Result<Vec<u64>, AllocError> {
+    let mut shares = vec![in alloc; turns; program.functions.len()]?;
+    for (number, function) in program.functions.iter().enumerate() {
+        let share = shares.get(number).copied().unwrap_or(turns);
+        share_out(shares.as_mut_slice(), function, share);
+    }
+    Ok(shares)
+}
+
+/// Gives each function with loops that have no bound a meter.
+fn insert_meters(
+    alloc: Global,
+    program: &mut Program,
+    ranges: &Ranges,
+    plan: Plan,
+    state: &mut State,
+) -> Result<Vec<Option<Meter>>, Fault> {
+    let shares = shares_of(alloc, program, plan.turns)?;
+    let mut meters = Vec::new(alloc);
+    for (number, turns) in shares.iter().enumerate() {
+        let most = match (plan.has_bounds, number) {
+            (false, _) => 0,
+            (true, 0) => FEW,
+            (true, _) => SOME,
+        };
+        let bounded = bounded_heads(alloc, program, ranges, number, most, state)?;
+        if let Some(function) = program.functions.get_mut(number) {
+            meters.push(insert_meter(alloc, function, *turns, bounded.as_slice())?)?;
+        }
+    }
+    Ok(meters)
+}
+
+/// Places the blocks of each function.
+fn place_all(alloc: Global, program: &mut Program) -> Result<(), AllocError> {
+    for function in program.functions.iter_mut() {
+        place(alloc, function)?;
+    }
+    Ok(())
+}
+
+/// How many blocks a program has.
+fn block_count(program: &Program) -> usize {
+    let mut count: usize = 0;
+    for function in program.functions.as_slice() {
+        count = count.saturating_add(function.blocks.len());
+    }
+    count
+}
+
+/// Places blocks, and adds the tests that are asked for then, until none is; gives the ranges. Tests know blocks by
+/// their numbers, so each placing begins with none. None goes again: ranges that are found from nothing may be wider
+/// than those that came about step by step, and such a test would come and go without an end.
+fn settle_places(
+    alloc: Global,
+    program: &mut Program,
+    options: Options,
+    state: &mut State,
+) -> Result<Ranges, Fault> {
+    for _ in 0..PLACINGS {
+        place_all(alloc, program)?;
+        let before = block_count(program);
+        let mut ranges = Ranges::of(alloc, program, state)?;
+        Tests::none(alloc, options).settle(program, &mut ranges, state)?;
+        if block_count(program) == before {
+            return Ok(ranges);
+        }
+    }
+    Err(Fault::new(
+        NO_LINE,
+        Reason::TooMany {
+            what: "rounds of placing blocks",
+            most: u64::from(PLACINGS),
+        },
+    ))
+}
+
+/// What was put into a program whose blocks stand in their places, and its ranges.
+#[derive(Drop)]
+struct Fitted {
+    tests: Vec<Test>,
+    meters: Vec<Option<Meter>>,
+    ranges: Ranges,
+}
+
+/// Puts tests and meters into a program, and its blocks into their places.
+fn fit(
+    alloc: Global,
+    program: &mut Program,
+    plan: Plan,
+    state: &mut State,
+) -> Result<Fitted, Fault> {
+    let options = Options {
+        by_object: plan.by_object,
+        drops: true,
+    };
+    let mut ranges = Ranges::of(alloc, program, state)?;
+    let mut tests = Tests::none(alloc, options);
+    tests.settle(program, &mut ranges, state)?;
+    let meters = insert_meters(alloc, program, &ranges, plan, state)?;
+    let kept = Options {
+        drops: false,
+        ..options
+    };
+    let ranges = settle_places(alloc, program, kept, state)?;
+    ranges.store(program)?;
+    Ok(Fitted {
+        tests: tests.list,
+        meters,
+        ranges,
+    })
+}
+
+/// Makes an annotated source of a program. What a step leaves known in its place it leaves known in a slot, so that
+/// the ranges stay.
+pub fn make(alloc: Global, program: Program, plan: Plan) -> Result<Made, Fault> {
+    let mut program = program;
+    let mut state = State::new(alloc)?;
+    let Fitted {
+        tests,
+        meters,
+        ranges,
+    } = fit(alloc, &mut program, plan, &mut state)?;
+    fill(&mut program);
+    let notes = declare(alloc, &mut program, &ranges, meters.as_slice(), &mut state)?;
+    let budget = match notes.functions.first() {
+        Some(notes) => notes.budget,
+        None => 0,
+    };
+    let mut text = String::new(alloc);
+    push_source(alloc, &mut text, &program, &notes)?;
+    Ok(Made {
+        program,
+        tests,
+        text,
+        budget,
+    })
+}

@@ -1,8 +1,0 @@
-//! Steps that compilers wrote, in forms of which more is known.
-#![tactic(auto)]
-
-mod plain;
-mod steps;
-
-pub use plain::{against_zero, put_plainly};
-pub use steps::push_step;

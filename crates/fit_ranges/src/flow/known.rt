@@ -1,0 +1,161 @@
+//! What is known of a function's blocks and ways so far.
+use crate::flow::passing::take_over;
+use fit_cells::{Shape, are_same, are_within, joined};
+use fit_graph::Locations;
+use sbx_range::Cell;
+use std::alloc::{AllocError, Global};
+
+/// Cells of blocks and ways, by number.
+#[derive(Drop)]
+pub struct Known {
+    /// What is known where a block begins; nothing where no way comes there.
+    pub cells: Vec<Option<Vec<Cell>>>,
+    /// What is known where a way ends; nothing of one that can't be gone.
+    pub ways: Vec<Option<Vec<Cell>>>,
+}
+
+/// More lists with nothing in them, until there are so many.
+fn extend(list: &mut Vec<Option<Vec<Cell>>>, count: usize) -> Result<(), AllocError> {
+    for _ in list.len()..count {
+        list.push(None)?;
+    }
+    Ok(())
+}
+
+/// What stands at a place of a list.
+fn at(list: &[Option<Vec<Cell>>], place: usize) -> Option<&[Cell]> {
+    match list.get(place) {
+        Some(Some(cells)) => Some(cells.as_slice()),
+        _ => None,
+    }
+}
+
+/// Whether what stands at a place of a list is the same as this.
+fn is_at(list: &[Option<Vec<Cell>>], place: usize, cells: &Option<Vec<Cell>>) -> bool {
+    match (at(list, place), cells) {
+        (Some(old), Some(new)) => are_same(old, new.as_slice()),
+        (None, None) => true,
+        _ => false,
+    }
+}
+
+/// Puts cells in the place of others, if they aren't the same. Says whether they aren't.
+pub fn replace(list: &mut Vec<Option<Vec<Cell>>>, place: usize, new: Option<Vec<Cell>>) -> bool {
+    let is_same = is_at(list.as_slice(), place, &new);
+    if !is_same && let Some(slot) = list.get_mut(place) {
+        *slot = new;
+    }
+    !is_same
+}
+
+impl Known {
+    /// Nothing is known of any block.
+    pub fn nothing(alloc: Global) -> Known {
+        Known {
+            cells: Vec::new(alloc),
+            ways: Vec::new(alloc),
+        }
+    }
+
+    /// Makes room for so many blocks.
+    pub fn extend(&mut self, blocks: usize) -> Result<(), AllocError> {
+        extend(&mut self.cells, blocks)?;
+        extend(&mut self.ways, blocks.saturating_mul(2))
+    }
+
+    /// What is known where a block begins.
+    pub fn cells(&self, block: usize) -> Option<&[Cell]> {
+        at(self.cells.as_slice(), block)
+    }
+
+    /// Whether a way can be gone.
+    pub fn is_open(&self, way: usize) -> bool {
+        at(self.ways.as_slice(), way).is_some()
+    }
+
+    /// What a block doesn't touch is known where one of its ways ends as it is where the block begins, if the way can
+    /// be gone. Says whether it wasn't before.
+    pub fn pass_on(&mut self, touched: &Locations, block: usize, way: usize) -> bool {
+        match (self.cells.get(block), self.ways.get_mut(way)) {
+            (Some(Some(cells)), Some(Some(end))) => take_over(touched, cells.as_slice(), end),
+            _ => false,
+        }
+    }
+
+    /// Forgets what is known where a way ends, and gives it.
+    pub fn take_way(&mut self, way: usize) -> Option<Vec<Cell>> {
+        match self.ways.get_mut(way) {
+            Some(slot) => slot.take(),
+            None => None,
+        }
+    }
+
+    /// Whether something else is known where a way ends.
+    pub fn differs(&self, way: usize, cells: &Option<Vec<Cell>>) -> bool {
+        !is_at(self.ways.as_slice(), way, cells)
+    }
+
+    /// What the ways have in common that lead to a block from blocks before a place of the order; nothing where none of
+    /// them can be gone.
+    fn common(
+        &self,
+        alloc: Global,
+        shape: &Shape,
+        block: usize,
+        before: usize,
+    ) -> Result<Option<Vec<Cell>>, AllocError> {
+        let mut found: Option<Vec<Cell>> = None;
+        if let Some(sources) = shape.sources.get(block) {
+            for way in sources {
+                if let Some(place) = shape.order.place(*way / 2)
+                    && place < before
+                    && let Some(cells) = at(self.ways.as_slice(), *way)
+                {
+                    found = Some(match &found {
+                        Some(other) => joined(alloc, other.as_slice(), cells)?,
+                        None => Vec::from_slice(alloc, cells)?,
+                    });
+                }
+            }
+        }
+        Ok(found)
+    }
+
+    /// What the ways that lead to a block have in common; nothing where none of them can be gone.
+    pub fn incoming(
+        &self,
+        alloc: Global,
+        shape: &Shape,
+        block: usize,
+    ) -> Result<Option<Vec<Cell>>, AllocError> {
+        self.common(alloc, shape, block, usize::MAX)
+    }
+
+    /// The same of the ways that don't lead back to it.
+    pub fn entering(
+        &self,
+        alloc: Global,
+        shape: &Shape,
+        block: usize,
+    ) -> Result<Option<Vec<Cell>>, AllocError> {
+        match shape.order.place(block) {
+            Some(place) => self.common(alloc, shape, block, place),
+            None => Ok(None),
+        }
+    }
+
+    /// Whether all that comes along a block's ways lies within its cells.
+    pub fn holds(&self, shape: &Shape, block: usize) -> bool {
+        let (Some(sources), Some(cells)) = (shape.sources.get(block), self.cells(block)) else {
+            return true;
+        };
+        for way in sources {
+            if let Some(found) = at(self.ways.as_slice(), *way)
+                && !are_within(found, cells)
+            {
+                return false;
+            }
+        }
+        true
+    }
+}

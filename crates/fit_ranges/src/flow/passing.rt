@@ -1,0 +1,84 @@
+//! What blocks pass on: a location that no step of a block reads or writes has the same range behind the block as
+//! before it, whatever that is, and decides nothing else.
+use fit_cells::range_in;
+use fit_code::{Block, Function, Step};
+use fit_graph::{Effects, Locations, effects_of};
+use sbx_range::Cell;
+use std::alloc::{AllocError, Global};
+
+/// The registers that a call leaves undefined or with its results: globals and outs.
+const LOST: u32 = 0xfffe;
+
+/// Adds what is read and written.
+fn add_effects(touched: &mut Locations, effects: &Effects) {
+    touched.insert_registers(effects.reads | effects.writes);
+    for word in &[effects.word_read, effects.word_written] {
+        if let Some(word) = word {
+            touched.insert(*word);
+        }
+    }
+}
+
+/// Adds what a step reads and writes.
+fn add_step(touched: &mut Locations, frame: u32, step: &Step) {
+    match step.callee {
+        Some(_) => touched.insert_registers(LOST),
+        None => add_effects(touched, &effects_of(frame, &step.instr)),
+    }
+    if let Some(slot) = &step.slot {
+        add_effects(touched, &effects_of(frame, slot));
+    }
+}
+
+/// The locations that a block reads or writes. What its branch is taken by is among them, since a compare reads it.
+fn touched_in(frame: u32, block: &Block) -> Locations {
+    let mut touched = Locations::none();
+    for step in &block.steps {
+        add_step(&mut touched, frame, step);
+    }
+    if let Some(slot) = &block.slot {
+        add_effects(&mut touched, &effects_of(frame, slot));
+    }
+    touched
+}
+
+/// The same of each block of a function.
+pub fn touched_by(alloc: Global, function: &Function) -> Result<Vec<Locations>, AllocError> {
+    let mut touched = Vec::with_capacity(alloc, function.blocks.len())?;
+    for block in &function.blocks {
+        touched.push(touched_in(function.frame, block))?;
+    }
+    Ok(touched)
+}
+
+/// Whether two cells are of the same location, and of the same range if it is touched.
+fn is_same_to(touched: &Locations, before: &Cell, after: &Cell) -> bool {
+    before.location == after.location
+        && (before.range == after.range || !touched.has(after.location))
+}
+
+/// Whether the same locations are known, and those that are touched by the same ranges.
+pub fn are_same_to(touched: &Locations, old: &[Cell], new: &[Cell]) -> bool {
+    for (place, before) in old.iter().enumerate() {
+        match new.get(place) {
+            Some(after) if is_same_to(touched, before, after) => {}
+            _ => return false,
+        }
+    }
+    old.len() == new.len()
+}
+
+/// Gives cells of locations that aren't touched the ranges that they have among others. Says whether some had others.
+pub fn take_over(touched: &Locations, from: &[Cell], cells: &mut Vec<Cell>) -> bool {
+    let mut is_new = false;
+    for cell in cells.iter_mut() {
+        if !touched.has(cell.location)
+            && let Some(range) = range_in(from, cell.location)
+            && cell.range != range
+        {
+            cell.range = range;
+            is_new = true;
+        }
+    }
+    is_new
+}

@@ -1,0 +1,150 @@
+//! Where the words of an address's register have to lie.
+use crate::origin::origin::Origin;
+use fit_code::{Object, Program, Region};
+
+/// The numbers of a register with which an access lies where it has to: from `lo` to `hi`, both as signed words; none
+/// where `hi` is below `lo`.
+#[derive(Clone, Copy)]
+pub struct Bounds {
+    pub lo: i64,
+    pub hi: i64,
+    /// The object in which the access has to lie; where none is known it has to lie in the data.
+    pub object: Option<usize>,
+}
+
+/// An address so far before an object is taken to belong to it.
+const BEFORE: i64 = 16;
+
+/// A pointer's test leaves so many bytes at the beginning of the data, and so many at their end, for what lies beside
+/// the field that is asked for.
+const HEAD: i64 = 32;
+
+const TAIL: i64 = 128;
+
+/// The address behind an object.
+pub fn end_of(object: &Object) -> i64 {
+    i64::from(object.start).saturating_add(object.bytes.len().min(0x7fff_ffff) as i64)
+}
+
+/// The object that an address belongs to: in which it lies, or a little before which.
+pub fn object_at(objects: &[Object], address: i64) -> Option<usize> {
+    let above = objects.partition_point(|object| i64::from(object.start) <= address);
+    let below = above.wrapping_sub(1);
+    if let Some(object) = objects.get(below)
+        && address < end_of(object)
+    {
+        return Some(below);
+    }
+    match objects.get(above) {
+        Some(object) if i64::from(object.start).saturating_sub(address) <= BEFORE => Some(above),
+        _ => None,
+    }
+}
+
+/// Whether an address lies in the data.
+fn is_in_data(regions: &[Region], address: i64) -> bool {
+    for region in regions {
+        let start = i64::from(region.start);
+        if start <= address && address < start.saturating_add(i64::from(region.length)) {
+            return true;
+        }
+    }
+    false
+}
+
+/// The object that an origin's constant names.
+pub fn named_object(program: &Program, origin: &Origin) -> Option<usize> {
+    if origin.object.is_some() {
+        return origin.object;
+    }
+    if is_in_data(program.regions.as_slice(), origin.constant) {
+        object_at(program.objects.as_slice(), origin.constant)
+    } else {
+        None
+    }
+}
+
+/// The address that an origin gives with a word of its register.
+fn address_with(origin: &Origin, word: i32) -> i64 {
+    origin
+        .constant
+        .saturating_add(origin.times.saturating_mul(i64::from(word)))
+}
+
+/// The object that the least address of an origin lies in, where no other one begins up to the greatest one: else the
+/// register may as well point into that.
+fn least_object(program: &Program, origin: &Origin) -> Option<usize> {
+    let range = origin.range?;
+    let least = address_with(origin, range.lo);
+    let greatest = address_with(origin, range.hi);
+    if !is_in_data(program.regions.as_slice(), least) {
+        return None;
+    }
+    let number = object_at(program.objects.as_slice(), least)?;
+    match program.objects.get(number.saturating_add(1)) {
+        Some(next) if i64::from(next.start) <= greatest => None,
+        _ => Some(number),
+    }
+}
+
+/// Where a pointer may go in a region with an offset: from, and to.
+fn window(region: Option<&Region>, constant: i64) -> (i64, i64) {
+    match region {
+        Some(region) => {
+            let start = i64::from(region.start);
+            let end = start.saturating_add(i64::from(region.length));
+            let from = start.saturating_add(HEAD).saturating_add(constant.min(0));
+            let to = end.saturating_sub(TAIL).saturating_add(constant.max(0));
+            (from.max(start), to.min(end))
+        }
+        None => (0, 0),
+    }
+}
+
+/// A quotient, rounded down, of a divisor above 0.
+fn floor(number: i64, divisor: i64) -> i64 {
+    number.checked_div_euclid(divisor).unwrap_or(0)
+}
+
+/// The bounds of an origin's word with which an access of so many bytes lies between two addresses.
+fn bounds_between(
+    origin: &Origin,
+    size: i64,
+    (from, to): (i64, i64),
+    object: Option<usize>,
+) -> Bounds {
+    let least = from.saturating_sub(origin.constant);
+    let greatest = to.saturating_sub(size).saturating_sub(origin.constant);
+    Bounds {
+        lo: floor(least.saturating_neg(), origin.times).saturating_neg(),
+        hi: floor(greatest, origin.times),
+        object,
+    }
+}
+
+/// Where the word of an origin's register may lie for an access of so many bytes: that it lies in the object that its
+/// base names, else in the data that may be written.
+pub fn bounds_of(program: &Program, origin: &Origin, size: i64) -> Bounds {
+    let named = match named_object(program, origin) {
+        Some(object) => Some(object),
+        None => least_object(program, origin),
+    };
+    let addresses = match named {
+        Some(number) => match program.objects.get(number) {
+            Some(object) => (i64::from(object.start), end_of(object)),
+            None => window(program.regions.last(), origin.constant),
+        },
+        None => window(program.regions.last(), origin.constant),
+    };
+    bounds_between(origin, size, addresses, named)
+}
+
+/// The same of a load from the constants; nothing where the program has none.
+pub fn bounds_in_constants(program: &Program, origin: &Origin, size: i64) -> Option<Bounds> {
+    let region = program.regions.first()?;
+    if !region.readonly {
+        return None;
+    }
+    let addresses = window(Some(region), origin.constant);
+    Some(bounds_between(origin, size, addresses, None))
+}

@@ -1,0 +1,284 @@
+//! What an access's address is worked out from, by the steps of its own block.
+use crate::origin::trace::{Trace, operands_of};
+use fit_code::{Block, Step};
+use fit_graph::effects_of;
+use sbx_range::{Range, is_single};
+use v8_formats::{Operand, Reg};
+use v8_meaning::{Op, Operation, operation_of};
+
+/// An address as a constant and a multiple of one register's word, where that stands at a place of the block.
+#[derive(Clone, Copy)]
+pub struct Origin {
+    /// The register, by its number as a location.
+    pub register: u8,
+    /// The address is `constant` and `times` the word, modulo 2^32. `times` is above 0.
+    pub times: i64,
+    pub constant: i64,
+    /// Before the steps of these places of the block the register has that word: from the first to the last.
+    pub first: usize,
+    pub last: usize,
+    /// What is known of the word; nothing where the register is undefined.
+    pub range: Option<Range>,
+    /// The object within which the constant's parts name an address.
+    pub object: Option<usize>,
+}
+
+/// A register's word, so many times.
+#[derive(Clone, Copy)]
+struct Term {
+    register: u8,
+    times: i64,
+    range: Option<Range>,
+}
+
+/// A sum of a constant and at most three terms.
+#[derive(Clone, Copy)]
+struct Sum {
+    constant: i64,
+    terms: [Option<Term>; 3],
+    /// Whether there was no room for a term, or a number went out of bounds.
+    is_lost: bool,
+    /// Registers whose words are part of the constant, each of which has a bit.
+    folded: u32,
+    object: Option<usize>,
+}
+
+/// Whether a place holds a register's term.
+fn is_of(slot: &Option<Term>, register: u8) -> bool {
+    match slot {
+        Some(term) => term.register == register,
+        None => false,
+    }
+}
+
+/// Numbers stay below this one.
+const GREAT: i64 = 1 << 40;
+
+impl Sum {
+    fn add_constant(&mut self, number: i64) {
+        let sum = self.constant.saturating_add(number);
+        self.is_lost = self.is_lost || sum.saturating_abs() > GREAT;
+        self.constant = sum;
+    }
+
+    /// Adds a register's word so many times.
+    fn add_register(&mut self, register: Reg, times: i64, range: Option<Range>) {
+        let number = register.number();
+        if number == 0 {
+            return;
+        }
+        match range {
+            Some(range) if is_single(range) => {
+                self.add_constant(times.saturating_mul(i64::from(range.lo)));
+                self.folded |= 1 << number;
+            }
+            _ => self.add_term(number, times, range),
+        }
+    }
+
+    /// The place of the term of a register, or the first one where none stands.
+    fn place_for(&self, register: u8) -> Option<usize> {
+        let mut free = None;
+        for (place, slot) in self.terms.iter().enumerate() {
+            if is_of(slot, register) {
+                return Some(place);
+            }
+            if slot.is_none() && free.is_none() {
+                free = Some(place);
+            }
+        }
+        free
+    }
+
+    /// Adds a term to that of the same register, or at a place where none stands.
+    fn add_term(&mut self, register: u8, times: i64, range: Option<Range>) {
+        let Some(place) = self.place_for(register) else {
+            self.is_lost = true;
+            return;
+        };
+        if let Some(slot) = self.terms.get_mut(place) {
+            let before = match slot {
+                Some(term) => term.times,
+                None => 0,
+            };
+            let times = before.saturating_add(times);
+            self.is_lost = self.is_lost || times.saturating_abs() > GREAT;
+            *slot = if times == 0 {
+                None
+            } else {
+                Some(Term {
+                    register,
+                    times,
+                    range,
+                })
+            };
+        }
+    }
+
+    fn add_operand(&mut self, operand: Operand, times: i64, range: Option<Range>) {
+        match operand {
+            Operand::Register(register) => self.add_register(register, times, range),
+            Operand::Immediate(word) => {
+                self.add_constant(times.saturating_mul(i64::from(word.cast_signed())));
+            }
+        }
+    }
+
+    /// Takes out the terms of registers that have a bit in `registers`. Gives how often the last one of them was
+    /// there.
+    fn take(&mut self, registers: u32) -> Option<i64> {
+        let mut taken = None;
+        for slot in &mut self.terms {
+            if let Some(term) = slot
+                && registers >> (term.register % 32) & 1 == 1
+            {
+                taken = Some(term.times);
+                *slot = None;
+            }
+        }
+        taken
+    }
+
+    /// The only term, if there is one alone.
+    fn only(&self) -> Option<Term> {
+        match self.terms {
+            [Some(term), None, None] | [None, Some(term), None] | [None, None, Some(term)]
+                if term.times > 0 && !self.is_lost => { Some(term) }
+            _ => None,
+        }
+    }
+
+    fn name(&mut self, object: Option<usize>) {
+        if self.object.is_none() {
+            self.object = object;
+        }
+    }
+
+    /// The registers of the terms, each of which has a bit.
+    fn registers(&self) -> u32 {
+        let mut registers = 0;
+        for slot in &self.terms {
+            if let Some(term) = slot {
+                registers |= 1 << (term.register % 32);
+            }
+        }
+        registers
+    }
+
+    /// Puts what a step computes, so many times, in the place of its result. Says whether that could be done.
+    fn expand(&mut self, step: &Step, operands: [Option<Range>; 2], times: i64) -> bool {
+        let Operation::Compute(op, fields) = operation_of(&step.instr) else {
+            return false;
+        };
+        let second = match op {
+            Op::Add | Op::AddCc => Some(times),
+            Op::Sub | Op::SubCc => Some(times.saturating_neg()),
+            Op::Or | Op::OrCc if is_zero(&operands[0]) || is_zero(&operands[1]) => Some(times),
+            _ => None,
+        };
+        match second {
+            Some(second) => {
+                self.add_register(fields.rs1, times, operands[0]);
+                self.add_operand(fields.operand2, second, operands[1]);
+            }
+            None => {
+                let Some(count) = shift_of(op, operands[1]) else {
+                    return false;
+                };
+                self.add_register(
+                    fields.rs1,
+                    times.saturating_mul(1i64 << (count % 32)),
+                    operands[0],
+                );
+            }
+        }
+        self.name(step.object);
+        !self.is_lost
+    }
+}
+
+fn is_zero(range: &Option<Range>) -> bool {
+    match range {
+        Some(range) => range.lo == 0 && range.hi == 0,
+        None => false,
+    }
+}
+
+/// How far a word is shifted to the left.
+fn shift_of(op: Op, count: Option<Range>) -> Option<u32> {
+    match (op, count) {
+        (Op::Sll, Some(count)) if is_single(count) => Some(count.lo.cast_unsigned() % 32),
+        _ => None,
+    }
+}
+
+/// The registers that a step writes, each of which has a bit.
+fn written(frame: u32, step: &Step) -> u32 {
+    match step.callee {
+        Some(_) => 0xfffe,
+        None => effects_of(frame, &step.instr).writes,
+    }
+}
+
+/// A sum that has one term as an origin whose word stands before the step of a place.
+fn candidate(sum: &Sum, last: usize) -> Option<Origin> {
+    let term = sum.only()?;
+    let constant = (sum.constant.cast_unsigned() & 0xffff_ffff) as u32;
+    Some(Origin {
+        register: term.register,
+        times: term.times,
+        constant: i64::from(constant.cast_signed()),
+        first: 0,
+        last,
+        range: term.range,
+        object: sum.object,
+    })
+}
+
+/// An origin whose word stands behind the step of a place, and not before.
+fn behind(origin: Option<Origin>, place: usize) -> Option<Origin> {
+    let mut origin = origin?;
+    if origin.first == 0 {
+        origin.first = place.saturating_add(1);
+    }
+    Some(origin)
+}
+
+/// What the address of the access at a place of a block is worked out from, as far back as one register stands for
+/// it. Nothing where it is worked out from several, or is a number.
+pub fn origin_of(frame: u32, block: &Block, trace: &Trace, place: usize) -> Option<Origin> {
+    let access = block.steps.get(place)?;
+    let (first, second) = operands_of(frame, &access.instr)?;
+    let operands = trace.at(place);
+    let mut sum = Sum {
+        constant: 0,
+        terms: [None; 3],
+        is_lost: false,
+        folded: 0,
+        object: access.object,
+    };
+    sum.add_register(first, 1, operands[0]);
+    sum.add_operand(second, 1, operands[1]);
+    let mut found = candidate(&sum, place);
+    for (earlier, step) in block.steps.iter().enumerate().rev() {
+        if earlier < place {
+            let writes = written(frame, step);
+            if writes & sum.folded != 0 {
+                sum.folded &= !writes;
+                sum.name(step.object);
+            }
+            if writes & sum.registers() != 0 {
+                found = behind(found, earlier);
+                let is_open = match sum.take(writes) {
+                    Some(times) => sum.expand(step, trace.at(earlier), times),
+                    None => false,
+                };
+                if !is_open {
+                    return found;
+                }
+                found = candidate(&sum, earlier).or(found);
+            }
+        }
+    }
+    found
+}

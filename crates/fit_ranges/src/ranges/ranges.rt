@@ -1,0 +1,446 @@
+//! The ranges of a program: of the cells of its blocks, and of what its functions are called with and give back.
+use crate::flow::{Flow, Setting};
+use fit_cells::hull;
+use fit_code::{Fault, Function, NO_LINE, Program, Reason};
+use fit_graph::{Liveness, Locations};
+use sbx_domain::State;
+use sbx_range::{Cell, Range, all, is_within};
+use std::alloc::{AllocError, Global};
+
+/// In so many first rounds over the program results are narrowed.
+const NARROWINGS: u32 = 2;
+
+/// As many rounds over the program as there may be.
+const ROUNDS: u32 = 40;
+
+/// As many cells as a block of an image may list.
+const CELLS: usize = 64;
+
+/// What is known of a program.
+#[derive(Drop)]
+pub struct Ranges {
+    alloc: Global,
+    liveness: Liveness,
+    flows: Vec<Flow>,
+    /// What each function is called with, in %o0, %o1, ..
+    params: Vec<Vec<Range>>,
+    /// What each function gives back, in %o0, %o1, ..
+    results: Vec<Vec<Range>>,
+    /// Of each function and each of its blocks the cells that are said, by location. None of those that aren't named
+    /// here.
+    said: Vec<Vec<Vec<Cell>>>,
+}
+
+/// So many times any word.
+fn any_words(alloc: Global, count: u8) -> Result<Vec<Range>, AllocError> {
+    vec![in alloc; all(0); usize::from(count)]
+}
+
+/// Whether each range lies within the one at its place.
+fn lie_within(found: &[Range], wanted: &[Range]) -> bool {
+    for (place, range) in found.iter().enumerate() {
+        match wanted.get(place) {
+            Some(other) if is_within(*range, *other) => {}
+            _ => return false,
+        }
+    }
+    found.len() == wanted.len()
+}
+
+/// The range of 0 alone.
+const ZERO: Range = Range {
+    lo: 0,
+    hi: 0,
+    alignment: 3,
+};
+
+/// What some ranges and what is given have in common, where an undefined word is 0.
+fn add_given(ranges: &mut Vec<Range>, given: &[Option<Range>; 6], is_first: bool) {
+    for (place, range) in ranges.iter_mut().enumerate() {
+        let given = match given.get(place) {
+            Some(Some(given)) => *given,
+            _ => ZERO,
+        };
+        *range = if is_first { given } else { hull(*range, given) };
+    }
+}
+
+/// Whether all of a set's locations are in another one.
+fn is_part(set: &Locations, of: &Locations) -> bool {
+    let mut both = *of;
+    !both.add(set)
+}
+
+/// Whether the same locations are live where blocks begin.
+fn are_same(a: &[Locations], b: &[Locations]) -> bool {
+    for (place, set) in a.iter().enumerate() {
+        match b.get(place) {
+            Some(other) if is_part(set, other) && is_part(other, set) => {}
+            _ => return false,
+        }
+    }
+    a.len() == b.len()
+}
+
+/// Puts ranges that are said in the place of the first ones.
+fn put_said(ranges: &mut Vec<Range>, said: &[Range]) -> Result<(), AllocError> {
+    for (place, range) in said.iter().enumerate() {
+        match ranges.get_mut(place) {
+            Some(found) => *found = *range,
+            None => ranges.push(*range)?,
+        }
+    }
+    Ok(())
+}
+
+/// The cells that are said of a function's blocks.
+fn said_of(said: &[Vec<Vec<Cell>>], function: usize) -> &[Vec<Cell>] {
+    match said.get(function) {
+        Some(cells) => cells.as_slice(),
+        None => &[],
+    }
+}
+
+/// The ranges at a place of a list.
+fn at(lists: &[Vec<Range>], place: usize) -> &[Range] {
+    match lists.get(place) {
+        Some(list) => list.as_slice(),
+        None => &[],
+    }
+}
+
+impl Ranges {
+    /// Finds the ranges of a program.
+    pub fn of(alloc: Global, program: &Program, state: &mut State) -> Result<Ranges, Fault> {
+        Ranges::beside(alloc, program, Vec::new(alloc), state)
+    }
+
+    /// Finds the ranges of a program of which some are said: the first params and results of its functions, as they
+    /// stand there, and cells of its functions' blocks, by location.
+    pub fn beside(
+        alloc: Global,
+        program: &Program,
+        said: Vec<Vec<Vec<Cell>>>,
+        state: &mut State,
+    ) -> Result<Ranges, Fault> {
+        let liveness = Liveness::of(alloc, program)?;
+        let mut ranges = Ranges {
+            alloc,
+            liveness,
+            flows: Vec::new(alloc),
+            params: Vec::new(alloc),
+            results: Vec::new(alloc),
+            said,
+        };
+        for (number, function) in program.functions.iter().enumerate() {
+            ranges.begin(number, function)?;
+        }
+        ranges.settle(program, state)?;
+        Ok(ranges)
+    }
+
+    /// Nothing is known of the next function.
+    fn begin(&mut self, number: usize, function: &Function) -> Result<(), AllocError> {
+        let counts = self.liveness.counts_of(number);
+        let flow = Flow::new(self.alloc, function, self.liveness.of_function(number))?;
+        self.flows.push(flow)?;
+        self.params.push(any_words(self.alloc, counts.params)?)?;
+        self.results.push(any_words(self.alloc, counts.results)?)?;
+        Ok(())
+    }
+
+    /// What all calls give a function; any words where none is reached.
+    fn given(&self, callee: usize) -> Result<Vec<Range>, AllocError> {
+        let mut ranges = any_words(self.alloc, self.liveness.counts_of(callee).params)?;
+        let mut is_first = true;
+        for flow in &self.flows {
+            for call in &flow.calls {
+                if call.callee == callee {
+                    add_given(&mut ranges, &call.given, is_first);
+                    is_first = false;
+                }
+            }
+        }
+        Ok(ranges)
+    }
+
+    /// Takes over what all calls give a function; where that is new the function is looked at again.
+    fn take_params(&mut self, number: usize, function: &Function) -> Result<(), AllocError> {
+        let mut given = self.given(number)?;
+        put_said(&mut given, function.params.as_slice())?;
+        if at(self.params.as_slice(), number) != given.as_slice() {
+            if let Some(params) = self.params.get_mut(number) {
+                *params = given;
+            }
+            if let Some(flow) = self.flows.get_mut(number) {
+                flow.revisit(&[0]);
+            }
+        }
+        Ok(())
+    }
+
+    /// Goes over a function, if something of it is to be looked at. Says whether that was so.
+    fn settle_function(
+        &mut self,
+        program: &Program,
+        number: usize,
+        state: &mut State,
+    ) -> Result<bool, Fault> {
+        let Some(function) = program.functions.get(number) else {
+            return Ok(false);
+        };
+        self.take_params(number, function)?;
+        let setting = Setting {
+            alloc: self.alloc,
+            program,
+            function,
+            params: at(self.params.as_slice(), number),
+            results: self.results.as_slice(),
+            said: said_of(self.said.as_slice(), number),
+        };
+        match self.flows.get_mut(number) {
+            Some(flow) if flow.is_pending() => {
+                flow.settle(&setting, state)?;
+                Ok(true)
+            }
+            _ => Ok(false),
+        }
+    }
+
+    /// What a function's returns leave, as far as its callers ask for it.
+    fn returned(&self, number: usize) -> Result<Vec<Range>, AllocError> {
+        let mut ranges = any_words(self.alloc, self.liveness.counts_of(number).results)?;
+        if let Some(flow) = self.flows.get(number)
+            && let Some(returned) = &flow.returned
+        {
+            for (place, range) in ranges.iter_mut().enumerate() {
+                if let Some(found) = returned.get(place) {
+                    *range = *found;
+                }
+            }
+        }
+        Ok(ranges)
+    }
+
+    /// Takes over what a function gives back, and looks at its callers again, where that is new: narrower in the first
+    /// rounds, and wider in all. Says whether it is.
+    fn take_results(
+        &mut self,
+        program: &Program,
+        number: usize,
+        round: u32,
+    ) -> Result<bool, AllocError> {
+        let mut found = self.returned(number)?;
+        if let Some(function) = program.functions.get(number) {
+            put_said(&mut found, function.results.as_slice())?;
+        }
+        let known = at(self.results.as_slice(), number);
+        let is_new = if round < NARROWINGS {
+            known != found.as_slice()
+        } else {
+            !lie_within(found.as_slice(), known)
+        };
+        if is_new {
+            if let Some(results) = self.results.get_mut(number) {
+                *results = found;
+            }
+            self.revisit_calls(number)?;
+        }
+        Ok(is_new)
+    }
+
+    /// The blocks that call a function are to be looked at again.
+    fn revisit_calls(&mut self, callee: usize) -> Result<(), AllocError> {
+        for flow in self.flows.iter_mut() {
+            let mut blocks = Vec::new(self.alloc);
+            for call in &flow.calls {
+                if call.callee == callee {
+                    blocks.push(call.block)?;
+                }
+            }
+            flow.revisit(blocks.as_slice());
+        }
+        Ok(())
+    }
+
+    /// Goes over the program once. Says whether something is to be looked at again.
+    fn pass(&mut self, program: &Program, round: u32, state: &mut State) -> Result<bool, Fault> {
+        for number in 0..program.functions.len() {
+            self.settle_function(program, number, state)?;
+        }
+        let mut is_new = false;
+        for number in 0..program.functions.len() {
+            is_new = self.take_results(program, number, round)? || is_new;
+        }
+        Ok(is_new)
+    }
+
+    /// Goes over the program until nothing is to be looked at again.
+    fn settle(&mut self, program: &Program, state: &mut State) -> Result<(), Fault> {
+        for round in 0..ROUNDS {
+            if !self.pass(program, round, state)? {
+                return Ok(());
+            }
+        }
+        Err(Fault::new(
+            NO_LINE,
+            Reason::TooMany {
+                what: "rounds over what functions give back",
+                most: u64::from(ROUNDS),
+            },
+        ))
+    }
+
+    /// Finds the ranges again, where some blocks of the program, each by its function and its own number, are others
+    /// than before. What can't be reached from them is not looked at.
+    pub fn renew(
+        &mut self,
+        program: &Program,
+        changed: &[(usize, usize)],
+        state: &mut State,
+    ) -> Result<(), Fault> {
+        let liveness = Liveness::of(self.alloc, program)?;
+        if liveness.counts != self.liveness.counts || program.functions.len() != self.flows.len() {
+            *self = Ranges::of(self.alloc, program, state)?;
+            return Ok(());
+        }
+        for (number, function) in program.functions.iter().enumerate() {
+            let live = liveness.of_function(number);
+            self.renew_function(number, function, live, changed)?;
+        }
+        self.liveness = liveness;
+        self.settle(program, state)
+    }
+
+    /// Takes over one function, of whose blocks this is live, if something of it is others than before.
+    fn renew_function(
+        &mut self,
+        number: usize,
+        function: &Function,
+        live: &[Locations],
+        changed: &[(usize, usize)],
+    ) -> Result<(), AllocError> {
+        let mut blocks = Vec::new(self.alloc);
+        for (other, block) in changed {
+            if *other == number {
+                blocks.push(*block)?;
+            }
+        }
+        let is_same = are_same(self.liveness.of_function(number), live);
+        match self.flows.get_mut(number) {
+            Some(flow) if !is_same || !blocks.is_empty() => {
+                flow.renew(self.alloc, function, live, blocks.as_slice())
+            }
+            _ => Ok(()),
+        }
+    }
+
+    /// What a function is called with.
+    pub fn params(&self, function: usize) -> &[Range] {
+        at(self.params.as_slice(), function)
+    }
+
+    /// What each function gives back.
+    pub fn results(&self) -> &[Vec<Range>] {
+        self.results.as_slice()
+    }
+
+    /// What is known where a block begins, by location, of what is live there. Nothing of a block to which control
+    /// doesn't come, and of a function's first block, which begins with the function's params.
+    pub fn cells(&self, function: usize, block: usize) -> Option<&[Cell]> {
+        match self.flows.get(function) {
+            Some(flow) => flow.cells(block),
+            None => None,
+        }
+    }
+
+    /// Whether control comes to a block.
+    pub fn reaches(&self, function: usize, block: usize) -> bool {
+        block == 0 || self.cells(function, block).is_some()
+    }
+
+    /// Which ways of a block can be gone.
+    pub fn open_ways(&self, function: usize, block: usize) -> (bool, bool) {
+        match self.flows.get(function) {
+            Some(flow) => flow.open_ways(block),
+            None => (false, false),
+        }
+    }
+
+    /// What is live where each block of a function begins.
+    pub fn live(&self, function: usize) -> &[Locations] {
+        self.liveness.of_function(function)
+    }
+
+    fn setting<'a>(&'a self, program: &'a Program, function: usize) -> Option<Setting<'a>> {
+        Some(Setting {
+            alloc: self.alloc,
+            program,
+            function: program.functions.get(function)?,
+            params: at(self.params.as_slice(), function),
+            results: self.results.as_slice(),
+            said: said_of(self.said.as_slice(), function),
+        })
+    }
+
+    /// Begins a block in the verifier's domain, behind SAVE where it is a framed function's first one. Says whether
+    /// control comes there.
+    pub fn begin_block(
+        &self,
+        program: &Program,
+        function: usize,
+        block: usize,
+        state: &mut State,
+    ) -> bool {
+        match (self.flows.get(function), self.setting(program, function)) {
+            (Some(flow), Some(setting)) => flow.begin(&setting, block, state),
+            _ => false,
+        }
+    }
+
+    /// Runs a block in the verifier's domain, from its beginning along one of its ways: 0 is that of a jump or of a
+    /// branch that is taken, 1 a branch's other one. Says whether that way can be gone. A return's and an exit's way is
+    /// 0.
+    pub fn run_block(
+        &self,
+        program: &Program,
+        function: usize,
+        block: usize,
+        way: usize,
+        state: &mut State,
+    ) -> bool {
+        match (self.flows.get(function), self.setting(program, function)) {
+            (Some(flow), Some(setting)) => flow.run(&setting, block, way, state),
+            _ => false,
+        }
+    }
+
+    /// A fault of the first block of which more cells are known than an image's block may list.
+    pub fn check_limits(&self, program: &Program) -> Result<(), Fault> {
+        for (number, function) in program.functions.iter().enumerate() {
+            for (place, block) in function.blocks.iter().enumerate() {
+                if let Some(cells) = self.cells(number, place)
+                    && cells.len() > CELLS
+                {
+                    return Err(Fault::new(
+                        block.line,
+                        Reason::TooMany {
+                            what: "registers and frame words in use where a block begins",
+                            most: CELLS as u64,
+                        },
+                    ));
+                }
+            }
+        }
+        Ok(())
+    }
+
+    /// Writes down for each function what it is called with and what it gives back.
+    pub fn store(&self, program: &mut Program) -> Result<(), AllocError> {
+        for (number, function) in program.functions.iter_mut().enumerate() {
+            function.params = Vec::from_slice(self.alloc, self.params(number))?;
+            function.results = Vec::from_slice(self.alloc, at(self.results.as_slice(), number))?;
+        }
+        Ok(())
+    }
+}

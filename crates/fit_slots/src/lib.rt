@@ -1,9 +1,0 @@
-//! The instructions of a function that a compiler wrote, by their places: what stands in slots, where blocks begin, and
-//! the frame.
-#![tactic(auto)]
-
-mod slots;
-mod starts;
-
-pub use slots::{behind_mark, flow_at, line_at, may_go_before, restore_at, slot_of};
-pub use starts::{frame_and_start, leads_of};

@@ -1,0 +1,314 @@
+//! What isn't shown of a function's steps.
+use fit_cells::run_to_call;
+use fit_code::{Block, Function, Line, Program, Region, Step};
+use fit_graph::{Effects, effects_of, read_at_end};
+use fit_ranges::{
+    Origin, Ranges, Trace, end_of, named_object, operand_range, origin_of, register_range, trace_of,
+};
+use sbx_domain::{State, frame_word_of};
+use sbx_range::{Range, excludes_zero, range_of_address};
+use std::alloc::{AllocError, Global};
+use v8_formats::Operand;
+use v8_meaning::{MemoryOperand, Operation, Transfer, bytes_in, operation_of};
+
+/// An access that isn't shown to lie where it has to.
+#[derive(Clone, Copy)]
+pub struct Access {
+    /// Its addresses.
+    pub range: Range,
+    /// How many bytes it moves.
+    pub size: u32,
+    pub writes: bool,
+    /// What its address is worked out from.
+    pub origin: Option<Origin>,
+}
+
+/// What isn't shown.
+#[derive(Clone, Copy)]
+pub enum Lack {
+    /// That a location is defined which is read.
+    Defined(u16),
+    /// That a location is defined which a callee takes for granted.
+    Given(u16),
+    /// That an access lies where it has to, at a multiple of its size.
+    Placed(Access),
+    /// That a divisor isn't 0, by its register, of which there is none where it is a number, and what is known of it.
+    Divisible(Option<u8>, Range),
+}
+
+/// What isn't shown of a step, by its place in its block; the end of the block stands behind the last step.
+#[derive(Clone, Copy)]
+pub struct Ask {
+    pub block: usize,
+    pub place: usize,
+    pub line: Line,
+    pub lack: Lack,
+}
+
+/// A program and what is known of it.
+#[derive(Clone, Copy)]
+pub struct Asking<'a> {
+    pub alloc: Global,
+    pub program: &'a Program,
+    pub ranges: &'a Ranges,
+    /// Whether an access has to lie in the object that its base names, and not only in the data.
+    pub by_object: bool,
+}
+
+/// Whether bytes from the first to before the last address lie in one region, which may be written where they are.
+fn is_in_region(regions: &[Region], from: i64, to: i64, writes: bool) -> bool {
+    for region in regions {
+        let start = i64::from(region.start);
+        let end = start.saturating_add(i64::from(region.length));
+        if start <= from && to <= end && !(writes && region.readonly) {
+            return true;
+        }
+    }
+    false
+}
+
+/// The first register that is read and isn't defined. %sp, %fp and the addresses of calls are never asked for.
+fn undefined_register(reads: u32, state: &State) -> Option<u16> {
+    for register in 1..32u16 {
+        let is_reserved = matches!(register, 14 | 15 | 30 | 31);
+        if reads >> register & 1 == 1 && !is_reserved && state.range(register).is_none() {
+            return Some(register);
+        }
+    }
+    None
+}
+
+/// The first location that is read and isn't defined.
+fn undefined_location(effects: &Effects, state: &State) -> Option<u16> {
+    match effects.word_read {
+        Some(word) if state.range(word).is_none() => Some(word),
+        _ => undefined_register(effects.reads, state),
+    }
+}
+
+/// The addresses of an access that isn't one of a frame word.
+fn addresses(frame: u32, operand: &MemoryOperand, state: &State) -> Option<Range> {
+    if frame_word_of(frame, operand).is_some() {
+        return None;
+    }
+    let first = register_range(operand.rs1, state)?;
+    let second = operand_range(operand.operand2, state)?;
+    Some(range_of_address(first, second))
+}
+
+/// How many low bits of an address of so many bytes are 0.
+pub fn needed_alignment(size: u32) -> u8 {
+    match size {
+        8 => 3,
+        4 => 2,
+        2 => 1,
+        _ => 0,
+    }
+}
+
+/// The number of the register that an operand is.
+fn number_of(operand: Operand) -> Option<u8> {
+    match operand {
+        Operand::Register(register) => Some(register.number()),
+        Operand::Immediate(_) => None,
+    }
+}
+
+/// What isn't shown of a division by a register's word, or by a number, of a range.
+fn lack_of_division(register: Option<u8>, range: Option<Range>) -> Option<Lack> {
+    let range = range?;
+    if excludes_zero(range) {
+        None
+    } else {
+        Some(Lack::Divisible(register, range))
+    }
+}
+
+impl<'a> Asking<'a> {
+    /// Whether an access lies outside of the object that its base names.
+    fn is_outside(&self, origin: Option<Origin>, from: i64, to: i64) -> bool {
+        let Some(origin) = origin else {
+            return false;
+        };
+        match named_object(self.program, &origin) {
+            Some(number) => match self.program.objects.get(number) {
+                Some(object) => from < i64::from(object.start) || to > end_of(object),
+                None => false,
+            },
+            None => false,
+        }
+    }
+
+    /// What isn't shown of an access.
+    fn lack_of_access(
+        &self,
+        transfer: Transfer,
+        range: Range,
+        origin: Option<Origin>,
+    ) -> Option<Lack> {
+        let size = bytes_in(transfer.size());
+        let from = i64::from(range.lo);
+        let to = i64::from(range.hi).saturating_add(i64::from(size));
+        let regions = self.program.regions.as_slice();
+        let writes = transfer.writes_memory();
+        let is_shown = needed_alignment(size) <= range.alignment
+            && is_in_region(regions, from, to, writes)
+            && !(self.by_object && self.is_outside(origin, from, to));
+        if is_shown {
+            None
+        } else {
+            Some(Lack::Placed(Access {
+                range,
+                size,
+                writes,
+                origin,
+            }))
+        }
+    }
+
+    /// The first param of a callee that isn't defined.
+    fn lack_of_call(&self, callee: usize, state: &State) -> Option<Lack> {
+        let params = self.ranges.params(callee).len().min(6) as u16;
+        for location in 8..8 + params {
+            if state.range(location).is_none() {
+                return Some(Lack::Given(location));
+            }
+        }
+        None
+    }
+
+    /// What isn't shown of a step that is no call.
+    fn lack_of(
+        &self,
+        function: &Function,
+        block: &Block,
+        trace: &Trace,
+        place: usize,
+        state: &State,
+    ) -> Option<Lack> {
+        let step = block.steps.get(place)?;
+        if let Some(location) = undefined_location(
+            &effects_of(function.frame, &step.instr),
+            state,
+        ) {
+            return Some(Lack::Defined(location));
+        }
+        match operation_of(&step.instr) {
+            Operation::Divide(_, fields) => lack_of_division(
+                number_of(fields.operand2),
+                operand_range(fields.operand2, state),
+            ),
+            Operation::Transfer(transfer, operand) => {
+                let range = addresses(function.frame, &operand, state)?;
+                let origin = origin_of(function.frame, block, trace, place);
+                self.lack_of_access(transfer, range, origin)
+            }
+            _ => None,
+        }
+    }
+
+    /// What isn't shown of a step, up to which the block was run. Of a call its slot is run too.
+    fn lack_at(
+        &self,
+        function: &Function,
+        block: &Block,
+        trace: &Trace,
+        place: usize,
+        state: &mut State,
+    ) -> Option<Lack> {
+        let step = block.steps.get(place)?;
+        match step.callee {
+            Some(callee) => {
+                run_to_call(function.frame, step, state);
+                self.lack_of_call(callee, state)
+            }
+            None => self.lack_of(function, block, trace, place, state),
+        }
+    }
+
+    /// Asks a block, from its beginning on.
+    fn ask_block(
+        &self,
+        function: usize,
+        number: usize,
+        state: &mut State,
+        asks: &mut Vec<Ask>,
+    ) -> Result<(), AllocError> {
+        let Some(code) = self.program.functions.get(function) else {
+            return Ok(());
+        };
+        let Some(block) = code.blocks.get(number) else {
+            return Ok(());
+        };
+        if !self
+            .ranges
+            .begin_block(self.program, function, number, state)
+        {
+            return Ok(());
+        }
+        let results = self.ranges.results();
+        let trace = trace_of(self.alloc, code.frame, results, block, state)?;
+        self.ranges
+            .begin_block(self.program, function, number, state);
+        for (place, step) in block.steps.iter().enumerate() {
+            if let Some(lack) = self.lack_at(code, block, &trace, place, state) {
+                asks.push(Ask {
+                    block: number,
+                    place,
+                    line: step.line,
+                    lack,
+                })?;
+            }
+            self.finish(code.frame, step, state);
+        }
+        Ok(())
+    }
+
+    /// What a step does, and what is left of a call.
+    fn finish(&self, frame: u32, step: &Step, state: &mut State) {
+        match step.callee {
+            Some(callee) => fit_cells::return_from(self.ranges.results(), callee, state),
+            None => state.transfer(frame, &step.instr),
+        }
+    }
+
+    /// What isn't shown of the end of a block that was run.
+    fn ask_end(&self, function: usize, number: usize, state: &State) -> Option<Ask> {
+        let code = self.program.functions.get(function)?;
+        let block = code.blocks.get(number)?;
+        let results = match self.ranges.results().get(function) {
+            Some(results) => results.len().min(6) as u8,
+            None => 0,
+        };
+        let reads = read_at_end(code, results, &block.end);
+        let location = undefined_register(reads, state)?;
+        Some(Ask {
+            block: number,
+            place: block.steps.len(),
+            line: block.line,
+            lack: Lack::Defined(location),
+        })
+    }
+}
+
+/// What isn't shown of a function's steps and ends, to which control comes.
+pub fn asks_of(
+    asking: &Asking,
+    function: usize,
+    state: &mut State,
+) -> Result<Vec<Ask>, AllocError> {
+    let mut asks = Vec::new(asking.alloc);
+    let blocks = match asking.program.functions.get(function) {
+        Some(code) => code.blocks.len(),
+        None => 0,
+    };
+    for number in 0..blocks {
+        asking.ask_block(function, number, state, &mut asks)?;
+        if asking.ranges.reaches(function, number)
+            && let Some(ask) = asking.ask_end(function, number, state)
+        {
+            asks.push(ask)?;
+        }
+    }
+    Ok(asks)
+}

@@ -1,0 +1,108 @@
+//! How an address is tested.
+use fit_code::Program;
+use fit_ranges::{Bounds, Origin, bounds_in_constants, bounds_of};
+use sbx_range::{Range, all};
+
+/// What is asked of a register's word.
+#[derive(Clone, Copy)]
+pub struct Plan {
+    pub register: u8,
+    /// What is known of it.
+    pub range: Range,
+    pub bounds: Bounds,
+    /// It has to be a multiple of 2 to this power, where that isn't known; else 0.
+    pub alignment: u8,
+    pub way: Way,
+}
+
+/// How it is seen that a word lies from `lo` to `hi`.
+#[derive(Clone, Copy)]
+pub enum Way {
+    /// That is known.
+    Known,
+    /// As an unsigned word it isn't above `hi`.
+    Above(i32),
+    /// As an unsigned word it isn't above a number, once another one is subtracted.
+    Within { lo: i32, length: i32 },
+    /// It never does.
+    Never,
+}
+
+/// How many low bits are 0 in each multiple of a number above 0, at most 3.
+fn trailing(times: i64) -> u8 {
+    times.trailing_zeros().min(3) as u8
+}
+
+/// A multiple of 8 that isn't below.
+fn rounded(number: i64) -> i64 {
+    number.saturating_add(7) & -8
+}
+
+/// Numbers that are signed words, and whose difference is one.
+fn within(lo: i64, hi: i64) -> Way {
+    let length = hi.saturating_sub(lo);
+    match (i32::try_from(lo), i32::try_from(length)) {
+        (Ok(lo), Ok(length)) if length >= 0 => Way::Within { lo, length },
+        _ => Way::Never,
+    }
+}
+
+/// How a word of a range is seen to lie in bounds, where its multiples are looked at or not.
+fn way_of(range: Range, bounds: &Bounds, alignment: u8) -> Way {
+    let (lo, hi) = (bounds.lo, bounds.hi);
+    if hi < lo {
+        return Way::Never;
+    }
+    let (least, greatest) = (i64::from(range.lo), i64::from(range.hi));
+    if lo <= least && greatest <= hi {
+        return Way::Known;
+    }
+    if lo == 0 || (lo < 0 && least >= 0) {
+        return match i32::try_from(hi) {
+            Ok(hi) if hi >= 0 => Way::Above(hi),
+            _ => Way::Never,
+        };
+    }
+    if bounds.object.is_none() || alignment > 0 {
+        within(rounded(lo), hi)
+    } else {
+        within(lo, hi)
+    }
+}
+
+/// How it is seen that an origin's word lies in bounds, for an address that has to be a multiple of 2 to the power
+/// `needed`.
+fn plan_in(origin: &Origin, bounds: Bounds, needed: u8) -> Plan {
+    let range = origin.range.unwrap_or(all(0));
+    let needed = needed.saturating_sub(trailing(origin.times));
+    let alignment = if range.alignment < needed { needed } else { 0 };
+    Plan {
+        register: origin.register,
+        range,
+        bounds,
+        alignment,
+        way: way_of(range, &bounds, alignment),
+    }
+}
+
+/// How an access of so many bytes is tested by the register that its address is worked out from, where the address
+/// has to be a multiple of 2 to the power `needed`.
+pub fn plan_of(program: &Program, origin: &Origin, size: u32, needed: u8) -> Plan {
+    plan_in(origin, bounds_of(program, origin, i64::from(size)), needed)
+}
+
+/// How a load is tested where it doesn't lie in the data that may be written: among the constants. Nothing where there
+/// are none, or where it was seen by the first plan already.
+pub fn plan_in_constants(
+    program: &Program,
+    origin: &Origin,
+    size: u32,
+    needed: u8,
+    first: &Plan,
+) -> Option<Plan> {
+    if first.bounds.object.is_some() || matches!(first.way, Way::Known) {
+        return None;
+    }
+    let bounds = bounds_in_constants(program, origin, i64::from(size))?;
+    Some(plan_in(origin, bounds, needed))
+}

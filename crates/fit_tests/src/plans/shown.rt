@@ -1,0 +1,69 @@
+//! Tests as notes to the author.
+use crate::plans::test::{Kind, Test};
+use fit_code::Program;
+use sbx_range::Range;
+use std::fmt::{self, Error, Formatter, Write};
+
+/// A test as one line, with the name of its file.
+#[derive(Drop)]
+pub struct Shown<'p> {
+    test: Test,
+    program: &'p Program,
+}
+
+impl Test {
+    /// The test as one line of notes.
+    pub fn shown<'p>(&self, program: &'p Program) -> Shown<'p> {
+        Shown {
+            test: *self,
+            program,
+        }
+    }
+}
+
+fn write_range<W: Write>(f: &mut Formatter<W>, range: Range) -> Result<(), Error> {
+    let (lo, hi) = (range.lo, range.hi);
+    if lo == i32::MIN && hi == i32::MAX {
+        f.write_str("any word")
+    } else if lo == hi {
+        write!(f, "{lo}")
+    } else {
+        write!(f, "{lo} to {hi}")
+    }
+}
+
+/// What may be wrong.
+fn write_subject<W: Write>(f: &mut Formatter<W>, shown: &Shown) -> Result<(), Error> {
+    let object = match shown.test.object {
+        Some(number) => shown.program.objects.get(number),
+        None => None,
+    };
+    match (shown.test.kind, object) {
+        (Kind::Divisor, _) => f.write_str("the divisor may be 0: it may be "),
+        (_, Some(object)) => {
+            let name = &object.name;
+            let bytes = object.bytes.len();
+            write!(f, "the index into {name} ({bytes} bytes) may be ")
+        }
+        (_, None) => f.write_str("the address may be "),
+    }
+}
+
+impl fmt::Display for Shown<'_> {
+    fn fmt<W: Write>(&self, f: &mut Formatter<W>) -> Result<(), Error> {
+        let number = self.test.line.number;
+        if let Some(file) = self.program.files.get(self.test.line.file)
+            && number > 0
+        {
+            write!(f, "{file}:{number}: ")?;
+        }
+        f.write_str("note: ")?;
+        write_subject(f, self)?;
+        write_range(f, self.test.range)?;
+        if self.test.alignment > 0 {
+            let multiple = 1u32 << (self.test.alignment % 4);
+            write!(f, ", and no multiple of {multiple}")?;
+        }
+        f.write_str(": a test was added")
+    }
+}

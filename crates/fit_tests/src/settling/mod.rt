@@ -1,0 +1,7 @@
+//! Run-time tests of what isn't shown: a compare, and a branch to an end of the run whose exit word tells kind and
+//! line. Nothing rests on them, since the verifier asks all again.
+mod answers;
+mod settle;
+
+pub use crate::plans::{Kind, Shown, Test};
+pub use answers::{Options, Tests};
