@@ -8,4 +8,5 @@ mod plans;
 mod settling;
 
 pub use asks::{Access, Asking, Lack, asks_of, needed_alignment};
+pub use cuts::push_number;
 pub use settling::{Kind, Options, Test, Tests};

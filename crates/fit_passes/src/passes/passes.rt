@@ -1,5 +1,6 @@
 //! From compiler-made assembly to an annotated source.
 use crate::metering::insert_meter;
+use crate::passes::unreached::end_unreached;
 use crate::placing::{fill, place};
 use fit_code::{Block, Fault, Function, NO_LINE, Program, Reason};
 use fit_fuel::{Meter, bounded_heads, declare};
@@ -168,6 +169,7 @@ fn fit(
         ..options
     };
     let ranges = settle_places(alloc, program, kept, state)?;
+    end_unreached(program, &ranges)?;
     ranges.store(program)?;
     Ok(Fitted {
         tests: tests.list,
