@@ -9,11 +9,13 @@
 //!
 //! Both ends need the one writer, which so stands in a cell. It is taken within a single call at a time: a call
 //! that finds it taken would be an error, and there is none.
+ghost use Rattle.std.specs.Io.{ReadsAtMost};
 ghost use Rattle.std.specs.Io.Buffered.{reader_remaining};
+ghost use Rattle.std.specs.Io.KnownBytes.{ReadConsumes};
 
 use std::cell::RefCell;
 use std::io;
-use std::io::{BufReader, LineWriter, Read, Write};
+use std::io::{BufRead, BufReader, LineWriter, Read, Write};
 
 /// The reader of a conversation. It gives the bytes of its input, and what was put out is flushed before it waits
 /// for more.
@@ -41,16 +43,34 @@ impl<'a, R: Read, W: Write + Drop> Hearer<'a, R, W> {
             let _ = out.flush();
         }
     }
+
+    /// Reads where more than one byte is asked for, or none is at hand. It stands apart, so that the one byte that is
+    /// at hand costs no call.
+    #[inline(never)]
+    fn read_on(&mut self, buf: &mut [u8]) -> io::Result<usize>
+        ensures bound { ReadsAtMost result buf.new }
+        ensures bytes { ReadConsumes (reader_remaining R.remaining self.old.input)
+            (reader_remaining R.remaining self.new.input) result buf.new }
+    {
+        if self.input.buffer().is_empty() {
+            self.prompt();
+        }
+        self.input.read(buf)
+    }
 }
 
 impl<R: Read, W: Write + Drop> Read for Hearer<'_, R, W> {
     ghost remaining = { λ hearer. reader_remaining R.remaining hearer.input };
 
     fn read(&mut self, buf: &mut [u8]) -> io::Result<usize> {
-        if self.input.buffer().is_empty() {
-            self.prompt();
+        if buf.len() == 1
+            && let Some(byte) = self.input.buffer().first().copied()
+        {
+            self.input.consume(1);
+            buf[0] = byte;
+            return Ok(1);
         }
-        self.input.read(buf)
+        self.read_on(buf)
     }
 }
 
