@@ -25,10 +25,17 @@ usage() {
     exit 3
 }
 
+check_turns() { # N
+    if [[ ! $1 =~ ^[0-9]{1,13}$ ]] || [ "$1" -gt 1000000000000 ]; then
+        echo "cc: --turns $1: a number of turns is wanted, up to 1000000000000 (10^12)" >&2
+        exit 3
+    fi
+}
+
 while [ $# -gt 0 ]; do
     case $1 in
         -o) [ $# -gt 1 ] || usage; out=$2; shift ;;
-        --turns) [ $# -gt 1 ] || usage; words+=("$1" "$2"); shift ;;
+        --turns) [ $# -gt 1 ] || usage; check_turns "$2"; words+=("$1" "$2"); shift ;;
         --keep) [ $# -gt 1 ] || usage; keep=$2; shift ;;
         --strict | --region) words+=("$1") ;;
         -O1 | -O2 | -Os) level=$1 ;;
@@ -44,12 +51,12 @@ if [ ${#files[@]} = 0 ] || [ -z "$out" ]; then
 fi
 
 # What makes the compiler write what the rules admit: no filled slots, no position-independent code, no tables of jumps, no tail calls,
-# no second name for a function that is like another one;
+# no second name for a function that is like another one, and the compiler's own limits.h, without the C library's;
 # %g5 to %g7 are left to the tests, %o7 to the calls. The further ones keep an index in a register that counts from an object, so that
 # fewer tests are needed.
 plain=(-S -ffreestanding -g1 -m32 -mcpu=v8 -mno-app-regs -ffixed-o7 -fno-delayed-branch -fno-pic -fno-pie -fno-jump-tables
     -fno-optimize-sibling-calls -fno-asynchronous-unwind-tables -fno-stack-protector -fno-common -fno-ipa-icf
-    -Wreturn-type)
+    -D_LIBC_LIMITS_H_ -Wreturn-type)
 shaped=(-fno-tree-loop-distribute-patterns -fno-ivopts -fno-schedule-insns -fno-schedule-insns2 -fno-tree-vectorize
     -fno-tree-loop-ivcanon -fno-split-loops -fno-thread-jumps -fno-crossjumping -fno-tree-tail-merge
     --param logical-op-non-short-circuit=0)
@@ -57,6 +64,15 @@ shaped=(-fno-tree-loop-distribute-patterns -fno-ivopts -fno-schedule-insns -fno-
 joined=(-finline-functions --param max-inline-insns-auto=100000 --param max-inline-insns-single=100000
     --param large-function-growth=10000 --param inline-unit-growth=10000 --param early-inlining-insns=10000
     --param large-stack-frame-growth=10000)
+
+# Tells of the C library's headers in a file that the compiler can't read: there is no such library here.
+tell_of_library() { # FILE
+    local library='assert|complex|ctype|errno|fenv|inttypes|locale|math|setjmp|signal|stdio|stdlib|string|strings|time|unistd|wchar'
+    grep -nE "^[[:space:]]*#[[:space:]]*include[[:space:]]*<($library)\.h>" "$1" 2> /dev/null | while IFS=: read -r line text; do
+        text=${text#*<}
+        echo "cc: $1:$line: <${text%%>*}> is the C library's, and there is none here: plug.h has what there is" >&2
+    done
+}
 
 compiled() { # FILE OUT FLAG..: the compiler's assembly
     "$cc" "$level" "${target[@]}" -I "$top/runtime" -I "$(dirname "$1")" "${flags[@]}" "${@:3}" -o "$2" "$1"
@@ -89,7 +105,7 @@ trap 'rm -rf "$work"' EXIT
 sources=()
 for file in "${files[@]}"; do
     made=$work/${#sources[@]}-$(basename "${file%.c}").s
-    compiled "$file" "$made" "${whole[@]}" || exit 2
+    compiled "$file" "$made" "${whole[@]}" || { tell_of_library "$file"; exit 2; }
     sources+=("$made")
 done
 compiled "$top/runtime/plug.c" "$work/plug.s" || exit 125
