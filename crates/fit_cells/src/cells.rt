@@ -28,37 +28,35 @@ pub fn hull(a: Range, b: Range) -> Range
     }
 }
 
-/// The threshold of a location at or below a number; the least word where none is known.
-fn lower_end(thresholds: Option<&Thresholds>, location: u16, number: i32) -> i32 {
-    match thresholds {
-        Some(thresholds) => thresholds.lower(location, number),
-        None => i32::MIN,
-    }
+/// How far the range of a location may grow at once.
+#[derive(Clone, Copy)]
+pub enum Growth<'t> {
+    /// As far as it has to.
+    Least,
+    /// An end that moves goes to a threshold.
+    ToThresholds(&'t Thresholds),
+    /// An end that moves goes to that of all words.
+    ToAll,
 }
 
-/// The threshold of a location at or above a number; the greatest word where none is known.
-fn upper_end(thresholds: Option<&Thresholds>, location: u16, number: i32) -> i32 {
-    match thresholds {
-        Some(thresholds) => thresholds.upper(location, number),
-        None => i32::MAX,
+/// A range of a location that holds the words of both.
+fn grown(growth: Growth, location: u16, old: Range, new: Range) -> Range {
+    let mut both = hull(old, new);
+    if both.lo < old.lo {
+        both.lo = match growth {
+            Growth::Least => both.lo,
+            Growth::ToThresholds(thresholds) => thresholds.lower(location, both.lo),
+            Growth::ToAll => i32::MIN,
+        };
     }
-}
-
-/// A range of a location that holds the words of both, whose ends are thresholds where they aren't those of the first.
-fn widened(thresholds: Option<&Thresholds>, location: u16, old: Range, new: Range) -> Range {
-    Range {
-        lo: if new.lo < old.lo {
-            lower_end(thresholds, location, new.lo)
-        } else {
-            old.lo
-        },
-        hi: if new.hi > old.hi {
-            upper_end(thresholds, location, new.hi)
-        } else {
-            old.hi
-        },
-        alignment: old.alignment.min(new.alignment),
+    if both.hi > old.hi {
+        both.hi = match growth {
+            Growth::Least => both.hi,
+            Growth::ToThresholds(thresholds) => thresholds.upper(location, both.hi),
+            Growth::ToAll => i32::MAX,
+        };
     }
+    both
 }
 
 /// The first place from one on, among cells that stand by location, where a location isn't below this one.
@@ -73,48 +71,27 @@ fn place_from(cells: &[Cell], start: usize, location: u16) -> usize {
     cells.len()
 }
 
-/// The cells of both lists, which stand by location, each with what its two ranges give.
-fn combined<F: Fn(u16, Range, Range) -> Range>(
+/// What two ways have in common, where the ranges of the first one grow so: the cells of both lists, which stand by
+/// location.
+pub fn joined(
     alloc: Global,
-    a: &[Cell],
-    b: &[Cell],
-    with: &F,
-) -> Result<Vec<Cell>, AllocError>
-    requires { F.IsAlwaysCallable with.now }
-{
-    let mut both = Vec::with_capacity(alloc, a.len())?;
+    growth: Growth,
+    old: &[Cell],
+    new: &[Cell],
+) -> Result<Vec<Cell>, AllocError> {
+    let mut both = Vec::with_capacity(alloc, old.len())?;
     let mut place = 0;
-    for cell in a {
+    for cell in old {
         let location = cell.location;
-        place = place_from(b, place, location);
-        if let Some(other) = b.get(place)
+        place = place_from(new, place, location);
+        if let Some(other) = new.get(place)
             && other.location == location
         {
-            let range = with(location, cell.range, other.range);
+            let range = grown(growth, location, cell.range, other.range);
             both.push(Cell { location, range })?;
         }
     }
     Ok(both)
-}
-
-/// What two ways have in common.
-pub fn joined(alloc: Global, a: &[Cell], b: &[Cell]) -> Result<Vec<Cell>, AllocError> {
-    combined(alloc, a, b, &|_location, x, y| hull(x, y))
-}
-
-/// The same, where ends that move go to thresholds, or without them to the ends of all words.
-pub fn widened_cells(
-    alloc: Global,
-    thresholds: Option<&Thresholds>,
-    old: &[Cell],
-    new: &[Cell],
-) -> Result<Vec<Cell>, AllocError> {
-    combined(
-        alloc,
-        old,
-        new,
-        &|location, x, y| widened(thresholds, location, x, y),
-    )
 }
 
 /// Whether two lists are the same.

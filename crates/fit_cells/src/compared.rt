@@ -1,6 +1,7 @@
 //! The numbers that a function compares the words of its locations with: where a range that grows in a loop is to stop,
 //! one of these mostly ends it.
-use fit_code::{Block, Function, Step};
+use crate::thresholds::sort;
+use fit_code::{Function, Step};
 use fit_graph::effects_of;
 use sbx_domain::{LOCATIONS, frame_word_of};
 use std::alloc::{AllocError, Global};
@@ -57,22 +58,18 @@ struct Registers {
     held: [Held; 32],
 }
 
-/// The registers where a block begins.
-fn begun() -> Registers {
-    let mut held = [Held::Other; 32];
-    let mut location: u16 = 0;
-    for place in held.iter_mut() {
-        *place = if location == 0 {
-            Held::Number(0)
-        } else {
-            Held::Begun { location, more: 0 }
-        };
-        location = location.saturating_add(1);
-    }
-    Registers { held }
-}
-
 impl Registers {
+    /// The registers where a block begins.
+    fn begun() -> Registers {
+        let mut held = [Held::Number(0); 32];
+        for location in 1..32u16 {
+            if let Some(place) = held.get_mut(usize::from(location)) {
+                *place = Held::Begun { location, more: 0 };
+            }
+        }
+        Registers { held }
+    }
+
     fn of(&self, register: Reg) -> Held {
         self.held
             .get(usize::from(register.number()))
@@ -125,8 +122,8 @@ impl Compared {
     /// Adds a number and those beside it to a location's.
     fn add(&mut self, location: u16, number: i64) -> Result<(), AllocError> {
         if let Some(numbers) = self.numbers.get_mut(usize::from(location)) {
-            for beside in &[number.saturating_sub(1), number, number.saturating_add(1)] {
-                if let Ok(number) = i32::try_from(*beside) {
+            for beside in -1..=1i64 {
+                if let Ok(number) = i32::try_from(number.saturating_add(beside)) {
                     numbers.push(number)?;
                 }
             }
@@ -139,7 +136,7 @@ impl Compared {
         match (first, second) {
             (Held::Begun { location, more }, Held::Number(number))
             | (Held::Number(number), Held::Begun { location, more }) => {
-                self.add(location, number.saturating_sub(more))
+                self.add(location, number.saturating_sub(more))?;
             }
             (
                 Held::Begun {
@@ -150,12 +147,10 @@ impl Compared {
                     location: second,
                     ..
                 },
-            ) => {
-                self.pairs.push(Pair { first, second })?;
-                Ok(())
-            }
-            _ => Ok(()),
+            ) => self.pairs.push(Pair { first, second })?,
+            _ => {}
         }
+        Ok(())
     }
 
     /// A location gets the numbers of another one, unless they are many.
@@ -172,8 +167,7 @@ impl Compared {
     /// The least numbers first, and each once.
     fn sort(&mut self) {
         for numbers in self.numbers.iter_mut() {
-            numbers.as_mut_slice().sort_unstable();
-            numbers.dedup();
+            sort(numbers);
         }
     }
 
@@ -244,28 +238,24 @@ impl Compared {
         }
     }
 
-    fn block(&mut self, frame: u32, block: &Block) -> Result<(), AllocError> {
-        let mut registers = begun();
-        for step in &block.steps {
-            self.step(&mut registers, frame, step)?;
-        }
-        Ok(())
-    }
-
-    /// Makes room for all locations.
-    fn extend(&mut self, alloc: Global) -> Result<(), AllocError> {
-        for _ in 0..LOCATIONS {
-            self.numbers.push(Vec::new(alloc))?;
-        }
-        Ok(())
-    }
-
     /// Adds what the blocks of a function compare.
     fn add_blocks(&mut self, function: &Function) -> Result<(), AllocError> {
         for block in &function.blocks {
-            self.block(function.frame, block)?;
+            let mut registers = Registers::begun();
+            for step in &block.steps {
+                self.step(&mut registers, function.frame, step)?;
+            }
         }
         Ok(())
+    }
+
+    /// Makes room for all locations, and adds what a function compares.
+    fn fill(&mut self, alloc: Global, function: &Function) -> Result<(), AllocError> {
+        for _ in 0..LOCATIONS {
+            self.numbers.push(Vec::new(alloc))?;
+        }
+        self.add_blocks(function)?;
+        self.join_pairs(alloc)
     }
 
     /// What a function compares.
@@ -274,9 +264,7 @@ impl Compared {
             numbers: Vec::with_capacity(alloc, LOCATIONS)?,
             pairs: Vec::new(alloc),
         };
-        compared.extend(alloc)?;
-        compared.add_blocks(function)?;
-        compared.join_pairs(alloc)?;
+        compared.fill(alloc, function)?;
         Ok(compared)
     }
 

@@ -38,24 +38,20 @@ const NONE: Range = Range {
     alignment: 3,
 };
 
-/// The cell of a param, by its place: %o0 and on.
-fn param_cell(params: &[Range], place: u16) -> Cell {
-    Cell {
-        location: 8u16.saturating_add(place),
-        range: params.get(usize::from(place)).copied().unwrap_or(NONE),
-    }
-}
-
-/// The state before the first step of a function, behind its SAVE.
+/// The state before the first step of a function, behind its SAVE: %o0 and on hold the params.
 pub fn enter(function: &Function, params: &[Range], state: &mut State) {
-    let cells = [
-        param_cell(params, 0),
-        param_cell(params, 1),
-        param_cell(params, 2),
-        param_cell(params, 3),
-        param_cell(params, 4),
-        param_cell(params, 5),
-    ];
+    let mut location: u16 = 8;
+    let mut cells = [Cell {
+        location,
+        range: NONE,
+    }; 6];
+    for (place, cell) in cells.iter_mut().enumerate() {
+        cell.location = location;
+        if let Some(range) = params.get(place) {
+            cell.range = *range;
+        }
+        location = location.saturating_add(1);
+    }
     state.start(cells.get(..params.len()).unwrap_or(&cells));
     if function.framed {
         state.save();
@@ -72,10 +68,11 @@ pub fn run_to_call(frame: u32, step: &Step, state: &mut State) {
 
 /// Where a callee has returned, and the program's functions have these results.
 pub fn return_from(results: &[Vec<Range>], callee: usize, state: &mut State) {
-    match results.get(callee) {
-        Some(results) => state.return_with(results.as_slice()),
-        None => state.return_with(&[]),
-    }
+    let results = match results.get(callee) {
+        Some(results) => results.as_slice(),
+        None => &[],
+    };
+    state.return_with(results);
 }
 
 /// A step in a frame of so many bytes, where the program's functions have these results.
@@ -83,13 +80,6 @@ pub fn run_step(frame: u32, results: &[Vec<Range>], step: &Step, state: &mut Sta
     run_to_call(frame, step, state);
     if let Some(callee) = step.callee {
         return_from(results, callee, state);
-    }
-}
-
-/// The steps of a block.
-pub fn run_steps(frame: u32, results: &[Vec<Range>], block: &Block, state: &mut State) {
-    for step in &block.steps {
-        run_step(frame, results, step, state);
     }
 }
 

@@ -23,16 +23,27 @@ const COMMON: [i32; 15] = [
     i32::MAX,
 ];
 
-/// The greatest number of a list that isn't above a number.
-fn last_to(list: &[i32], number: i32) -> Option<i32> {
-    let above = list.partition_point(|threshold| *threshold <= number);
-    list.get(above.wrapping_sub(1)).copied()
+/// How many numbers of a list, in which the least stand first, are below another one.
+fn count_below(list: &[i32], number: i64) -> usize {
+    list.partition_point(|threshold| i64::from(*threshold) < number)
 }
 
-/// The least number of a list that isn't below a number.
-fn first_from(list: &[i32], number: i32) -> Option<i32> {
-    let below = list.partition_point(|threshold| *threshold < number);
-    list.get(below).copied()
+/// Numbers with those before and behind them.
+fn around(a: i32, b: i32) -> [i32; 6] {
+    [
+        a.saturating_sub(1),
+        a,
+        a.saturating_add(1),
+        b.saturating_sub(1),
+        b,
+        b.saturating_add(1),
+    ]
+}
+
+/// The least first, and each once.
+pub(crate) fn sort(list: &mut Vec<i32>) {
+    list.as_mut_slice().sort_unstable();
+    list.dedup();
 }
 
 /// Where the ranges of a function's locations may stop.
@@ -48,13 +59,20 @@ pub struct Thresholds {
 }
 
 impl Thresholds {
-    /// Adds the ends of the program's objects, and their lengths.
+    /// Adds the ends of the program's objects, the last places in them for 2, 4 and 8 bytes, and their lengths.
     fn add_objects(&mut self, program: &Program) -> Result<(), AllocError> {
         for object in &program.objects {
             let length = i32::try_from(object.bytes.len()).unwrap_or(i32::MAX);
-            self.numbers.push(length)?;
-            self.numbers.push(length.saturating_sub(1))?;
-            push_ends(&mut self.addresses, object.start.cast_signed(), length)?;
+            let start = object.start.cast_signed();
+            let end = start.saturating_add(length);
+            self.numbers
+                .extend_from_slice(&[length, length.saturating_sub(1)])?;
+            self.addresses.extend_from_slice(&around(start, end))?;
+            self.addresses.extend_from_slice(&[
+                end.saturating_sub(2),
+                end.saturating_sub(4),
+                end.saturating_sub(8),
+            ])?;
         }
         Ok(())
     }
@@ -64,8 +82,7 @@ impl Thresholds {
         for region in &program.regions {
             let start = region.start.cast_signed();
             let end = region.start.saturating_add(region.length).cast_signed();
-            push_around(&mut self.addresses, start)?;
-            push_around(&mut self.addresses, end)?;
+            self.addresses.extend_from_slice(&around(start, end))?;
             self.start = self.start.min(start);
             self.end = self.end.max(end);
         }
@@ -75,10 +92,9 @@ impl Thresholds {
     /// Adds the ends of params.
     fn add_params(&mut self, params: &[Range]) -> Result<(), AllocError> {
         for range in params {
-            for number in &[range.lo, range.hi] {
-                push_around(&mut self.numbers, *number)?;
-                push_around(&mut self.addresses, *number)?;
-            }
+            let ends = around(range.lo, range.hi);
+            self.numbers.extend_from_slice(&ends)?;
+            self.addresses.extend_from_slice(&ends)?;
         }
         Ok(())
     }
@@ -105,44 +121,24 @@ impl Thresholds {
 
     /// The greatest threshold of a location that isn't above a number.
     pub(crate) fn lower(&self, location: u16, number: i32) -> i32 {
-        match last_to(self.compared.numbers_of(location), number) {
-            Some(found) => found,
-            None => last_to(self.near(number), number).unwrap_or(i32::MIN),
+        for list in &[self.compared.numbers_of(location), self.near(number)] {
+            let above = count_below(list, i64::from(number).saturating_add(1));
+            if let Some(found) = list.get(above.wrapping_sub(1)) {
+                return *found;
+            }
         }
+        i32::MIN
     }
 
     /// The least threshold of a location that isn't below a number.
     pub(crate) fn upper(&self, location: u16, number: i32) -> i32 {
-        match first_from(self.compared.numbers_of(location), number) {
-            Some(found) => found,
-            None => first_from(self.near(number), number).unwrap_or(i32::MAX),
+        for list in &[self.compared.numbers_of(location), self.near(number)] {
+            if let Some(found) = list.get(count_below(list, i64::from(number))) {
+                return *found;
+            }
         }
+        i32::MAX
     }
-}
-
-/// A number, the one before it and the one after it.
-fn push_around(thresholds: &mut Vec<i32>, number: i32) -> Result<(), AllocError> {
-    thresholds.push(number.saturating_sub(1))?;
-    thresholds.push(number)?;
-    thresholds.push(number.saturating_add(1))?;
-    Ok(())
-}
-
-/// The ends of an object, and the last places in it for 2, 4 and 8 bytes.
-fn push_ends(thresholds: &mut Vec<i32>, start: i32, length: i32) -> Result<(), AllocError> {
-    let end = start.saturating_add(length);
-    push_around(thresholds, start)?;
-    push_around(thresholds, end)?;
-    for size in &[2, 4, 8] {
-        thresholds.push(end.saturating_sub(*size))?;
-    }
-    Ok(())
-}
-
-/// The least first, and each once.
-fn sort(list: &mut Vec<i32>) {
-    list.as_mut_slice().sort_unstable();
-    list.dedup();
 }
 
 /// The thresholds of a function that is called with these params.

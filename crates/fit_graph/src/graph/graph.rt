@@ -26,19 +26,36 @@ pub fn successors_in(function: &Function, block: usize) -> [Option<usize>; 2] {
     }
 }
 
-/// For each block those that control comes from, each as often as it does.
-pub fn predecessors_of(alloc: Global, function: &Function) -> Result<Vec<Vec<usize>>, AllocError> {
+/// The number of a block's way among all ways, where 0 is that of a jump or of a branch that is taken, and 1 the other
+/// one. The block is half of it.
+pub fn way_of(block: usize, way: usize) -> usize {
+    block.saturating_mul(2).saturating_add(way)
+}
+
+/// For each block the ways that lead to it, by `way_of`.
+pub fn ways_to(alloc: Global, function: &Function) -> Result<Vec<Vec<usize>>, AllocError> {
     let mut found: Vec<Vec<usize>> = Vec::new(alloc);
     for _ in 0..function.blocks.len() {
         found.push(Vec::new(alloc))?;
     }
     for from in 0..function.blocks.len() {
-        for to in &successors_in(function, from) {
+        for (way, to) in successors_in(function, from).iter().enumerate() {
             if let Some(to) = to
-                && let Some(before) = found.get_mut(*to)
+                && let Some(ways) = found.get_mut(*to)
             {
-                before.push(from)?;
+                ways.push(way_of(from, way))?;
             }
+        }
+    }
+    Ok(found)
+}
+
+/// For each block those that control comes from, each as often as it does.
+pub fn predecessors_of(alloc: Global, function: &Function) -> Result<Vec<Vec<usize>>, AllocError> {
+    let mut found = ways_to(alloc, function)?;
+    for ways in found.iter_mut() {
+        for way in ways.iter_mut() {
+            *way /= 2;
         }
     }
     Ok(found)
@@ -47,9 +64,10 @@ pub fn predecessors_of(alloc: Global, function: &Function) -> Result<Vec<Vec<usi
 /// A walk in depth: blocks that were entered and not left, each with the number of its next way.
 #[derive(Drop)]
 struct Walk {
-    open: Vec<(usize, usize)>,
     entered: Vec<bool>,
-    left: Vec<usize>,
+    open: Vec<(usize, usize)>,
+    /// Those that were left, the first one first.
+    order: Order,
 }
 
 impl Walk {
@@ -64,31 +82,23 @@ impl Walk {
         Ok(())
     }
 
-    /// Goes on by one way, or leaves a block; says whether there was something to do.
-    fn go(&mut self, function: &Function) -> Result<bool, AllocError> {
-        let Some((block, way)) = self.open.pop() else {
-            return Ok(false);
-        };
-        let ways = successors_in(function, block);
-        match ways.get(way) {
-            Some(to) => {
-                self.open.push((block, way.saturating_add(1)))?;
-                if let Some(to) = to {
-                    self.enter(*to)?;
-                }
-            }
-            None => self.left.push(block)?,
-        }
-        Ok(true)
-    }
-
-    /// Goes from the first block on as far as there is something to do.
+    /// Goes from the first block on as far as there is something to do: by one way after the other, and from a block
+    /// that has no more of them back.
     fn go_all(&mut self, function: &Function) -> Result<(), AllocError> {
         self.enter(0)?;
         // A block is entered once, goes its two ways and is left.
         for _ in 0..function.blocks.len().saturating_mul(3) {
-            if !self.go(function)? {
+            let Some((block, way)) = self.open.pop() else {
                 break;
+            };
+            match successors_in(function, block).get(way) {
+                Some(to) => {
+                    self.open.push((block, way.saturating_add(1)))?;
+                    if let Some(to) = to {
+                        self.enter(*to)?;
+                    }
+                }
+                None => self.order.blocks.push(block)?,
             }
         }
         Ok(())
@@ -96,7 +106,7 @@ impl Walk {
 }
 
 /// Says for each of some blocks at which place it stands.
-fn put_places(places: &mut [Option<usize>], blocks: &[usize]) {
+pub fn put_places(places: &mut [Option<usize>], blocks: &[usize]) {
     for (place, block) in blocks.iter().enumerate() {
         if let Some(found) = places.get_mut(*block) {
             *found = Some(place);
@@ -108,14 +118,16 @@ fn put_places(places: &mut [Option<usize>], blocks: &[usize]) {
 pub fn order_of(alloc: Global, function: &Function) -> Result<Order, AllocError> {
     let count = function.blocks.len();
     let mut walk = Walk {
-        open: Vec::new(alloc),
         entered: vec![in alloc; false; count]?,
-        left: Vec::new(alloc),
+        open: Vec::new(alloc),
+        order: Order {
+            places: vec![in alloc; None; count]?,
+            blocks: Vec::new(alloc),
+        },
     };
     walk.go_all(function)?;
-    let mut blocks = walk.left;
-    blocks.reverse();
-    let mut places = vec![in alloc; None; count]?;
-    put_places(places.as_mut_slice(), blocks.as_slice());
-    Ok(Order { blocks, places })
+    let mut order = walk.order;
+    order.blocks.reverse();
+    put_places(order.places.as_mut_slice(), order.blocks.as_slice());
+    Ok(order)
 }

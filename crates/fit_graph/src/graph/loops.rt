@@ -1,6 +1,7 @@
 //! The loops of a function.
 use crate::graph::dominators::{Dominators, dominators_of};
 use crate::graph::graph::{predecessors_of, successors_in};
+use crate::graph::reach::{is_held, reached_from};
 use fit_code::Function;
 use std::alloc::{AllocError, Global};
 
@@ -22,45 +23,7 @@ pub struct Loop {
 impl Loop {
     /// Whether a block is in the loop.
     pub fn has(&self, block: usize) -> bool {
-        self.holds.get(block).copied().unwrap_or(false)
-    }
-
-    /// Takes a block in, to be looked at, if it wasn't in.
-    fn take(&mut self, block: usize, open: &mut Vec<usize>) -> Result<(), AllocError> {
-        if let Some(held) = self.holds.get_mut(block)
-            && !*held
-        {
-            *held = true;
-            self.size = self.size.saturating_add(1);
-            open.push(block)?;
-        }
-        Ok(())
-    }
-
-    /// Takes blocks in, to be looked at.
-    fn take_all(&mut self, blocks: &[usize], open: &mut Vec<usize>) -> Result<(), AllocError> {
-        for block in blocks {
-            self.take(*block, open)?;
-        }
-        Ok(())
-    }
-
-    /// Takes in what comes before the blocks that are to be looked at, up to the head.
-    fn fill(
-        &mut self,
-        predecessors: &[Vec<usize>],
-        open: &mut Vec<usize>,
-    ) -> Result<(), AllocError> {
-        // A block is looked at once.
-        for _ in 0..predecessors.len() {
-            let Some(block) = open.pop() else {
-                break;
-            };
-            if let Some(before) = predecessors.get(block) {
-                self.take_all(before.as_slice(), open)?;
-            }
-        }
-        Ok(())
+        is_held(self.holds.as_slice(), block)
     }
 }
 
@@ -80,6 +43,24 @@ fn latches_of(
     Ok(found)
 }
 
+/// For each block whether it is in the loop of a head: whether one comes from it to the loop's latches without the head.
+fn held_by(
+    alloc: Global,
+    head: usize,
+    latches: &[usize],
+    predecessors: &[Vec<usize>],
+) -> Result<Vec<bool>, AllocError> {
+    let mut within = vec![in alloc; true; predecessors.len()]?;
+    if let Some(is_within) = within.get_mut(head) {
+        *is_within = false;
+    }
+    let mut holds = reached_from(alloc, predecessors, latches, within.as_slice())?;
+    if let Some(held) = holds.get_mut(head) {
+        *held = true;
+    }
+    Ok(holds)
+}
+
 /// The loop of a head; none where no block goes back to it.
 fn loop_at(
     alloc: Global,
@@ -87,69 +68,66 @@ fn loop_at(
     dominators: &Dominators,
     predecessors: &[Vec<usize>],
 ) -> Result<Option<Loop>, AllocError> {
-    let before = match predecessors.get(head) {
-        Some(before) => before.as_slice(),
-        None => &[],
+    let Some(before) = predecessors.get(head) else {
+        return Ok(None);
     };
-    let latches = latches_of(alloc, head, dominators, before)?;
+    let latches = latches_of(alloc, head, dominators, before.as_slice())?;
     if latches.is_empty() {
         return Ok(None);
     }
-    let mut holds = vec![in alloc; false; predecessors.len()]?;
-    if let Some(held) = holds.get_mut(head) {
-        *held = true;
+    let holds = held_by(alloc, head, latches.as_slice(), predecessors)?;
+    let mut size: usize = 0;
+    for held in &holds {
+        if *held {
+            size = size.saturating_add(1);
+        }
     }
-    let mut found = Loop {
+    Ok(Some(Loop {
         head,
-        latches: Vec::new(alloc),
+        latches,
         holds,
-        size: 1,
+        size,
         parent: None,
-    };
-    let mut open = Vec::new(alloc);
-    found.take_all(latches.as_slice(), &mut open)?;
-    found.fill(predecessors, &mut open)?;
-    found.latches = latches;
-    Ok(Some(found))
+    }))
 }
 
 /// The number of the smallest of some loops that has the head of another one among its blocks.
 fn parent_of(loops: &[Loop], number: usize) -> Option<usize> {
     let head = loops.get(number)?.head;
-    let mut found: Option<(usize, usize)> = None;
+    let mut found = None;
+    let mut size = usize::MAX;
     for (place, other) in loops.iter().enumerate() {
-        let is_smaller = match found {
-            Some((_, size)) => other.size < size,
-            None => true,
-        };
-        if place != number && is_smaller && other.has(head) {
-            found = Some((place, other.size));
+        if place != number && other.size < size && other.has(head) {
+            found = Some(place);
+            size = other.size;
         }
     }
-    match found {
-        Some((place, _)) => Some(place),
-        None => None,
-    }
+    found
 }
 
-/// The loops of a function whose heads are on each way to their blocks, one for each head, by their heads' order,
-/// without parents.
-fn plain_loops(alloc: Global, function: &Function) -> Result<Vec<Loop>, AllocError> {
-    let dominators = dominators_of(alloc, function)?;
-    let predecessors = predecessors_of(alloc, function)?;
-    let mut loops = Vec::new(alloc);
+/// Adds the loops whose heads are on each way to their blocks, one for each head, by their heads' order, without
+/// parents.
+fn add_loops(
+    alloc: Global,
+    loops: &mut Vec<Loop>,
+    dominators: &Dominators,
+    predecessors: &[Vec<usize>],
+) -> Result<(), AllocError> {
     for head in dominators.order.blocks.iter() {
-        if let Some(found) = loop_at(alloc, *head, &dominators, predecessors.as_slice())? {
+        if let Some(found) = loop_at(alloc, *head, dominators, predecessors)? {
             loops.push(found)?;
         }
     }
-    Ok(loops)
+    Ok(())
 }
 
 /// The loops of a function whose heads are on each way to their blocks, one for each head, an outer one before an inner
 /// one.
 pub fn loops_of(alloc: Global, function: &Function) -> Result<Vec<Loop>, AllocError> {
-    let mut loops = plain_loops(alloc, function)?;
+    let dominators = dominators_of(alloc, function)?;
+    let predecessors = predecessors_of(alloc, function)?;
+    let mut loops = Vec::new(alloc);
+    add_loops(alloc, &mut loops, &dominators, predecessors.as_slice())?;
     for number in 0..loops.len() {
         let parent = parent_of(loops.as_slice(), number);
         if let Some(found) = loops.get_mut(number) {

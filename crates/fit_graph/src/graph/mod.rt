@@ -3,9 +3,10 @@
 mod dominators;
 mod graph;
 mod loops;
+mod reach;
 mod tangles;
 
-pub use dominators::{Dominators, dominators_of};
-pub use graph::{Order, order_of, predecessors_of, successors_in};
+pub use graph::{Order, order_of, predecessors_of, put_places, successors_in, way_of, ways_to};
 pub use loops::{Loop, enters_beside_head, loops_of};
-pub use tangles::{Tangle, reached_from, successors_of, tangle_of};
+pub use reach::reached_from;
+pub use tangles::{Tangle, successors_of, tangle_of};

@@ -1,6 +1,6 @@
 //! What instructions read and write.
 use sbx_domain::{frame_word_of, service_of};
-use v8_formats::{Instr, Operand, Reg, Three};
+use v8_formats::{Instr, Operand, Reg};
 use v8_meaning::{Exchange, Loading, MemoryOperand, Operation, Transfer, odd_of, operation_of};
 use v8_word::Size;
 
@@ -27,8 +27,8 @@ const NOTHING: Effects = Effects {
 /// The bit of %o0.
 const OUT_0: u32 = 1 << 8;
 
-/// A register's bit.
-fn bit(register: Reg) -> u32 {
+/// A register's bit; %g0 has none.
+pub(crate) fn bit(register: Reg) -> u32 {
     if register == Reg::G0 {
         0
     } else {
@@ -36,19 +36,10 @@ fn bit(register: Reg) -> u32 {
     }
 }
 
-fn bit_of(operand: Operand) -> u32 {
+pub(crate) fn bit_of(operand: Operand) -> u32 {
     match operand {
         Operand::Register(register) => bit(register),
         Operand::Immediate(_) => 0,
-    }
-}
-
-/// From a register and an operand to a register.
-fn of_three(fields: &Three) -> Effects {
-    Effects {
-        reads: bit(fields.rs1) | bit_of(fields.operand2),
-        writes: bit(fields.rd),
-        ..NOTHING
     }
 }
 
@@ -70,54 +61,43 @@ fn stored(transfer: Transfer, rd: Reg) -> u32 {
     }
 }
 
-/// A load or a store of a word of the frame.
-fn of_frame_word(transfer: Transfer, rd: Reg, location: u16) -> Effects {
+/// A load, a store or an exchange, of a word of the frame or elsewhere.
+fn of_transfer(frame: u32, transfer: Transfer, operand: &MemoryOperand) -> Effects {
+    let reads = stored(transfer, operand.rd);
+    let writes = loaded(transfer, operand.rd);
+    let word = frame_word_of(frame, operand);
+    if word.is_none() {
+        return Effects {
+            reads: reads | bit(operand.rs1) | bit_of(operand.operand2),
+            writes,
+            ..NOTHING
+        };
+    }
     Effects {
-        reads: stored(transfer, rd),
-        writes: loaded(transfer, rd),
+        reads,
+        writes,
         word_read: match transfer {
             Transfer::Store(_) => None,
-            _ => Some(location),
+            _ => word,
         },
         word_written: match transfer {
             Transfer::Load(_) => None,
-            _ => Some(location),
+            _ => word,
         },
-    }
-}
-
-fn of_transfer(frame: u32, transfer: Transfer, operand: &MemoryOperand) -> Effects {
-    match frame_word_of(frame, operand) {
-        Some(location) => of_frame_word(transfer, operand.rd, location),
-        None => Effects {
-            reads: bit(operand.rs1) | bit_of(operand.operand2) | stored(transfer, operand.rd),
-            writes: loaded(transfer, operand.rd),
-            ..NOTHING
-        },
-    }
-}
-
-/// `ta n`: exit and put read %o0, get writes it.
-fn of_service(service: Option<u32>) -> Effects {
-    match service {
-        Some(1) => Effects {
-            writes: OUT_0,
-            ..NOTHING
-        },
-        Some(_) => Effects {
-            reads: OUT_0,
-            ..NOTHING
-        },
-        None => NOTHING,
     }
 }
 
 /// What an instruction other than CALL, SAVE and RESTORE reads and writes in a frame of so many bytes, 0 in a leaf.
+/// `ta n` that exits or puts reads %o0, one that gets writes it.
 pub fn effects_of(frame: u32, instr: &Instr) -> Effects {
     match operation_of(instr) {
         Operation::Compute(_, fields)
         | Operation::Divide(_, fields)
-        | Operation::TaggedTrap(_, fields) => of_three(&fields),
+        | Operation::TaggedTrap(_, fields) => Effects {
+            reads: bit(fields.rs1) | bit_of(fields.operand2),
+            writes: bit(fields.rd),
+            ..NOTHING
+        },
         Operation::SetHigh(fields) => Effects {
             writes: bit(fields.rd),
             ..NOTHING
@@ -131,7 +111,17 @@ pub fn effects_of(frame: u32, instr: &Instr) -> Effects {
             ..NOTHING
         },
         Operation::Transfer(transfer, operand) => of_transfer(frame, transfer, &operand),
-        Operation::TrapOnCondition(trap) => of_service(service_of(&trap)),
+        Operation::TrapOnCondition(trap) => match service_of(&trap) {
+            Some(1) => Effects {
+                writes: OUT_0,
+                ..NOTHING
+            },
+            Some(_) => Effects {
+                reads: OUT_0,
+                ..NOTHING
+            },
+            None => NOTHING,
+        },
         _ => NOTHING,
     }
 }

@@ -1,10 +1,10 @@
 //! Which locations are live: read later before they are written, whatever the words on the way are.
 use crate::graph::{Order, order_of};
-use crate::live::effects::{Effects, effects_of};
+use crate::live::effects::{Effects, bit, bit_of, effects_of};
 use crate::live::locations::Locations;
 use fit_code::{Block, End, Fault, Function, NO_LINE, Program, Reason, Step};
 use std::alloc::{AllocError, Global};
-use v8_formats::{Operand, Three};
+use v8_formats::Three;
 
 /// How many of %o0 to %o5 a function takes for granted at its entry, and how many its callers do behind a call.
 #[derive(Clone, Copy, PartialEq, Eq)]
@@ -20,6 +20,8 @@ pub struct Liveness {
     pub counts: Vec<Counts>,
     /// Of each function and each of its blocks what is live where it begins.
     pub live: Vec<Vec<Locations>>,
+    /// Of each function.
+    orders: Vec<Order>,
 }
 
 /// As many rounds as liveness may take over one function, and over the program.
@@ -38,15 +40,7 @@ fn last_register(from: u32, registers: u32) -> u8 {
     } else {
         registers >> 8 & 0x3f
     };
-    match six {
-        0 => 0,
-        1 => 1,
-        2..=3 => 2,
-        4..=7 => 3,
-        8..=15 => 4,
-        16..=31 => 5,
-        _ => 6,
-    }
+    32u32.saturating_sub(six.leading_zeros()).min(6) as u8
 }
 
 /// Before what reads and writes so.
@@ -61,19 +55,16 @@ fn pass(live: &mut Locations, effects: &Effects) {
     }
 }
 
-/// Before a call, whose callee is asked for as many results as are live behind it.
-fn pass_call(live: &mut Locations, counts: &mut [Counts], callee: usize) {
-    if let Some(counts) = counts.get_mut(callee) {
-        counts.results = counts.results.max(last_register(8, live.registers()));
-        live.remove_registers(0xfffe);
-        live.insert_registers(first_registers(8, counts.params));
-    }
-}
-
+/// Before a step. The callee of a call is asked for as many results as are live behind it.
 fn pass_step(live: &mut Locations, counts: &mut [Counts], frame: u32, step: &Step) {
-    match step.callee {
-        Some(callee) => pass_call(live, counts, callee),
-        None => pass(live, &effects_of(frame, &step.instr)),
+    if let Some(callee) = step.callee {
+        if let Some(counts) = counts.get_mut(callee) {
+            counts.results = counts.results.max(last_register(8, live.registers()));
+            live.remove_registers(0xfffe);
+            live.insert_registers(first_registers(8, counts.params));
+        }
+    } else {
+        pass(live, &effects_of(frame, &step.instr));
     }
     if let Some(slot) = &step.slot {
         pass(live, &effects_of(frame, slot));
@@ -94,12 +85,7 @@ fn returned(framed: bool, results: u8, fields: &Three) -> u32 {
     } else {
         0
     };
-    let second = match fields.operand2 {
-        Operand::Register(register) => 1u32 << register.number(),
-        Operand::Immediate(_) => 0,
-    };
-    let first = 1u32 << fields.rs1.number();
-    (first_registers(24, results) & !given) | ((first | second) & !1)
+    (first_registers(24, results) & !given) | bit(fields.rs1) | bit_of(fields.operand2)
 }
 
 /// The registers that the end of a block reads, each of which has a bit, in a function of so many results.
@@ -173,46 +159,41 @@ fn unsettled() -> Fault {
     )
 }
 
+/// No params and no results.
+const NONE: Counts = Counts {
+    params: 0,
+    results: 0,
+};
+
 impl Liveness {
-    /// Nothing is live yet in so many functions.
-    fn none(alloc: Global, functions: usize) -> Result<Liveness, AllocError> {
-        let none = Counts {
-            params: 0,
-            results: 0,
-        };
-        Ok(Liveness {
-            counts: vec![in alloc; none; functions]?,
-            live: Vec::new(alloc),
-        })
+    /// Nothing is live yet in a program's functions.
+    fn begin(&mut self, alloc: Global, program: &Program) -> Result<(), AllocError> {
+        for function in &program.functions {
+            self.orders.push(order_of(alloc, function)?)?;
+            let live = vec![in alloc; Locations::none(); function.blocks.len()]?;
+            self.live.push(live)?;
+        }
+        Ok(())
     }
 
     /// Counts what a function takes for granted at its entry. The first function of a program is called by nobody.
     fn count_params(&mut self, number: usize, function: &Function) {
         let from = if function.framed { 24 } else { 8 };
-        let first = match self.live.get(number) {
-            Some(live) => live.first().copied(),
-            None => None,
+        let registers = match self.of_function(number).first() {
+            Some(first) => first.registers(),
+            None => 0,
         };
-        if let Some(first) = first
+        if number > 0
             && let Some(counts) = self.counts.get_mut(number)
-            && number > 0
         {
-            counts.params = counts.params.max(last_register(from, first.registers()));
+            counts.params = counts.params.max(last_register(from, registers));
         }
     }
 
     /// Goes over a function until no more is live in it.
-    fn settle_function(
-        &mut self,
-        number: usize,
-        function: &Function,
-        order: &Order,
-    ) -> Result<(), Fault> {
-        let results = match self.counts.get(number) {
-            Some(counts) => counts.results,
-            None => 0,
-        };
-        let Some(live) = self.live.get_mut(number) else {
+    fn settle_function(&mut self, number: usize, function: &Function) -> Result<(), Fault> {
+        let results = self.counts_of(number).results;
+        let (Some(order), Some(live)) = (self.orders.get(number), self.live.get_mut(number)) else {
             return Ok(());
         };
         for _ in 0..ROUNDS {
@@ -224,48 +205,43 @@ impl Liveness {
         Err(unsettled())
     }
 
-    /// Goes over all functions once, those that are called first. Says whether that asked for more params or results
-    /// somewhere.
-    fn pass_program(
-        &mut self,
-        alloc: Global,
-        program: &Program,
-        orders: &[Order],
-    ) -> Result<bool, Fault> {
-        let before = self.counts.clone()?;
+    /// Goes over all functions once, those that are called first.
+    fn pass_program(&mut self, program: &Program) -> Result<(), Fault> {
         for number in (0..program.functions.len()).rev() {
-            if let Some(function) = program.functions.get(number)
-                && let Some(order) = orders.get(number)
-            {
-                self.settle_function(number, function, order)?;
+            if let Some(function) = program.functions.get(number) {
+                self.settle_function(number, function)?;
             }
         }
-        Ok(before != self.counts)
+        Ok(())
     }
 
-    /// What is live in a program.
-    pub fn of(alloc: Global, program: &Program) -> Result<Liveness, Fault> {
-        let mut found = Liveness::none(alloc, program.functions.len())?;
-        let mut orders = Vec::new(alloc);
-        for function in &program.functions {
-            orders.push(order_of(alloc, function)?)?;
-            let live = vec![in alloc; Locations::none(); function.blocks.len()]?;
-            found.live.push(live)?;
-        }
+    /// Goes over a program until that asks for no more params and results.
+    fn settle(&mut self, program: &Program) -> Result<(), Fault> {
         for _ in 0..ROUNDS {
-            if !found.pass_program(alloc, program, orders.as_slice())? {
-                return Ok(found);
+            let before = self.counts.clone()?;
+            self.pass_program(program)?;
+            if before == self.counts {
+                return Ok(());
             }
         }
         Err(unsettled())
     }
 
+    /// What is live in a program.
+    pub fn of(alloc: Global, program: &Program) -> Result<Liveness, Fault> {
+        let mut found = Liveness {
+            counts: vec![in alloc; NONE; program.functions.len()]?,
+            live: Vec::new(alloc),
+            orders: Vec::new(alloc),
+        };
+        found.begin(alloc, program)?;
+        found.settle(program)?;
+        Ok(found)
+    }
+
     /// How many params and results a function has; none where there is no such function.
     pub fn counts_of(&self, function: usize) -> Counts {
-        self.counts.get(function).copied().unwrap_or(Counts {
-            params: 0,
-            results: 0,
-        })
+        self.counts.get(function).copied().unwrap_or(NONE)
     }
 
     /// What is live where each block of a function begins.

@@ -53,11 +53,18 @@ impl Locations {
     /// Puts another set's locations in. Says whether the set grew.
     pub fn add(&mut self, other: &Locations) -> bool {
         let mut grew = false;
-        for (word, more) in self.words.iter_mut().zip(&other.words) {
-            grew = grew || *more & !*word != 0;
-            *word |= *more;
+        for (place, word) in self.words.iter_mut().enumerate() {
+            if let Some(more) = other.words.get(place) {
+                grew = grew || *more & !*word != 0;
+                *word |= *more;
+            }
         }
         grew
+    }
+
+    /// Whether another set has the same locations.
+    pub fn is_same(&self, other: &Locations) -> bool {
+        self.words == other.words
     }
 
     /// The locations of the set, the least first.

@@ -1,13 +1,13 @@
 //! The ranges of one function: what is known where its blocks begin, found by going along all ways until nothing new
 //! comes.
-use crate::flow::known::{Known, replace};
+use crate::flow::known::{Known, is_at, replace};
 use crate::flow::passing::{are_same_to, touched_by};
 use fit_cells::{
-    Shape, Thresholds, enter, go_along, hull, joined, range_in, return_from, run_steps,
-    run_to_call, thresholds_of, way_of, widened_cells,
+    Growth, Shape, Thresholds, enter, go_along, hull, joined, range_in, return_from, run_step,
+    run_to_call, thresholds_of,
 };
 use fit_code::{Block, End, Fault, Function, Program, Reason};
-use fit_graph::{Locations, successors_in};
+use fit_graph::{Locations, successors_in, way_of};
 use sbx_domain::State;
 use sbx_range::{Cell, Range, all};
 use std::alloc::{AllocError, Global};
@@ -34,17 +34,17 @@ pub struct Setting<'a> {
 }
 
 impl Setting<'_> {
-    /// Cells of a block, of which those that are said have the ranges that are said.
-    fn with_said(&self, block: usize, cells: Option<Vec<Cell>>) -> Option<Vec<Cell>> {
-        let mut cells = cells?;
-        if let Some(said) = self.said.get(block) {
+    /// Gives those of a block's cells that are said the ranges that are said.
+    fn put_said(&self, block: usize, cells: &mut Option<Vec<Cell>>) {
+        if let Some(cells) = cells
+            && let Some(said) = self.said.get(block)
+        {
             for cell in cells.iter_mut() {
                 if let Some(range) = range_in(said.as_slice(), cell.location) {
                     cell.range = range;
                 }
             }
         }
-        Some(cells)
     }
 }
 
@@ -56,16 +56,27 @@ pub struct Call {
     pub given: [Option<Range>; 6],
 }
 
+/// How often a block's cells grew since they were last forgotten, and how often they were narrowed.
+#[derive(Clone, Copy)]
+struct Visits {
+    changes: u32,
+    narrowings: u32,
+}
+
+const NO_VISITS: Visits = Visits {
+    changes: 0,
+    narrowings: 0,
+};
+
 /// What is known of one function.
 #[derive(Drop)]
 pub struct Flow {
     shape: Shape,
-    known: Known,
+    pub known: Known,
     /// What each block reads or writes.
     touched: Vec<Locations>,
-    /// How often each block's cells grew since they were last forgotten, and how often they were narrowed.
-    changes: Vec<u32>,
-    narrowings: Vec<u32>,
+    /// Of each block.
+    visits: Vec<Visits>,
     /// By the places of the order, the blocks that are to be visited.
     pending: Vec<bool>,
     /// The places of the stretch that is looked at, from where on one may be to be visited to behind the last one.
@@ -89,21 +100,16 @@ fn outs(state: &State) -> [Option<Range>; 6] {
     ]
 }
 
-/// The least ranges that hold the words of these, where an undefined one may hold any, and of those before.
-fn hulls(before: Option<[Range; 6]>, outs: [Option<Range>; 6]) -> [Range; 6] {
-    let mut found = before.unwrap_or([all(0); 6]);
-    for (place, range) in found.iter_mut().enumerate() {
+/// Leaves in each place the least range that holds the words of it and of what stands there in others, where an
+/// undefined one stands for a range; the first time these themselves.
+pub fn add_outs(ranges: &mut [Range], outs: &[Option<Range>; 6], undefined: Range, is_first: bool) {
+    for (place, range) in ranges.iter_mut().enumerate() {
         let out = match outs.get(place) {
             Some(Some(out)) => *out,
-            _ => all(0),
+            _ => undefined,
         };
-        *range = if before.is_some() {
-            hull(*range, out)
-        } else {
-            out
-        };
+        *range = if is_first { out } else { hull(*range, out) };
     }
-    found
 }
 
 /// Whether one of some blocks is to be visited.
@@ -114,17 +120,6 @@ fn has_one(pending: &[bool]) -> bool {
         }
     }
     false
-}
-
-/// Adds 1 to a count.
-fn count(counts: &mut Vec<u32>, place: usize) -> u32 {
-    match counts.get_mut(place) {
-        Some(count) => {
-            *count = count.saturating_add(1);
-            *count
-        }
-        None => 0,
-    }
 }
 
 /// Whether a block calls a function, or returns.
@@ -150,10 +145,12 @@ impl Flow {
     pub fn new(alloc: Global, function: &Function, live: &[Locations]) -> Result<Flow, AllocError> {
         let mut flow = Flow {
             shape: Shape::of(alloc, function, live)?,
-            known: Known::nothing(alloc),
+            known: Known {
+                cells: Vec::new(alloc),
+                ways: Vec::new(alloc),
+            },
             touched: Vec::new(alloc),
-            changes: Vec::new(alloc),
-            narrowings: Vec::new(alloc),
+            visits: Vec::new(alloc),
             pending: Vec::new(alloc),
             first: 0,
             end: 0,
@@ -161,7 +158,7 @@ impl Flow {
             returned: None,
         };
         flow.extend(alloc, function)?;
-        flow.revisit(&[0]);
+        flow.mark(0);
         Ok(flow)
     }
 
@@ -169,17 +166,17 @@ impl Flow {
     fn extend(&mut self, alloc: Global, function: &Function) -> Result<(), AllocError> {
         let blocks = function.blocks.len();
         self.known.extend(blocks)?;
-        for _ in self.changes.len()..blocks {
-            self.changes.push(0)?;
-            self.narrowings.push(0)?;
+        for _ in self.visits.len()..blocks {
+            self.visits.push(NO_VISITS)?;
         }
         self.pending = vec![in alloc; false; self.shape.order.blocks.len()]?;
         self.touched = touched_by(alloc, function)?;
         Ok(())
     }
 
-    /// A block is to be visited.
-    fn mark(&mut self, block: usize) {
+    /// A block is to be visited again: with the loops around it, and what stands behind these as far as what comes there
+    /// changes.
+    pub fn mark(&mut self, block: usize) {
         if let Some(place) = self.shape.order.place(block)
             && let Some(pending) = self.pending.get_mut(place)
         {
@@ -213,20 +210,20 @@ impl Flow {
         replace(&mut self.known.cells, block, None);
         replace(&mut self.known.ways, way_of(block, 0), None);
         replace(&mut self.known.ways, way_of(block, 1), None);
-        if let Some(changes) = self.changes.get_mut(block) {
-            *changes = 0;
-        }
-        if let Some(narrowings) = self.narrowings.get_mut(block) {
-            *narrowings = 0;
+        if let Some(visits) = self.visits.get_mut(block) {
+            *visits = NO_VISITS;
         }
         self.mark(block);
     }
 
-    /// Some blocks are to be visited again: with the loops around them, and what stands behind these as far as what
-    /// comes there changes.
-    pub fn revisit(&mut self, blocks: &[usize]) {
-        for block in blocks {
-            self.mark(*block);
+    /// The blocks that call a function are to be visited again.
+    pub fn mark_calls(&mut self, callee: usize) {
+        for place in 0..self.calls.len() {
+            if let Some(call) = self.calls.get(place).copied()
+                && call.callee == callee
+            {
+                self.mark(call.block);
+            }
         }
     }
 
@@ -259,26 +256,25 @@ impl Flow {
         }
     }
 
-    /// Takes over a function whose blocks `changed` are others than before, and at whose blocks other locations may be
-    /// live.
+    /// Takes over the function of a number, of which blocks that are among `changed` are others than before, and at whose
+    /// blocks other locations may be live.
     pub fn renew(
         &mut self,
         alloc: Global,
-        function: &Function,
+        (number, function): (usize, &Function),
         live: &[Locations],
-        changed: &[usize],
+        changed: &[(usize, usize)],
     ) -> Result<(), AllocError> {
         let shape = Shape::of(alloc, function, live)?;
         let before = mem::replace(&mut self.shape, shape);
         self.extend(alloc, function)?;
         self.mark_reshaped(&before);
-        self.revisit(changed);
+        for (other, block) in changed {
+            if *other == number {
+                self.mark(*block);
+            }
+        }
         Ok(())
-    }
-
-    /// What is known where a block begins; nothing where no way comes there.
-    pub fn cells(&self, block: usize) -> Option<&[Cell]> {
-        self.known.cells(block)
     }
 
     /// Which ways of a block can be gone.
@@ -295,7 +291,7 @@ impl Flow {
             enter(setting.function, setting.params, state);
             return true;
         }
-        match self.cells(block) {
+        match self.known.cells(block) {
             Some(cells) => {
                 state.start(cells);
                 true
@@ -313,13 +309,24 @@ impl Flow {
             return false;
         }
         let frame = setting.function.frame;
-        run_steps(frame, setting.results, code, state);
+        for step in &code.steps {
+            run_step(frame, setting.results, step, state);
+        }
         go_along(frame, code, way, state)
     }
 
-    /// The cells of what is live where a block begins.
-    fn collect(&self, alloc: Global, state: &State, to: usize) -> Result<Vec<Cell>, AllocError> {
-        let mut cells = Vec::new(alloc);
+    /// What is known where a way of a block ends, of what is live there; nothing where it can't be gone.
+    fn found_along(
+        &self,
+        setting: &Setting,
+        block: usize,
+        (way, to): (usize, usize),
+        state: &mut State,
+    ) -> Result<Option<Vec<Cell>>, AllocError> {
+        if !self.run(setting, block, way, state) {
+            return Ok(None);
+        }
+        let mut cells = Vec::new(setting.alloc);
         if let Some(live) = self.shape.live.get(to) {
             for location in live {
                 if let Some(range) = state.range(*location) {
@@ -328,7 +335,7 @@ impl Flow {
                 }
             }
         }
-        Ok(cells)
+        Ok(Some(cells))
     }
 
     /// A block is to be visited, if it stands in the stretch that is looked at.
@@ -347,11 +354,7 @@ impl Flow {
     ) -> Result<(), AllocError> {
         for (way, to) in successors_in(setting.function, block).iter().enumerate() {
             if let Some(to) = to {
-                let found = if self.run(setting, block, way, state) {
-                    Some(self.collect(setting.alloc, state, *to)?)
-                } else {
-                    None
-                };
+                let found = self.found_along(setting, block, (way, *to), state)?;
                 if replace(&mut self.known.ways, way_of(block, way), found) {
                     self.mark_near(*to);
                 }
@@ -363,7 +366,7 @@ impl Flow {
     /// Whether a block needn't be run for its new cells: all that is new in them it passes on as it comes. Not so where
     /// it wasn't run for those before, and of the first block, which begins with the params.
     fn passes_on(&self, block: usize, new: &Option<Vec<Cell>>) -> bool {
-        let is_left = matches!(self.narrowings.get(block), Some(times) if *times <= NARROWINGS);
+        let is_left = matches!(self.visits.get(block), Some(it) if it.narrowings <= NARROWINGS);
         match (self.known.cells(block), new, self.touched.get(block)) {
             (Some(old), Some(new), Some(touched)) => {
                 block > 0 && is_left && are_same_to(touched, old, new.as_slice())
@@ -401,23 +404,24 @@ impl Flow {
         }
     }
 
-    /// What a head's cells become: what comes into its loop is joined, and what only grows by the ways back goes to
-    /// thresholds.
-    fn raised_head(
+    /// What a block's cells become, where these may come along its ways, and what comes into the loop of a head is joined
+    /// before what only grows by the ways back goes to thresholds.
+    fn raised_by(
         &self,
         alloc: Global,
-        thresholds: &Thresholds,
+        growth: Growth,
         block: usize,
         old: &[Cell],
         new: &[Cell],
     ) -> Result<Vec<Cell>, AllocError> {
-        match self.known.entering(alloc, &self.shape, block)? {
-            Some(entering) => {
-                let old = joined(alloc, old, entering.as_slice())?;
-                widened_cells(alloc, Some(thresholds), old.as_slice(), new)
-            }
-            None => widened_cells(alloc, Some(thresholds), old, new),
+        if let Growth::ToThresholds(_) = growth
+            && let Some(place) = self.shape.order.place(block)
+            && let Some(entering) = self.known.common(alloc, &self.shape, block, place)?
+        {
+            let old = joined(alloc, Growth::Least, old, entering.as_slice())?;
+            return joined(alloc, growth, old.as_slice(), new);
         }
+        joined(alloc, growth, old, new)
     }
 
     /// What a block's cells become, where more may come along its ways than before.
@@ -428,20 +432,24 @@ impl Flow {
         block: usize,
         changes: u32,
     ) -> Result<Option<Vec<Cell>>, AllocError> {
-        let Some(new) = self.known.incoming(alloc, &self.shape, block)? else {
-            return Ok(None);
-        };
-        let Some(old) = self.cells(block) else {
-            return Ok(Some(new));
-        };
-        let is_head = self.shape.heads.get(block).copied().unwrap_or(false);
-        Ok(Some(if changes >= PATIENCE {
-            widened_cells(alloc, None, old, new.as_slice())?
-        } else if is_head && changes > 2 {
-            self.raised_head(alloc, thresholds, block, old, new.as_slice())?
+        let growth = if changes >= PATIENCE {
+            Growth::ToAll
+        } else if changes > 2 && self.shape.is_head(block) {
+            Growth::ToThresholds(thresholds)
         } else {
-            joined(alloc, old, new.as_slice())?
-        }))
+            Growth::Least
+        };
+        let new = self.known.common(alloc, &self.shape, block, usize::MAX)?;
+        match (self.known.cells(block), &new) {
+            (Some(old), Some(new)) => Ok(Some(self.raised_by(
+                alloc,
+                growth,
+                block,
+                old,
+                new.as_slice(),
+            )?)),
+            _ => Ok(new),
+        }
     }
 
     /// Visits a block, whose cells grow.
@@ -452,13 +460,21 @@ impl Flow {
         block: usize,
         state: &mut State,
     ) -> Result<(), AllocError> {
-        let changes = self.changes.get(block).copied().unwrap_or(0);
-        let cells = self.raised(setting.alloc, thresholds, block, changes)?;
-        let cells = setting.with_said(block, cells);
+        let changes = match self.visits.get(block) {
+            Some(visits) => visits.changes,
+            None => 0,
+        };
+        let mut cells = self.raised(setting.alloc, thresholds, block, changes)?;
+        setting.put_said(block, &mut cells);
         let passes = self.passes_on(block, &cells);
-        let is_new = cells.is_some() && replace(&mut self.known.cells, block, cells);
+        let is_new = match cells {
+            Some(cells) => replace(&mut self.known.cells, block, Some(cells)),
+            None => false,
+        };
         if is_new || (block == 0 && changes == 0) {
-            count(&mut self.changes, block);
+            if let Some(visits) = self.visits.get_mut(block) {
+                visits.changes = visits.changes.saturating_add(1);
+            }
             self.go_on(setting, block, passes, state)?;
         }
         Ok(())
@@ -487,30 +503,40 @@ impl Flow {
         ))
     }
 
-    /// Each block of the stretch from a place on is to be visited.
-    fn mark_stretch(&mut self, start: usize) {
+    /// Each block of the stretch from a place on is to be visited, or each whose cells don't hold all that comes along
+    /// its ways.
+    fn mark_stretch(&mut self, start: usize, only_broken: bool) {
         for place in start..self.end {
-            if let Some(block) = self.shape.order.blocks.get(place).copied() {
+            if let Some(block) = self.shape.order.blocks.get(place).copied()
+                && !(only_broken && self.known.holds(&self.shape, block))
+            {
                 self.mark(block);
             }
         }
     }
 
-    /// Visits a block, whose cells get narrower.
+    /// Visits a block, whose cells get narrower; the first one has none.
     fn lower(
         &mut self,
         setting: &Setting,
         block: usize,
         state: &mut State,
     ) -> Result<(), AllocError> {
-        let cells = self.known.incoming(setting.alloc, &self.shape, block)?;
-        let cells = setting.with_said(block, cells);
+        if block == 0 {
+            return Ok(());
+        }
+        let mut cells = self
+            .known
+            .common(setting.alloc, &self.shape, block, usize::MAX)?;
+        setting.put_said(block, &mut cells);
         let passes = self.passes_on(block, &cells);
-        if block > 0
-            && replace(&mut self.known.cells, block, cells)
-            && count(&mut self.narrowings, block) <= NARROWINGS
+        if replace(&mut self.known.cells, block, cells)
+            && let Some(visits) = self.visits.get_mut(block)
         {
-            self.go_on(setting, block, passes, state)?;
+            visits.narrowings = visits.narrowings.saturating_add(1);
+            if visits.narrowings <= NARROWINGS {
+                self.go_on(setting, block, passes, state)?;
+            }
         }
         Ok(())
     }
@@ -522,7 +548,7 @@ impl Flow {
         start: usize,
         state: &mut State,
     ) -> Result<(), AllocError> {
-        self.mark_stretch(start);
+        self.mark_stretch(start, false);
         let most = self.end.saturating_mul(16);
         for _ in 0..most {
             let Some(block) = self.next() else {
@@ -531,17 +557,6 @@ impl Flow {
             self.lower(setting, block, state)?;
         }
         Ok(())
-    }
-
-    /// Marks the blocks of the stretch from a place on whose cells don't hold all that comes along their ways.
-    fn mark_broken(&mut self, start: usize) {
-        for place in start..self.end {
-            if let Some(block) = self.shape.order.blocks.get(place).copied()
-                && !self.known.holds(&self.shape, block)
-            {
-                self.mark(block);
-            }
-        }
     }
 
     /// Looks for the calls of a block, from its beginning on.
@@ -577,7 +592,9 @@ impl Flow {
             if setting.function.framed {
                 state.restore(&fields);
             }
-            self.returned = Some(hulls(self.returned, outs(state)));
+            let mut returned = self.returned.unwrap_or([all(0); 6]);
+            add_outs(&mut returned, &outs(state), all(0), self.returned.is_none());
+            self.returned = Some(returned);
         }
     }
 
@@ -606,8 +623,15 @@ impl Flow {
                 && place >= self.end
             {
                 let way = way_of(block, number);
-                let (to, cells) = (*to, self.known.take_way(way));
-                exits.push(Exit { way, to, cells })?;
+                let cells = match self.known.ways.get_mut(way) {
+                    Some(slot) => slot.take(),
+                    None => None,
+                };
+                exits.push(Exit {
+                    way,
+                    to: *to,
+                    cells,
+                })?;
             }
         }
         Ok(())
@@ -626,8 +650,21 @@ impl Flow {
         Ok(exits)
     }
 
-    /// Finds the ranges of a stretch anew, by what comes into it; where something else comes out of it than before,
-    /// that is to be visited.
+    /// Finds the ranges of the stretch from a place on, by what comes into it.
+    fn find(
+        &mut self,
+        setting: &Setting,
+        thresholds: &Thresholds,
+        start: usize,
+        state: &mut State,
+    ) -> Result<(), Fault> {
+        self.ascend(setting, thresholds, state)?;
+        self.descend(setting, start, state)?;
+        self.mark_stretch(start, true);
+        self.ascend(setting, thresholds, state)
+    }
+
+    /// Finds the ranges of a stretch anew; where something else comes out of it than before, that is to be visited.
     fn settle_stretch(
         &mut self,
         setting: &Setting,
@@ -638,12 +675,9 @@ impl Flow {
         self.first = start;
         self.end = end;
         let exits = self.begin_stretch(setting, start)?;
-        self.ascend(setting, thresholds, state)?;
-        self.descend(setting, start, state)?;
-        self.mark_broken(start);
-        self.ascend(setting, thresholds, state)?;
-        for exit in exits {
-            if self.known.differs(exit.way, &exit.cells) {
+        self.find(setting, thresholds, start, state)?;
+        for exit in &exits {
+            if !is_at(self.known.ways.as_slice(), exit.way, &exit.cells) {
                 self.mark(exit.to);
             }
         }

@@ -1,6 +1,6 @@
 //! What is known of a function's blocks and ways so far.
 use crate::flow::passing::take_over;
-use fit_cells::{Shape, are_same, are_within, joined};
+use fit_cells::{Growth, Shape, are_same, are_within, joined};
 use fit_graph::Locations;
 use sbx_range::Cell;
 use std::alloc::{AllocError, Global};
@@ -31,7 +31,7 @@ fn at(list: &[Option<Vec<Cell>>], place: usize) -> Option<&[Cell]> {
 }
 
 /// Whether what stands at a place of a list is the same as this.
-fn is_at(list: &[Option<Vec<Cell>>], place: usize, cells: &Option<Vec<Cell>>) -> bool {
+pub fn is_at(list: &[Option<Vec<Cell>>], place: usize, cells: &Option<Vec<Cell>>) -> bool {
     match (at(list, place), cells) {
         (Some(old), Some(new)) => are_same(old, new.as_slice()),
         (None, None) => true,
@@ -48,15 +48,16 @@ pub fn replace(list: &mut Vec<Option<Vec<Cell>>>, place: usize, new: Option<Vec<
     !is_same
 }
 
-impl Known {
-    /// Nothing is known of any block.
-    pub fn nothing(alloc: Global) -> Known {
-        Known {
-            cells: Vec::new(alloc),
-            ways: Vec::new(alloc),
-        }
-    }
+/// Leaves what some cells have in common with more; these, where there are none yet.
+fn join(alloc: Global, found: &mut Option<Vec<Cell>>, cells: &[Cell]) -> Result<(), AllocError> {
+    *found = Some(match found {
+        Some(other) => joined(alloc, Growth::Least, other.as_slice(), cells)?,
+        None => Vec::from_slice(alloc, cells)?,
+    });
+    Ok(())
+}
 
+impl Known {
     /// Makes room for so many blocks.
     pub fn extend(&mut self, blocks: usize) -> Result<(), AllocError> {
         extend(&mut self.cells, blocks)?;
@@ -82,22 +83,9 @@ impl Known {
         }
     }
 
-    /// Forgets what is known where a way ends, and gives it.
-    pub fn take_way(&mut self, way: usize) -> Option<Vec<Cell>> {
-        match self.ways.get_mut(way) {
-            Some(slot) => slot.take(),
-            None => None,
-        }
-    }
-
-    /// Whether something else is known where a way ends.
-    pub fn differs(&self, way: usize, cells: &Option<Vec<Cell>>) -> bool {
-        !is_at(self.ways.as_slice(), way, cells)
-    }
-
     /// What the ways have in common that lead to a block from blocks before a place of the order; nothing where none of
     /// them can be gone.
-    fn common(
+    pub fn common(
         &self,
         alloc: Global,
         shape: &Shape,
@@ -111,37 +99,11 @@ impl Known {
                     && place < before
                     && let Some(cells) = at(self.ways.as_slice(), *way)
                 {
-                    found = Some(match &found {
-                        Some(other) => joined(alloc, other.as_slice(), cells)?,
-                        None => Vec::from_slice(alloc, cells)?,
-                    });
+                    join(alloc, &mut found, cells)?;
                 }
             }
         }
         Ok(found)
-    }
-
-    /// What the ways that lead to a block have in common; nothing where none of them can be gone.
-    pub fn incoming(
-        &self,
-        alloc: Global,
-        shape: &Shape,
-        block: usize,
-    ) -> Result<Option<Vec<Cell>>, AllocError> {
-        self.common(alloc, shape, block, usize::MAX)
-    }
-
-    /// The same of the ways that don't lead back to it.
-    pub fn entering(
-        &self,
-        alloc: Global,
-        shape: &Shape,
-        block: usize,
-    ) -> Result<Option<Vec<Cell>>, AllocError> {
-        match shape.order.place(block) {
-            Some(place) => self.common(alloc, shape, block, place),
-            None => Ok(None),
-        }
     }
 
     /// Whether all that comes along a block's ways lies within its cells.

@@ -4,4 +4,4 @@ mod flow;
 mod known;
 mod passing;
 
-pub use flow::{Call, Flow, Setting};
+pub use flow::{Flow, Setting, add_outs};

@@ -51,18 +51,15 @@ pub fn touched_by(alloc: Global, function: &Function) -> Result<Vec<Locations>, 
     Ok(touched)
 }
 
-/// Whether two cells are of the same location, and of the same range if it is touched.
-fn is_same_to(touched: &Locations, before: &Cell, after: &Cell) -> bool {
-    before.location == after.location
-        && (before.range == after.range || !touched.has(after.location))
-}
-
 /// Whether the same locations are known, and those that are touched by the same ranges.
 pub fn are_same_to(touched: &Locations, old: &[Cell], new: &[Cell]) -> bool {
     for (place, before) in old.iter().enumerate() {
-        match new.get(place) {
-            Some(after) if is_same_to(touched, before, after) => {}
-            _ => return false,
+        let Some(after) = new.get(place) else {
+            return false;
+        };
+        let is_same = before.range == after.range || !touched.has(after.location);
+        if before.location != after.location || !is_same {
+            return false;
         }
     }
     old.len() == new.len()

@@ -129,11 +129,12 @@ pub fn bounds_of(program: &Program, origin: &Origin, size: i64) -> Bounds {
         Some(object) => Some(object),
         None => least_object(program, origin),
     };
-    let addresses = match named {
-        Some(number) => match program.objects.get(number) {
-            Some(object) => (i64::from(object.start), end_of(object)),
-            None => window(program.regions.last(), origin.constant),
-        },
+    let object = match named {
+        Some(number) => program.objects.get(number),
+        None => None,
+    };
+    let addresses = match object {
+        Some(object) => (i64::from(object.start), end_of(object)),
         None => window(program.regions.last(), origin.constant),
     };
     bounds_between(origin, size, addresses, named)

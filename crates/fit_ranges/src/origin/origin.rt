@@ -1,5 +1,5 @@
 //! What an access's address is worked out from, by the steps of its own block.
-use crate::origin::trace::{Trace, operands_of};
+use crate::origin::trace::{Operands, Trace, operands_of};
 use fit_code::{Block, Step};
 use fit_graph::effects_of;
 use sbx_range::{Range, is_single};
@@ -43,14 +43,6 @@ struct Sum {
     object: Option<usize>,
 }
 
-/// Whether a place holds a register's term.
-fn is_of(slot: &Option<Term>, register: u8) -> bool {
-    match slot {
-        Some(term) => term.register == register,
-        None => false,
-    }
-}
-
 /// Numbers stay below this one.
 const GREAT: i64 = 1 << 40;
 
@@ -80,11 +72,10 @@ impl Sum {
     fn place_for(&self, register: u8) -> Option<usize> {
         let mut free = None;
         for (place, slot) in self.terms.iter().enumerate() {
-            if is_of(slot, register) {
-                return Some(place);
-            }
-            if slot.is_none() && free.is_none() {
-                free = Some(place);
+            match slot {
+                Some(term) if term.register == register => return Some(place),
+                None if free.is_none() => free = Some(place),
+                _ => {}
             }
         }
         free
@@ -141,11 +132,16 @@ impl Sum {
 
     /// The only term, if there is one alone.
     fn only(&self) -> Option<Term> {
-        match self.terms {
-            [Some(term), None, None] | [None, Some(term), None] | [None, None, Some(term)]
-                if term.times > 0 && !self.is_lost => { Some(term) }
-            _ => None,
+        let mut only = None;
+        for slot in &self.terms {
+            if let Some(term) = slot {
+                if self.is_lost || term.times <= 0 || only.is_some() {
+                    return None;
+                }
+                only = Some(*term);
+            }
         }
+        only
     }
 
     fn name(&mut self, object: Option<usize>) {
@@ -165,32 +161,28 @@ impl Sum {
         registers
     }
 
-    /// Puts what a step computes, so many times, in the place of its result. Says whether that could be done.
-    fn expand(&mut self, step: &Step, operands: [Option<Range>; 2], times: i64) -> bool {
+    /// Puts what a step computes in the place of its result, one of the registers that have a bit in `writes`. Says
+    /// whether that could be done.
+    fn expand(&mut self, writes: u32, step: &Step, operands: Operands) -> bool {
+        let Some(times) = self.take(writes) else {
+            return false;
+        };
         let Operation::Compute(op, fields) = operation_of(&step.instr) else {
             return false;
         };
-        let second = match op {
-            Op::Add | Op::AddCc => Some(times),
-            Op::Sub | Op::SubCc => Some(times.saturating_neg()),
-            Op::Or | Op::OrCc if is_zero(&operands[0]) || is_zero(&operands[1]) => Some(times),
-            _ => None,
+        let (first, second) = match op {
+            Op::Add | Op::AddCc => (1, 1),
+            Op::Sub | Op::SubCc => (1, -1),
+            Op::Or | Op::OrCc if is_zero(&operands[0]) || is_zero(&operands[1]) => (1, 1),
+            Op::Sll => match operands[1] {
+                Some(count) if is_single(count) => (1i64 << (count.lo.cast_unsigned() % 32), 0),
+                _ => return false,
+            },
+            _ => return false,
         };
-        match second {
-            Some(second) => {
-                self.add_register(fields.rs1, times, operands[0]);
-                self.add_operand(fields.operand2, second, operands[1]);
-            }
-            None => {
-                let Some(count) = shift_of(op, operands[1]) else {
-                    return false;
-                };
-                self.add_register(
-                    fields.rs1,
-                    times.saturating_mul(1i64 << (count % 32)),
-                    operands[0],
-                );
-            }
+        self.add_register(fields.rs1, times.saturating_mul(first), operands[0]);
+        if second != 0 {
+            self.add_operand(fields.operand2, times.saturating_mul(second), operands[1]);
         }
         self.name(step.object);
         !self.is_lost
@@ -201,22 +193,6 @@ fn is_zero(range: &Option<Range>) -> bool {
     match range {
         Some(range) => range.lo == 0 && range.hi == 0,
         None => false,
-    }
-}
-
-/// How far a word is shifted to the left.
-fn shift_of(op: Op, count: Option<Range>) -> Option<u32> {
-    match (op, count) {
-        (Op::Sll, Some(count)) if is_single(count) => Some(count.lo.cast_unsigned() % 32),
-        _ => None,
-    }
-}
-
-/// The registers that a step writes, each of which has a bit.
-fn written(frame: u32, step: &Step) -> u32 {
-    match step.callee {
-        Some(_) => 0xfffe,
-        None => effects_of(frame, &step.instr).writes,
     }
 }
 
@@ -235,15 +211,6 @@ fn candidate(sum: &Sum, last: usize) -> Option<Origin> {
     })
 }
 
-/// An origin whose word stands behind the step of a place, and not before.
-fn behind(origin: Option<Origin>, place: usize) -> Option<Origin> {
-    let mut origin = origin?;
-    if origin.first == 0 {
-        origin.first = place.saturating_add(1);
-    }
-    Some(origin)
-}
-
 /// What the address of the access at a place of a block is worked out from, as far back as one register stands for
 /// it. Nothing where it is worked out from several, or is a number.
 pub fn origin_of(frame: u32, block: &Block, trace: &Trace, place: usize) -> Option<Origin> {
@@ -260,20 +227,23 @@ pub fn origin_of(frame: u32, block: &Block, trace: &Trace, place: usize) -> Opti
     sum.add_register(first, 1, operands[0]);
     sum.add_operand(second, 1, operands[1]);
     let mut found = candidate(&sum, place);
-    for (earlier, step) in block.steps.iter().enumerate().rev() {
-        if earlier < place {
-            let writes = written(frame, step);
+    for earlier in (0..place).rev() {
+        if let Some(step) = block.steps.get(earlier) {
+            let writes = match step.callee {
+                Some(_) => 0xfffe,
+                None => effects_of(frame, &step.instr).writes,
+            };
             if writes & sum.folded != 0 {
                 sum.folded &= !writes;
                 sum.name(step.object);
             }
             if writes & sum.registers() != 0 {
-                found = behind(found, earlier);
-                let is_open = match sum.take(writes) {
-                    Some(times) => sum.expand(step, trace.at(earlier), times),
-                    None => false,
-                };
-                if !is_open {
+                if let Some(origin) = &mut found
+                    && origin.first == 0
+                {
+                    origin.first = earlier.saturating_add(1);
+                }
+                if !sum.expand(writes, step, trace.at(earlier)) {
                     return found;
                 }
                 found = candidate(&sum, earlier).or(found);

@@ -1,6 +1,6 @@
 //! What is known of the operands of a block's steps.
 use fit_cells::run_step;
-use fit_code::{Block, Step};
+use fit_code::Block;
 use sbx_domain::{State, frame_word_of};
 use sbx_range::{Range, known};
 use std::alloc::{AllocError, Global};
@@ -50,14 +50,6 @@ pub fn operand_range(operand: Operand, state: &State) -> Option<Range> {
     }
 }
 
-/// What is known of a step's operands before it.
-fn known_operands(frame: u32, step: &Step, state: &State) -> Operands {
-    match operands_of(frame, &step.instr) {
-        Some((first, second)) => [register_range(first, state), operand_range(second, state)],
-        None => [None, None],
-    }
-}
-
 /// The operands of a block's steps, where the state is that before the first one.
 pub fn trace_of(
     alloc: Global,
@@ -68,7 +60,11 @@ pub fn trace_of(
 ) -> Result<Trace, AllocError> {
     let mut operands = Vec::with_capacity(alloc, block.steps.len())?;
     for step in &block.steps {
-        operands.push(known_operands(frame, step, state))?;
+        let known = match operands_of(frame, &step.instr) {
+            Some((first, second)) => [register_range(first, state), operand_range(second, state)],
+            None => [None, None],
+        };
+        operands.push(known)?;
         run_step(frame, results, step, state);
     }
     Ok(Trace { operands })

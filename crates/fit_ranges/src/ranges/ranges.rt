@@ -1,6 +1,5 @@
 //! The ranges of a program: of the cells of its blocks, and of what its functions are called with and give back.
-use crate::flow::{Flow, Setting};
-use fit_cells::hull;
+use crate::flow::{Flow, Setting, add_outs};
 use fit_code::{Fault, Function, NO_LINE, Program, Reason};
 use fit_graph::{Liveness, Locations};
 use sbx_domain::State;
@@ -54,32 +53,25 @@ const ZERO: Range = Range {
     alignment: 3,
 };
 
-/// What some ranges and what is given have in common, where an undefined word is 0.
-fn add_given(ranges: &mut Vec<Range>, given: &[Option<Range>; 6], is_first: bool) {
-    for (place, range) in ranges.iter_mut().enumerate() {
-        let given = match given.get(place) {
-            Some(Some(given)) => *given,
-            _ => ZERO,
-        };
-        *range = if is_first { given } else { hull(*range, given) };
-    }
-}
-
-/// Whether all of a set's locations are in another one.
-fn is_part(set: &Locations, of: &Locations) -> bool {
-    let mut both = *of;
-    !both.add(set)
-}
-
 /// Whether the same locations are live where blocks begin.
 fn are_same(a: &[Locations], b: &[Locations]) -> bool {
     for (place, set) in a.iter().enumerate() {
         match b.get(place) {
-            Some(other) if is_part(set, other) && is_part(other, set) => {}
+            Some(other) if set.is_same(other) => {}
             _ => return false,
         }
     }
     a.len() == b.len()
+}
+
+/// Whether a block of a function is among some.
+fn has_block(blocks: &[(usize, usize)], function: usize) -> bool {
+    for (other, _) in blocks {
+        if *other == function {
+            return true;
+        }
+    }
+    false
 }
 
 /// Puts ranges that are said in the place of the first ones.
@@ -106,6 +98,13 @@ fn at(lists: &[Vec<Range>], place: usize) -> &[Range] {
     match lists.get(place) {
         Some(list) => list.as_slice(),
         None => &[],
+    }
+}
+
+/// Puts ranges at a place of a list, if there is such a place.
+fn put(lists: &mut Vec<Vec<Range>>, place: usize, list: Vec<Range>) {
+    if let Some(slot) = lists.get_mut(place) {
+        *slot = list;
     }
 }
 
@@ -149,14 +148,14 @@ impl Ranges {
         Ok(())
     }
 
-    /// What all calls give a function; any words where none is reached.
+    /// What all calls give a function, where an undefined word is 0; any words where none is reached.
     fn given(&self, callee: usize) -> Result<Vec<Range>, AllocError> {
         let mut ranges = any_words(self.alloc, self.liveness.counts_of(callee).params)?;
         let mut is_first = true;
         for flow in &self.flows {
             for call in &flow.calls {
                 if call.callee == callee {
-                    add_given(&mut ranges, &call.given, is_first);
+                    add_outs(ranges.as_mut_slice(), &call.given, ZERO, is_first);
                     is_first = false;
                 }
             }
@@ -168,26 +167,25 @@ impl Ranges {
     fn take_params(&mut self, number: usize, function: &Function) -> Result<(), AllocError> {
         let mut given = self.given(number)?;
         put_said(&mut given, function.params.as_slice())?;
-        if at(self.params.as_slice(), number) != given.as_slice() {
-            if let Some(params) = self.params.get_mut(number) {
-                *params = given;
-            }
-            if let Some(flow) = self.flows.get_mut(number) {
-                flow.revisit(&[0]);
-            }
+        if at(self.params.as_slice(), number) == given.as_slice() {
+            return Ok(());
+        }
+        put(&mut self.params, number, given);
+        if let Some(flow) = self.flows.get_mut(number) {
+            flow.mark(0);
         }
         Ok(())
     }
 
-    /// Goes over a function, if something of it is to be looked at. Says whether that was so.
+    /// Goes over a function, if something of it is to be looked at.
     fn settle_function(
         &mut self,
         program: &Program,
         number: usize,
         state: &mut State,
-    ) -> Result<bool, Fault> {
+    ) -> Result<(), Fault> {
         let Some(function) = program.functions.get(number) else {
-            return Ok(false);
+            return Ok(());
         };
         self.take_params(number, function)?;
         let setting = Setting {
@@ -199,27 +197,21 @@ impl Ranges {
             said: said_of(self.said.as_slice(), number),
         };
         match self.flows.get_mut(number) {
-            Some(flow) if flow.is_pending() => {
-                flow.settle(&setting, state)?;
-                Ok(true)
-            }
-            _ => Ok(false),
+            Some(flow) if flow.is_pending() => flow.settle(&setting, state),
+            _ => Ok(()),
         }
     }
 
-    /// What a function's returns leave, as far as its callers ask for it.
+    /// What a function's returns leave, as far as its callers ask for it; any words where none is reached.
     fn returned(&self, number: usize) -> Result<Vec<Range>, AllocError> {
-        let mut ranges = any_words(self.alloc, self.liveness.counts_of(number).results)?;
+        let count = self.liveness.counts_of(number).results;
         if let Some(flow) = self.flows.get(number)
             && let Some(returned) = &flow.returned
+            && let Some(asked) = returned.get(..usize::from(count))
         {
-            for (place, range) in ranges.iter_mut().enumerate() {
-                if let Some(found) = returned.get(place) {
-                    *range = *found;
-                }
-            }
+            return Vec::from_slice(self.alloc, asked);
         }
-        Ok(ranges)
+        any_words(self.alloc, count)
     }
 
     /// Takes over what a function gives back, and looks at its callers again, where that is new: narrower in the first
@@ -241,26 +233,17 @@ impl Ranges {
             !lie_within(found.as_slice(), known)
         };
         if is_new {
-            if let Some(results) = self.results.get_mut(number) {
-                *results = found;
-            }
-            self.revisit_calls(number)?;
+            put(&mut self.results, number, found);
+            self.revisit_calls(number);
         }
         Ok(is_new)
     }
 
     /// The blocks that call a function are to be looked at again.
-    fn revisit_calls(&mut self, callee: usize) -> Result<(), AllocError> {
+    fn revisit_calls(&mut self, callee: usize) {
         for flow in self.flows.iter_mut() {
-            let mut blocks = Vec::new(self.alloc);
-            for call in &flow.calls {
-                if call.callee == callee {
-                    blocks.push(call.block)?;
-                }
-            }
-            flow.revisit(blocks.as_slice());
+            flow.mark_calls(callee);
         }
-        Ok(())
     }
 
     /// Goes over the program once. Says whether something is to be looked at again.
@@ -304,35 +287,28 @@ impl Ranges {
             *self = Ranges::of(self.alloc, program, state)?;
             return Ok(());
         }
-        for (number, function) in program.functions.iter().enumerate() {
-            let live = liveness.of_function(number);
-            self.renew_function(number, function, live, changed)?;
-        }
+        self.renew_functions(program, &liveness, changed)?;
         self.liveness = liveness;
         self.settle(program, state)
     }
 
-    /// Takes over one function, of whose blocks this is live, if something of it is others than before.
-    fn renew_function(
+    /// Takes over each function of a program in which this is live, if something of it is others than before.
+    fn renew_functions(
         &mut self,
-        number: usize,
-        function: &Function,
-        live: &[Locations],
+        program: &Program,
+        liveness: &Liveness,
         changed: &[(usize, usize)],
     ) -> Result<(), AllocError> {
-        let mut blocks = Vec::new(self.alloc);
-        for (other, block) in changed {
-            if *other == number {
-                blocks.push(*block)?;
+        for (number, function) in program.functions.iter().enumerate() {
+            let live = liveness.of_function(number);
+            let is_same = are_same(self.liveness.of_function(number), live);
+            if let Some(flow) = self.flows.get_mut(number)
+                && (!is_same || has_block(changed, number))
+            {
+                flow.renew(self.alloc, (number, function), live, changed)?;
             }
         }
-        let is_same = are_same(self.liveness.of_function(number), live);
-        match self.flows.get_mut(number) {
-            Some(flow) if !is_same || !blocks.is_empty() => {
-                flow.renew(self.alloc, function, live, blocks.as_slice())
-            }
-            _ => Ok(()),
-        }
+        Ok(())
     }
 
     /// What a function is called with.
@@ -349,7 +325,7 @@ impl Ranges {
     /// doesn't come, and of a function's first block, which begins with the function's params.
     pub fn cells(&self, function: usize, block: usize) -> Option<&[Cell]> {
         match self.flows.get(function) {
-            Some(flow) => flow.cells(block),
+            Some(flow) => flow.known.cells(block),
             None => None,
         }
     }

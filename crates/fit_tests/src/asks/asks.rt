@@ -1,15 +1,13 @@
 //! What isn't shown of a function's steps.
-use fit_cells::run_to_call;
+use fit_cells::{return_from, run_to_call};
 use fit_code::{Block, Function, Line, Program, Region, Step};
 use fit_graph::{Effects, effects_of, read_at_end};
-use fit_ranges::{
-    Origin, Ranges, Trace, end_of, named_object, operand_range, origin_of, register_range, trace_of,
-};
-use sbx_domain::{State, frame_word_of};
+use fit_ranges::{Origin, Ranges, Trace, end_of, named_object, origin_of, trace_of};
+use sbx_domain::State;
 use sbx_range::{Range, excludes_zero, range_of_address};
 use std::alloc::{AllocError, Global};
 use v8_formats::Operand;
-use v8_meaning::{MemoryOperand, Operation, Transfer, bytes_in, operation_of};
+use v8_meaning::{Operation, Transfer, bytes_in, operation_of};
 
 /// An access that isn't shown to lie where it has to.
 #[derive(Clone, Copy)]
@@ -86,16 +84,6 @@ fn undefined_location(effects: &Effects, state: &State) -> Option<u16> {
     }
 }
 
-/// The addresses of an access that isn't one of a frame word.
-fn addresses(frame: u32, operand: &MemoryOperand, state: &State) -> Option<Range> {
-    if frame_word_of(frame, operand).is_some() {
-        return None;
-    }
-    let first = register_range(operand.rs1, state)?;
-    let second = operand_range(operand.operand2, state)?;
-    Some(range_of_address(first, second))
-}
-
 /// How many low bits of an address of so many bytes are 0.
 pub fn needed_alignment(size: u32) -> u8 {
     match size {
@@ -111,16 +99,6 @@ fn number_of(operand: Operand) -> Option<u8> {
     match operand {
         Operand::Register(register) => Some(register.number()),
         Operand::Immediate(_) => None,
-    }
-}
-
-/// What isn't shown of a division by a register's word, or by a number, of a range.
-fn lack_of_division(register: Option<u8>, range: Option<Range>) -> Option<Lack> {
-    let range = range?;
-    if excludes_zero(range) {
-        None
-    } else {
-        Some(Lack::Divisible(register, range))
     }
 }
 
@@ -177,7 +155,7 @@ impl<'a> Asking<'a> {
         None
     }
 
-    /// What isn't shown of a step that is no call.
+    /// What isn't shown of the step at a place of a block, which is no call.
     fn lack_of(
         &self,
         function: &Function,
@@ -187,19 +165,21 @@ impl<'a> Asking<'a> {
         state: &State,
     ) -> Option<Lack> {
         let step = block.steps.get(place)?;
-        if let Some(location) = undefined_location(
-            &effects_of(function.frame, &step.instr),
-            state,
-        ) {
+        let effects = effects_of(function.frame, &step.instr);
+        if let Some(location) = undefined_location(&effects, state) {
             return Some(Lack::Defined(location));
         }
+        let operands = trace.at(place);
         match operation_of(&step.instr) {
-            Operation::Divide(_, fields) => lack_of_division(
-                number_of(fields.operand2),
-                operand_range(fields.operand2, state),
-            ),
-            Operation::Transfer(transfer, operand) => {
-                let range = addresses(function.frame, &operand, state)?;
+            Operation::Divide(_, fields) => {
+                let divisor = operands[1]?;
+                if excludes_zero(divisor) {
+                    return None;
+                }
+                Some(Lack::Divisible(number_of(fields.operand2), divisor))
+            }
+            Operation::Transfer(transfer, _) => {
+                let range = range_of_address(operands[0]?, operands[1]?);
                 let origin = origin_of(function.frame, block, trace, place);
                 self.lack_of_access(transfer, range, origin)
             }
@@ -207,26 +187,70 @@ impl<'a> Asking<'a> {
         }
     }
 
-    /// What isn't shown of a step, up to which the block was run. Of a call its slot is run too.
-    fn lack_at(
+    /// Asks the steps of a block one after the other. Of a call its slot is run before it is asked.
+    fn ask_steps(
         &self,
         function: &Function,
+        number: usize,
         block: &Block,
         trace: &Trace,
-        place: usize,
         state: &mut State,
-    ) -> Option<Lack> {
-        let step = block.steps.get(place)?;
-        match step.callee {
-            Some(callee) => {
-                run_to_call(function.frame, step, state);
-                self.lack_of_call(callee, state)
+        asks: &mut Vec<Ask>,
+    ) -> Result<(), AllocError> {
+        for (place, step) in block.steps.iter().enumerate() {
+            let lack = match step.callee {
+                Some(callee) => {
+                    run_to_call(function.frame, step, state);
+                    self.lack_of_call(callee, state)
+                }
+                None => self.lack_of(function, block, trace, place, state),
+            };
+            if let Some(lack) = lack {
+                asks.push(Ask {
+                    block: number,
+                    place,
+                    line: step.line,
+                    lack,
+                })?;
             }
-            None => self.lack_of(function, block, trace, place, state),
+            match step.callee {
+                Some(callee) => return_from(self.ranges.results(), callee, state),
+                None => state.transfer(function.frame, &step.instr),
+            }
         }
+        Ok(())
     }
 
-    /// Asks a block, from its beginning on.
+    /// Asks the end of a block that was run.
+    fn ask_end(
+        &self,
+        function: usize,
+        code: &Function,
+        number: usize,
+        state: &State,
+        asks: &mut Vec<Ask>,
+    ) -> Result<(), AllocError> {
+        let results = match self.ranges.results().get(function) {
+            Some(results) => results.len().min(6) as u8,
+            None => 0,
+        };
+        if let Some(block) = code.blocks.get(number)
+            && let Some(location) = undefined_register(
+                read_at_end(code, results, &block.end),
+                state,
+            )
+        {
+            asks.push(Ask {
+                block: number,
+                place: block.steps.len(),
+                line: block.line,
+                lack: Lack::Defined(location),
+            })?;
+        }
+        Ok(())
+    }
+
+    /// Asks a block, from its beginning on, if control comes to it.
     fn ask_block(
         &self,
         function: usize,
@@ -240,54 +264,14 @@ impl<'a> Asking<'a> {
         let Some(block) = code.blocks.get(number) else {
             return Ok(());
         };
-        if !self
-            .ranges
-            .begin_block(self.program, function, number, state)
-        {
+        let (program, ranges) = (self.program, self.ranges);
+        if !ranges.begin_block(program, function, number, state) {
             return Ok(());
         }
-        let results = self.ranges.results();
-        let trace = trace_of(self.alloc, code.frame, results, block, state)?;
-        self.ranges
-            .begin_block(self.program, function, number, state);
-        for (place, step) in block.steps.iter().enumerate() {
-            if let Some(lack) = self.lack_at(code, block, &trace, place, state) {
-                asks.push(Ask {
-                    block: number,
-                    place,
-                    line: step.line,
-                    lack,
-                })?;
-            }
-            self.finish(code.frame, step, state);
-        }
-        Ok(())
-    }
-
-    /// What a step does, and what is left of a call.
-    fn finish(&self, frame: u32, step: &Step, state: &mut State) {
-        match step.callee {
-            Some(callee) => fit_cells::return_from(self.ranges.results(), callee, state),
-            None => state.transfer(frame, &step.instr),
-        }
-    }
-
-    /// What isn't shown of the end of a block that was run.
-    fn ask_end(&self, function: usize, number: usize, state: &State) -> Option<Ask> {
-        let code = self.program.functions.get(function)?;
-        let block = code.blocks.get(number)?;
-        let results = match self.ranges.results().get(function) {
-            Some(results) => results.len().min(6) as u8,
-            None => 0,
-        };
-        let reads = read_at_end(code, results, &block.end);
-        let location = undefined_register(reads, state)?;
-        Some(Ask {
-            block: number,
-            place: block.steps.len(),
-            line: block.line,
-            lack: Lack::Defined(location),
-        })
+        let trace = trace_of(self.alloc, code.frame, ranges.results(), block, state)?;
+        ranges.begin_block(program, function, number, state);
+        self.ask_steps(code, number, block, &trace, state, asks)?;
+        self.ask_end(function, code, number, state, asks)
     }
 }
 
@@ -304,11 +288,6 @@ pub fn asks_of(
     };
     for number in 0..blocks {
         asking.ask_block(function, number, state, &mut asks)?;
-        if asking.ranges.reaches(function, number)
-            && let Some(ask) = asking.ask_end(function, number, state)
-        {
-            asks.push(ask)?;
-        }
     }
     Ok(asks)
 }

@@ -58,20 +58,22 @@ fn least_shift(
 ) -> Option<u32> {
     let bit = 1u32 << (register % 32);
     let mut least: Option<u32> = None;
-    for step in block.steps.iter().skip(place) {
-        let effects = effects_of(frame, &step.instr);
-        if step.callee.is_some() && bit & 0xfffe != 0 {
-            return None;
-        }
-        if effects.reads & bit != 0 {
-            let count = shift_of(step, register)?;
-            least = match least {
-                Some(other) => Some(other.min(count)),
-                None => Some(count),
-            };
-        }
-        if effects.writes & bit != 0 {
-            return least;
+    for (at, step) in block.steps.iter().enumerate() {
+        if at >= place {
+            let effects = effects_of(frame, &step.instr);
+            if step.callee.is_some() && bit & 0xfffe != 0 {
+                return None;
+            }
+            if effects.reads & bit != 0 {
+                let count = shift_of(step, register)?;
+                least = match least {
+                    Some(other) => Some(other.min(count)),
+                    None => Some(count),
+                };
+            }
+            if effects.writes & bit != 0 {
+                return least;
+            }
         }
     }
     if is_live { None } else { least }

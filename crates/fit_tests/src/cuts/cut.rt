@@ -32,32 +32,20 @@ pub fn insert_step(block: &mut Block, place: usize, step: Step) -> Result<(), Al
     Ok(())
 }
 
-/// A new block of a function, by its number.
+/// A new block of a function, behind the others.
 pub fn push_block(
     function: &mut Function,
     steps: Vec<Step>,
     end: End,
     line: Line,
-) -> Result<usize, AllocError> {
-    let number = function.blocks.len();
+) -> Result<(), AllocError> {
     function.blocks.push(Block {
         steps,
         end,
         slot: None,
         line,
     })?;
-    Ok(number)
-}
-
-/// The steps of a block from a place on.
-fn steps_from(alloc: Global, block: &Block, place: usize) -> Result<Vec<Step>, AllocError> {
-    let mut steps = Vec::new(alloc);
-    for (at, step) in block.steps.iter().enumerate() {
-        if at >= place {
-            steps.push(*step)?;
-        }
-    }
-    Ok(steps)
+    Ok(())
 }
 
 /// Cuts a block before the step at a place. What was behind it stands in a new block, whose number this is, and to
@@ -73,7 +61,7 @@ pub fn cut_block(
         return Ok(None);
     };
     let behind = Block {
-        steps: steps_from(alloc, block, place)?,
+        steps: Vec::from_slice(alloc, block.steps.get(place..).unwrap_or(&[]))?,
         end: block.end,
         slot: block.slot,
         line: block.line,

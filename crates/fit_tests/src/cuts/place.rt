@@ -61,25 +61,16 @@ enum Asked {
     Y,
 }
 
-impl Asked {
-    /// What a step does with it; a call leaves it undefined.
-    fn use_by(self, step: &Step) -> Use {
-        if step.callee.is_some() {
-            return Use::Writes;
-        }
-        match self {
-            Asked::Codes => codes_use(&step.instr),
-            Asked::Y => y_use(&step.instr),
-        }
-    }
-}
-
-/// What a step does first of what it or those behind it do with something, from a place of a block on; nothing where
-/// none does.
-fn first_use(block: &Block, place: usize, of: Asked) -> Use {
+/// What the first step that does something with what is asked for, from a place of a block on, does with it; nothing
+/// where none does. A call leaves it undefined.
+fn first_use(block: &Block, place: usize, asked: Asked) -> Use {
     for (at, step) in block.steps.iter().enumerate() {
         if at >= place {
-            let found = of.use_by(step);
+            let found = match asked {
+                _ if step.callee.is_some() => Use::Writes,
+                Asked::Codes => codes_use(&step.instr),
+                Asked::Y => y_use(&step.instr),
+            };
             if found != Use::Nothing {
                 return found;
             }
@@ -105,15 +96,17 @@ pub fn needs_y(block: &Block, place: usize) -> bool {
 /// Whether a scratch register from before a step is read by it or behind it.
 pub fn uses_scratch(frame: u32, block: &Block, place: usize) -> bool {
     let mut free = 0;
-    for step in block.steps.iter().skip(place) {
-        let effects = effects_of(frame, &step.instr);
-        if effects.reads & SCRATCH & !free != 0 {
-            return true;
+    for (at, step) in block.steps.iter().enumerate() {
+        if at >= place {
+            let effects = effects_of(frame, &step.instr);
+            if effects.reads & SCRATCH & !free != 0 {
+                return true;
+            }
+            free |= match step.callee {
+                Some(_) => SCRATCH,
+                None => effects.writes,
+            };
         }
-        free |= match step.callee {
-            Some(_) => SCRATCH,
-            None => effects.writes,
-        };
     }
     false
 }
@@ -153,12 +146,4 @@ pub fn y_writer(frame: u32, block: &Block, division: usize) -> Option<usize> {
         }
     }
     None
-}
-
-/// Whether a step writes a register that has a bit in `registers`.
-pub fn writes_any(frame: u32, step: &Step, registers: u32) -> bool {
-    match step.callee {
-        Some(_) => registers & 0xfffe != 0,
-        None => effects_of(frame, &step.instr).writes & registers != 0,
-    }
 }

@@ -1,38 +1,27 @@
 //! Codes that are in use where a block is to be cut, set again behind.
 use crate::cuts::cut::push_step;
-use crate::cuts::place::{Use, codes_use, needs_codes, writes_any};
+use crate::cuts::place::{Use, codes_use, needs_codes};
 use crate::cuts::words::{by_immediate, step_of};
 use fit_code::{Block, End, Step};
 use fit_graph::effects_of;
 use std::alloc::AllocError;
-use v8_formats::{Cond, Instr, Reg, Three};
+use v8_formats::{Cond, Instr, Reg};
 
 /// The same instruction with %g0 for its destination, where it is one that is used to compare.
 fn without_result(instr: Instr) -> Option<Instr> {
-    let bare = |fields: Three| Three {
-        rd: Reg::G0,
-        rs1: fields.rs1,
-        operand2: fields.operand2,
-    };
-    match instr {
-        Instr::AddCc(fields) => Some(Instr::AddCc(bare(fields))),
-        Instr::SubCc(fields) => Some(Instr::SubCc(bare(fields))),
-        Instr::AndCc(fields) => Some(Instr::AndCc(bare(fields))),
-        Instr::AndnCc(fields) => Some(Instr::AndnCc(bare(fields))),
-        Instr::OrCc(fields) => Some(Instr::OrCc(bare(fields))),
-        Instr::OrnCc(fields) => Some(Instr::OrnCc(bare(fields))),
-        Instr::XorCc(fields) => Some(Instr::XorCc(bare(fields))),
-        Instr::XnorCc(fields) => Some(Instr::XnorCc(bare(fields))),
-        _ => None,
+    let mut bare = instr;
+    match &mut bare {
+        Instr::AddCc(fields)
+        | Instr::SubCc(fields)
+        | Instr::AndCc(fields)
+        | Instr::AndnCc(fields)
+        | Instr::OrCc(fields)
+        | Instr::OrnCc(fields)
+        | Instr::XorCc(fields)
+        | Instr::XnorCc(fields) => fields.rd = Reg::G0,
+        _ => return None,
     }
-}
-
-/// Whether a condition asks for Z and N alone.
-fn asks_signs(cond: Cond) -> bool {
-    matches!(
-        cond,
-        Cond::Equal | Cond::NotEqual | Cond::Negative | Cond::Positive
-    )
+    Some(bare)
 }
 
 /// The last step that sets the codes.
@@ -49,7 +38,11 @@ fn last_setter(block: &Block) -> Option<usize> {
 /// Whether a register that has a bit is written from a place of a block on.
 fn is_written(frame: u32, block: &Block, place: usize, registers: u32) -> bool {
     for (at, step) in block.steps.iter().enumerate() {
-        if at >= place && writes_any(frame, step, registers) {
+        let writes = match step.callee {
+            Some(_) => 0xfffe,
+            None => effects_of(frame, &step.instr).writes,
+        };
+        if at >= place && writes & registers != 0 {
             return true;
         }
     }
@@ -66,7 +59,12 @@ fn again(frame: u32, block: &Block, place: usize, cond: Cond) -> Option<Instr> {
     }
     let behind = place.saturating_add(1);
     let is_kept = effects.writes != 0 && !is_written(frame, block, behind, effects.writes);
-    if is_kept && asks_signs(cond) {
+    // These ask for Z and N alone.
+    let asks_signs = matches!(
+        cond,
+        Cond::Equal | Cond::NotEqual | Cond::Negative | Cond::Positive
+    );
+    if is_kept && asks_signs {
         let number = effects.writes.trailing_zeros().min(31) as u8;
         return Some(Instr::SubCc(by_immediate(0, number, 0)));
     }

@@ -76,24 +76,24 @@ pub fn clear_step(location: u16, line: Line) -> Step {
 
 /// The load or the store with another address; other instructions as they are.
 pub fn with_address(instr: Instr, rs1: u8, operand2: Operand) -> Instr {
-    let moved = |fields: Three| Three {
-        rd: fields.rd,
-        rs1: register(rs1),
-        operand2,
-    };
-    match instr {
-        Instr::Load(fields) => Instr::Load(moved(fields)),
-        Instr::LoadUnsignedByte(fields) => Instr::LoadUnsignedByte(moved(fields)),
-        Instr::LoadUnsignedHalf(fields) => Instr::LoadUnsignedHalf(moved(fields)),
-        Instr::LoadSignedByte(fields) => Instr::LoadSignedByte(moved(fields)),
-        Instr::LoadSignedHalf(fields) => Instr::LoadSignedHalf(moved(fields)),
-        Instr::LoadDouble(fields) => Instr::LoadDouble(moved(fields)),
-        Instr::Store(fields) => Instr::Store(moved(fields)),
-        Instr::StoreByte(fields) => Instr::StoreByte(moved(fields)),
-        Instr::StoreHalf(fields) => Instr::StoreHalf(moved(fields)),
-        Instr::StoreDouble(fields) => Instr::StoreDouble(moved(fields)),
-        Instr::LoadStoreUnsignedByte(fields) => Instr::LoadStoreUnsignedByte(moved(fields)),
-        Instr::Swap(fields) => Instr::Swap(moved(fields)),
-        other => other,
+    let mut moved = instr;
+    match &mut moved {
+        Instr::Load(fields)
+        | Instr::LoadUnsignedByte(fields)
+        | Instr::LoadUnsignedHalf(fields)
+        | Instr::LoadSignedByte(fields)
+        | Instr::LoadSignedHalf(fields)
+        | Instr::LoadDouble(fields)
+        | Instr::Store(fields)
+        | Instr::StoreByte(fields)
+        | Instr::StoreHalf(fields)
+        | Instr::StoreDouble(fields)
+        | Instr::LoadStoreUnsignedByte(fields)
+        | Instr::Swap(fields) => {
+            fields.rs1 = register(rs1);
+            fields.operand2 = operand2;
+        }
+        _ => {}
     }
+    moved
 }

@@ -3,7 +3,7 @@ use crate::cuts::{by_immediate, by_register, push_block, push_number, push_step,
 use crate::plans::plan::{Plan, Way};
 use fit_code::{End, Function, Line, Step};
 use std::alloc::{AllocError, Global};
-use v8_formats::{Cond, Instr};
+use v8_formats::{Cond, Instr, Three};
 
 /// The registers that tests work with.
 const NUMBER: u8 = 5;
@@ -18,6 +18,15 @@ fn low_bits(alignment: u8) -> i32 {
         1 => 1,
         2 => 3,
         _ => 7,
+    }
+}
+
+/// The sum that gives a register back what was subtracted from it.
+fn back(register: u8, lo: i32) -> Three {
+    if (-4095..=4095).contains(&lo) {
+        by_immediate(register, REST, lo)
+    } else {
+        by_register(register, REST, FROM)
     }
 }
 
@@ -67,8 +76,7 @@ impl Frame {
             taken,
             next: function.blocks.len().saturating_add(1),
         };
-        push_block(function, steps, end, self.line)?;
-        Ok(())
+        push_block(function, steps, end, self.line)
     }
 
     /// A block that ends the run unless a register's low bits are 0.
@@ -103,31 +111,14 @@ impl Frame {
         lo: i32,
     ) -> Result<(), AllocError> {
         self.push_mask(steps, plan)?;
-        if (-4095..=4095).contains(&lo) {
-            let rest = by_immediate(REST, plan.register, lo.saturating_neg());
-            self.push(steps, Instr::Add(rest))?;
-            return self.push(behind, Instr::Add(by_immediate(plan.register, REST, lo)));
-        }
-        push_number(steps, FROM, lo, self.line)?;
-        self.push(steps, Instr::Sub(by_register(REST, plan.register, FROM)))?;
-        self.push(behind, Instr::Add(by_register(plan.register, REST, FROM)))
-    }
-
-    /// Blocks that see whether a register lies within bounds: what is left of it once their lower end is subtracted,
-    /// and it again.
-    fn push_within(
-        &self,
-        function: &mut Function,
-        plan: &Plan,
-        lo: i32,
-        length: i32,
-    ) -> Result<Vec<Step>, AllocError> {
-        let mut steps = Vec::new(self.alloc);
-        let mut behind = Vec::new(self.alloc);
-        self.push_rest(&mut steps, &mut behind, plan, lo)?;
-        self.push_compare(&mut steps, REST, length, NUMBER)?;
-        self.push_branch(function, steps, Cond::GreaterUnsigned, self.beyond)?;
-        Ok(behind)
+        let rest = if (-4095..=4095).contains(&lo) {
+            Instr::Add(by_immediate(REST, plan.register, lo.saturating_neg()))
+        } else {
+            push_number(steps, FROM, lo, self.line)?;
+            Instr::Sub(by_register(REST, plan.register, FROM))
+        };
+        self.push(steps, rest)?;
+        self.push(behind, Instr::Add(back(plan.register, lo)))
     }
 
     /// A block that gives a register back what a test by a plan took from it before it went beyond; it goes on to the
@@ -137,16 +128,35 @@ impl Frame {
         if let Way::Within { lo, .. } = plan.way
             && plan.register == REST
         {
-            let sum = if (-4095..=4095).contains(&lo) {
-                by_immediate(REST, REST, lo)
-            } else {
-                by_register(REST, REST, FROM)
-            };
-            self.push(&mut steps, Instr::Add(sum))?;
+            self.push(&mut steps, Instr::Add(back(REST, lo)))?;
         }
         let next = function.blocks.len().saturating_add(1);
-        push_block(function, steps, End::Jump(next), self.line)?;
-        Ok(())
+        push_block(function, steps, End::Jump(next), self.line)
+    }
+
+    /// The blocks of a test but for the last one, and that one's steps: what is left of a register once the lower end
+    /// of its bounds is subtracted is compared, and it is given back.
+    fn push_compares(
+        &self,
+        function: &mut Function,
+        plan: &Plan,
+        last: &mut Vec<Step>,
+    ) -> Result<(), AllocError> {
+        let mut steps = Vec::new(self.alloc);
+        let (register, most, scratch) = match plan.way {
+            Way::Never => return Ok(()),
+            Way::Known => return self.push_mask(last, plan),
+            Way::Above(hi) => {
+                self.push_mask(&mut steps, plan)?;
+                (plan.register, hi, FROM)
+            }
+            Way::Within { lo, length } => {
+                self.push_rest(&mut steps, last, plan, lo)?;
+                (REST, length, NUMBER)
+            }
+        };
+        self.push_compare(&mut steps, register, most, scratch)?;
+        self.push_branch(function, steps, Cond::GreaterUnsigned, self.beyond)
     }
 
     /// The blocks of a test, behind which control goes on to the rest. The first one of them is the function's next
@@ -156,21 +166,11 @@ impl Frame {
             self.push_low_bits(function, plan)?;
         }
         let mut last = Vec::new(self.alloc);
-        let mut end = End::Jump(self.rest);
-        match plan.way {
-            Way::Known => self.push_mask(&mut last, plan)?,
-            Way::Never => end = End::Jump(self.beyond),
-            Way::Above(hi) => {
-                let mut steps = Vec::new(self.alloc);
-                self.push_mask(&mut steps, plan)?;
-                self.push_compare(&mut steps, plan.register, hi, FROM)?;
-                self.push_branch(function, steps, Cond::GreaterUnsigned, self.beyond)?;
-            }
-            Way::Within { lo, length } => {
-                last = self.push_within(function, plan, lo, length)?;
-            }
-        }
-        push_block(function, last, end, self.line)?;
-        Ok(())
+        self.push_compares(function, plan, &mut last)?;
+        let next = match plan.way {
+            Way::Never => self.beyond,
+            _ => self.rest,
+        };
+        push_block(function, last, End::Jump(next), self.line)
     }
 }

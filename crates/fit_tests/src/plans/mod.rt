@@ -8,6 +8,6 @@ mod test;
 
 pub use divide::push_divisor_test;
 pub use insert::Frame;
-pub use plan::{Plan, Way, plan_in_constants, plan_of};
+pub use plan::{Plan, Way, plan_in, plan_in_constants};
 pub use shown::Shown;
 pub use test::{Kind, Test};

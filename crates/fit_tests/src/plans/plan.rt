@@ -1,6 +1,6 @@
 //! How an address is tested.
 use fit_code::Program;
-use fit_ranges::{Bounds, Origin, bounds_in_constants, bounds_of};
+use fit_ranges::{Bounds, Origin, bounds_in_constants};
 use sbx_range::{Range, all};
 
 /// What is asked of a register's word.
@@ -26,16 +26,6 @@ pub enum Way {
     Within { lo: i32, length: i32 },
     /// It never does.
     Never,
-}
-
-/// How many low bits are 0 in each multiple of a number above 0, at most 3.
-fn trailing(times: i64) -> u8 {
-    times.trailing_zeros().min(3) as u8
-}
-
-/// A multiple of 8 that isn't below.
-fn rounded(number: i64) -> i64 {
-    number.saturating_add(7) & -8
 }
 
 /// Numbers that are signed words, and whose difference is one.
@@ -64,17 +54,20 @@ fn way_of(range: Range, bounds: &Bounds, alignment: u8) -> Way {
         };
     }
     if bounds.object.is_none() || alignment > 0 {
-        within(rounded(lo), hi)
+        // A multiple of 8 that isn't below.
+        within(lo.saturating_add(7) & -8, hi)
     } else {
         within(lo, hi)
     }
 }
 
-/// How it is seen that an origin's word lies in bounds, for an address that has to be a multiple of 2 to the power
-/// `needed`.
-fn plan_in(origin: &Origin, bounds: Bounds, needed: u8) -> Plan {
+/// How an access is tested by the register that its address is worked out from, whose word has to lie in bounds, where
+/// the address has to be a multiple of 2 to the power `needed`.
+pub fn plan_in(origin: &Origin, bounds: Bounds, needed: u8) -> Plan {
     let range = origin.range.unwrap_or(all(0));
-    let needed = needed.saturating_sub(trailing(origin.times));
+    // So many low bits are 0 in each multiple of the factor.
+    let trailing = origin.times.trailing_zeros().min(3) as u8;
+    let needed = needed.saturating_sub(trailing);
     let alignment = if range.alignment < needed { needed } else { 0 };
     Plan {
         register: origin.register,
@@ -83,12 +76,6 @@ fn plan_in(origin: &Origin, bounds: Bounds, needed: u8) -> Plan {
         alignment,
         way: way_of(range, &bounds, alignment),
     }
-}
-
-/// How an access of so many bytes is tested by the register that its address is worked out from, where the address
-/// has to be a multiple of 2 to the power `needed`.
-pub fn plan_of(program: &Program, origin: &Origin, size: u32, needed: u8) -> Plan {
-    plan_in(origin, bounds_of(program, origin, i64::from(size)), needed)
 }
 
 /// How a load is tested where it doesn't lie in the data that may be written: among the constants. Nothing where there

@@ -123,10 +123,10 @@ fn take_division(block: &mut Block, writer: usize, place: usize) -> Option<[Step
     Some([write, division])
 }
 
-/// Puts a step before the first one of a block, if there is such a block.
-fn put_first(code: &mut Function, block: usize, step: &Step) -> Result<(), AllocError> {
+/// Puts a step before that of a place of a block, if there is such a block.
+fn put(code: &mut Function, block: usize, place: usize, step: Step) -> Result<(), AllocError> {
     match code.blocks.get_mut(block) {
-        Some(block) => insert_step(block, 0, *step),
+        Some(block) => insert_step(block, place, step),
         None => Ok(()),
     }
 }
@@ -239,12 +239,14 @@ fn copy_steps(
     let Some(block) = code.blocks.get(number) else {
         return Ok(number);
     };
-    let (end, slot, line) = (block.end, block.slot, block.line);
-    let steps = Vec::from_slice(alloc, block.steps.as_slice())?;
-    let copy = push_block(code, steps, end, line)?;
-    if let Some(block) = code.blocks.get_mut(copy) {
-        block.slot = slot;
-    }
+    let copied = Block {
+        steps: Vec::from_slice(alloc, block.steps.as_slice())?,
+        end: block.end,
+        slot: block.slot,
+        line: block.line,
+    };
+    let copy = code.blocks.len();
+    code.blocks.push(copied)?;
     Ok(copy)
 }
 
@@ -282,6 +284,12 @@ impl Tests {
         }
     }
 
+    /// A block is changed.
+    pub(crate) fn change(&mut self, function: usize, block: usize) -> Result<(), AllocError> {
+        self.changed.push((function, block))?;
+        Ok(())
+    }
+
     /// The block that ends the run for tests of a kind in a line.
     fn exit_of(
         &mut self,
@@ -299,7 +307,8 @@ impl Tests {
         let word = kind.number().saturating_mul(65_536).saturating_add(number);
         let mut steps = Vec::new(self.alloc);
         push_number(&mut steps, 8, word, line)?;
-        let block = push_block(code, steps, End::Exit, line)?;
+        let block = code.blocks.len();
+        push_block(code, steps, End::Exit, line)?;
         self.exits.push(Exit {
             function,
             kind,
@@ -331,11 +340,8 @@ impl Tests {
             ));
         }
         self.cleared.push((function, location))?;
-        if let Some(block) = code.blocks.get_mut(0) {
-            insert_step(block, 0, clear_step(location, line))?;
-        }
-        self.changed.push((function, 0))?;
-        Ok(())
+        put(code, 0, 0, clear_step(location, line))?;
+        Ok(self.change(function, 0)?)
     }
 
     /// Makes a location 0 before a step.
@@ -346,11 +352,24 @@ impl Tests {
         ask: &Ask,
         location: u16,
     ) -> Result<(), AllocError> {
-        if let Some(block) = code.blocks.get_mut(ask.block) {
-            insert_step(block, ask.place, clear_step(location, ask.line))?;
+        put(code, ask.block, ask.place, clear_step(location, ask.line))?;
+        self.change(function, ask.block)
+    }
+
+    /// The block of an ask is changed, or can't be.
+    fn finish(
+        &mut self,
+        code: &Function,
+        function: usize,
+        ask: &Ask,
+        is_done: bool,
+        what: &'static str,
+    ) -> Result<(), Fault> {
+        if is_done {
+            Ok(self.change(function, ask.block)?)
+        } else {
+            Err(refused(self.alloc, code, ask.line, what))
         }
-        self.changed.push((function, ask.block))?;
-        Ok(())
     }
 
     /// Sets codes again behind a block's last step, that a test before it may stand between.
@@ -360,12 +379,8 @@ impl Tests {
             Some(block) => repeat_codes(frame, block)?,
             None => false,
         };
-        if !is_done {
-            let what = "no place for a test: codes, Y or scratch registers are in use";
-            return Err(refused(self.alloc, code, ask.line, what));
-        }
-        self.changed.push((function, ask.block))?;
-        Ok(())
+        let what = "no place for a test: codes, Y or scratch registers are in use";
+        self.finish(code, function, ask, is_done, what)
     }
 
     /// Puts the sum of an access's parts into one register, that may then be tested.
@@ -380,16 +395,8 @@ impl Tests {
             Some(block) => sum_address(frame, block, ask.place)?,
             None => false,
         };
-        if !is_done {
-            return Err(refused(
-                self.alloc,
-                code,
-                ask.line,
-                "an address that can't be tested",
-            ));
-        }
-        self.changed.push((function, ask.block))?;
-        Ok(())
+        let what = "an address that can't be tested";
+        self.finish(code, function, ask, is_done, what)
     }
 
     /// Cuts a block at a place for the test of an address.
@@ -428,8 +435,7 @@ impl Tests {
         }
         self.list
             .push(address_test(function, ask, access, plan, (head, rest)))?;
-        self.changed.push((function, ask.block))?;
-        Ok(())
+        self.change(function, ask.block)
     }
 
     /// Tests an address, by what it is worked out from.
@@ -511,7 +517,7 @@ impl Tests {
             return Ok(());
         };
         if is_shared {
-            put_first(code, rest, &steps[0])?;
+            put(code, rest, 0, steps[0])?;
         }
         let frame = Frame {
             alloc: self.alloc,
@@ -524,7 +530,6 @@ impl Tests {
         let last = code.blocks.len().saturating_sub(1);
         self.list
             .push(divisor_test(function, ask, register, range, (head, last)))?;
-        self.changed.push((function, ask.block))?;
-        Ok(())
+        self.change(function, ask.block)
     }
 }

@@ -1,13 +1,13 @@
 //! Tests put into a program until nothing is left that isn't shown.
 use crate::asks::{Access, Ask, Asking, Lack, asks_of, needed_alignment, shorter_sums};
 use crate::cuts::{by_immediate, drop_compare};
-use crate::plans::{Kind, Test, plan_in_constants, plan_of};
+use crate::plans::{Kind, Test, plan_in, plan_in_constants};
 use crate::settling::answers::{Planned, SUM, Tests, says_nothing};
 use fit_cells::range_in;
 use fit_code::{End, Fault, Function, NO_LINE, Program, Reason};
-use fit_ranges::{Origin, Ranges, operands_of};
+use fit_ranges::{Origin, Ranges, bounds_of, operands_of};
 use sbx_domain::State;
-use sbx_range::{Range, excludes_zero};
+use sbx_range::excludes_zero;
 use std::alloc::AllocError;
 use v8_formats::{Instr, Operand};
 
@@ -16,22 +16,11 @@ const ROUNDS: u32 = 1_000;
 
 const DROPS: u32 = 4;
 
-/// Whether a range shows what a test asks for.
-fn shows(test: &Test, range: Range) -> bool {
-    match test.kind {
-        Kind::Divisor => excludes_zero(range),
-        Kind::Index | Kind::Pointer => {
-            test.lo <= i64::from(range.lo)
-                && i64::from(range.hi) <= test.hi
-                && test.alignment <= range.alignment
-        }
-    }
-}
-
 /// An origin with its plans.
 fn with_plan(asking: &Asking, access: &Access, origin: Origin) -> Planned {
     let (program, needed) = (asking.program, needed_alignment(access.size));
-    let plan = plan_of(program, &origin, access.size, needed);
+    let bounds = bounds_of(program, &origin, i64::from(access.size));
+    let plan = plan_in(&origin, bounds, needed);
     let constants = if access.writes {
         None
     } else {
@@ -100,6 +89,34 @@ impl Tests {
         }
     }
 
+    /// Answers one ask of a function, unless its block is changed already, or its register and object are among keys,
+    /// to which they are added.
+    fn answer_once(
+        &mut self,
+        program: &mut Program,
+        ranges: &Ranges,
+        function: usize,
+        ask: &Ask,
+        keys: &mut Vec<(u8, Option<usize>)>,
+    ) -> Result<(), Fault> {
+        let is_changed = self.changed.contains(&(function, ask.block));
+        if is_changed && !matches!(ask.lack, Lack::Defined(_)) {
+            return Ok(());
+        }
+        let planned = planned(&self.asking(program, ranges), function, ask);
+        if let Some(planned) = &planned {
+            let key = (planned.origin.register, planned.plan.bounds.object);
+            if keys.contains(&key) {
+                return Ok(());
+            }
+            keys.push(key)?;
+        }
+        match program.functions.get_mut(function) {
+            Some(code) => self.answer(code, function, ask, planned),
+            None => Ok(()),
+        }
+    }
+
     /// Answers what isn't shown of a function, once in each of its blocks, and once for each register and object.
     fn answer_function(
         &mut self,
@@ -108,26 +125,10 @@ impl Tests {
         function: usize,
         state: &mut State,
     ) -> Result<(), Fault> {
-        let mut keys: Vec<(u8, Option<usize>)> = Vec::new(self.alloc);
         let asks = asks_of(&self.asking(program, ranges), function, state)?;
+        let mut keys: Vec<(u8, Option<usize>)> = Vec::new(self.alloc);
         for ask in &asks {
-            let planned = planned(&self.asking(program, ranges), function, ask);
-            let key = match &planned {
-                Some(planned) => Some((planned.origin.register, planned.plan.bounds.object)),
-                None => None,
-            };
-            let is_asked = matches!(&key, Some(key) if keys.contains(key));
-            let is_changed = self.changed.contains(&(function, ask.block));
-            let is_entry = matches!(ask.lack, Lack::Defined(_));
-            if !is_asked
-                && (is_entry || !is_changed)
-                && let Some(code) = program.functions.get_mut(function)
-            {
-                if let Some(key) = key {
-                    keys.push(key)?;
-                }
-                self.answer(code, function, ask, planned)?;
-            }
+            self.answer_once(program, ranges, function, ask, &mut keys)?;
         }
         Ok(())
     }
@@ -152,7 +153,7 @@ impl Tests {
                     fields.rs1.number(),
                     sum.number,
                 ));
-                self.changed.push((function, sum.block))?;
+                self.change(function, sum.block)?;
             }
         }
         Ok(())
@@ -169,12 +170,19 @@ impl Tests {
 
     /// Whether a test isn't needed, by what is known where it begins.
     fn is_needless(&self, test: &Test, ranges: &Ranges) -> bool {
-        match ranges.cells(test.function, test.head) {
-            Some(cells) => match range_in(cells, test.register) {
-                Some(range) => shows(test, range),
-                None => false,
-            },
-            None => true,
+        let Some(cells) = ranges.cells(test.function, test.head) else {
+            return true;
+        };
+        let Some(range) = range_in(cells, test.register) else {
+            return false;
+        };
+        match test.kind {
+            Kind::Divisor => excludes_zero(range),
+            Kind::Index | Kind::Pointer => {
+                test.lo <= i64::from(range.lo)
+                    && i64::from(range.hi) <= test.hi
+                    && test.alignment <= range.alignment
+            }
         }
     }
 
@@ -185,7 +193,7 @@ impl Tests {
         {
             block.steps.clear();
             block.end = End::Jump(test.rest);
-            self.changed.push((test.function, test.head))?;
+            self.change(test.function, test.head)?;
         }
         Ok(())
     }
@@ -222,7 +230,7 @@ impl Tests {
                 if first != second {
                     block.end = End::Jump(if first { taken } else { next });
                     drop_compare(block);
-                    self.changed.push((function, number))?;
+                    self.change(function, number)?;
                 }
             }
         }
