@@ -1,7 +1,7 @@
 //! Data: labels, values, strings, room.
 use crate::source::{Datum, Fix, Source, SymbolPlace};
 use crate::strings::push_string;
-use crate::text::{expression_of, first_operand, is_name, number_of, unquoted};
+use crate::text::{expression_of, first_operand, is_name, number_of};
 use fit_code::{Fault, Naming, Reason};
 
 /// How many bytes all regions of an image have at most.
@@ -12,7 +12,8 @@ const PAGE: i64 = 4_096;
 
 impl Source {
     /// A label in the data: an object begins there, but where nothing stands between it and the one before.
-    pub(crate) fn label_data(&mut self, symbol: usize, readonly: bool) -> Result<(), Fault> {
+    pub(crate) fn label_data(&mut self, name: &[u8], readonly: bool) -> Result<(), Fault> {
+        let symbol = self.symbol(name)?;
         if let Some(number) = self.object
             && let Some(object) = self.objects.get(number)
             && object.bytes.is_empty()
@@ -39,64 +40,50 @@ impl Source {
         Ok(())
     }
 
-    /// Counts bytes that are to be added, as many as there may be.
-    fn count(&mut self, bytes: usize) -> Result<(), Fault> {
+    /// The object that is read, to which so many bytes are to be added: as many as all may have, and it has a label.
+    fn growing(&mut self, bytes: usize) -> Result<&mut Vec<u8>, Fault> {
+        let line = self.line();
         self.total = self.total.saturating_add(bytes);
-        if self.total > BYTES {
-            return Err(self.fault(Reason::TooMany {
+        let reason = if self.total > BYTES {
+            Reason::TooMany {
                 what: "bytes of data",
                 most: 262_144,
-            }));
-        }
-        Ok(())
+            }
+        } else if let Some(number) = self.object
+            && let Some(object) = self.objects.get_mut(number)
+        {
+            return Ok(&mut object.bytes);
+        } else {
+            Reason::Unreadable("data without a label")
+        };
+        Err(Fault::new(line, reason))
     }
 
     /// Adds so many zeros to the object that is read.
     fn add_zeros(&mut self, bytes: usize) -> Result<(), Fault> {
-        self.count(bytes)?;
-        let Some(number) = self.object else {
-            return Err(self.fault(Reason::Unreadable("data without a label")));
-        };
-        if let Some(object) = self.objects.get_mut(number) {
-            let length = object.bytes.len().saturating_add(bytes);
-            object.bytes.resize(length, 0)?;
-        }
-        Ok(())
-    }
-
-    /// How many bytes an object has by now.
-    fn length_of(&self, number: usize) -> usize {
-        match self.objects.get(number) {
-            Some(object) => object.bytes.len(),
-            None => 0,
-        }
+        let held = self.growing(bytes)?;
+        let length = held.len().saturating_add(bytes);
+        Ok(held.resize(length, 0)?)
     }
 
     /// Aligns what is added next within the object that is read.
     fn pad(&mut self) -> Result<(), Fault> {
         let align = self.align as usize;
         self.align = 1;
-        let length = match self.object {
-            Some(number) => self.length_of(number),
-            None => 0,
-        };
-        match length.checked_rem(align) {
-            Some(over) if over > 0 => self.add_zeros(align.saturating_sub(over)),
-            _ => Ok(()),
+        if let Some(number) = self.object
+            && let Some(object) = self.objects.get(number)
+            && let Some(over) = object.bytes.len().checked_rem(align)
+            && over > 0
+        {
+            return self.add_zeros(align.saturating_sub(over));
         }
+        Ok(())
     }
 
     /// Adds bytes to the object that is read.
     fn add_bytes(&mut self, bytes: &[u8]) -> Result<(), Fault> {
         self.pad()?;
-        self.count(bytes.len())?;
-        let Some(number) = self.object else {
-            return Err(self.fault(Reason::Unreadable("data without a label")));
-        };
-        if let Some(object) = self.objects.get_mut(number) {
-            object.bytes.extend_from_slice(bytes)?;
-        }
-        Ok(())
+        Ok(self.growing(bytes.len())?.extend_from_slice(bytes)?)
     }
 
     /// Notes that the word to be added next holds an address.
@@ -119,24 +106,20 @@ impl Source {
     }
 
     /// One value of so many bytes, the most significant byte first.
-    fn value(&mut self, size: usize, text: &[u8]) -> Result<(), Fault> {
+    pub(crate) fn value(&mut self, size: usize, text: &[u8]) -> Result<(), Fault> {
         let Some((name, number)) = expression_of(text) else {
             return Err(self.fault(Reason::Unreadable(
                 "a value that is no number, name or name and number",
             )));
-        };
-        let bytes = (number as i128).rem_euclid(0x1_0000_0000) as u32;
-        let bytes = if name.is_empty() {
-            bytes.to_be_bytes()
-        } else {
-            [0; 4]
         };
         if !name.is_empty() {
             if size != 4 {
                 return Err(self.fault(Reason::Unreadable("an address that is no word")));
             }
             self.add_fix(name, number)?;
+            return self.add_bytes(&[0; 4]);
         }
+        let bytes = ((number as i128).rem_euclid(0x1_0000_0000) as u32).to_be_bytes();
         match size {
             1 => self.add_bytes(&bytes[3..]),
             2 => self.add_bytes(&bytes[2..]),
@@ -144,48 +127,13 @@ impl Source {
         }
     }
 
-    /// Values with commas between them.
-    pub(crate) fn values(&mut self, size: usize, text: &[u8]) -> Result<(), Fault> {
-        let mut rest = text;
-        for _ in 0..text.len() {
-            let (first, others) = first_operand(rest);
-            self.value(size, first)?;
-            rest = others;
-            if rest.is_empty() {
-                break;
-            }
-        }
-        Ok(())
-    }
-
     /// One string, with a zero behind it or not.
-    fn string(&mut self, ends: bool, text: &[u8]) -> Result<(), Fault> {
+    pub(crate) fn string(&mut self, ends: bool, text: &[u8]) -> Result<(), Fault> {
         let mut bytes = Vec::new(self.alloc);
-        let is_read = match unquoted(text) {
-            Some(inner) => push_string(inner, &mut bytes)?,
-            None => false,
-        };
-        if !is_read {
+        if !push_string(text, ends, &mut bytes)? {
             return Err(self.fault(Reason::Unreadable("a string that can't be read")));
         }
-        if ends {
-            bytes.push(0)?;
-        }
         self.add_bytes(bytes.as_slice())
-    }
-
-    /// Strings with commas between them.
-    pub(crate) fn strings(&mut self, ends: bool, text: &[u8]) -> Result<(), Fault> {
-        let mut rest = text;
-        for _ in 0..text.len() {
-            let (first, others) = first_operand(rest);
-            self.string(ends, first)?;
-            rest = others;
-            if rest.is_empty() {
-                break;
-            }
-        }
-        Ok(())
     }
 
     /// A number from 0 up to a bound.

@@ -4,6 +4,17 @@ use crate::text::{first_operand, first_word, is_name, number_of, unquoted};
 use fit_code::{Fault, Line, Naming, Reason};
 use v8_syntax::beside;
 
+/// The last name of a path.
+fn base_name(path: &[u8]) -> &[u8] {
+    let mut start: usize = 0;
+    for (place, byte) in path.iter().enumerate() {
+        if *byte == b'/' {
+            start = place.saturating_add(1);
+        }
+    }
+    path.get(start..).unwrap_or(&[])
+}
+
 /// What a directive asks for.
 #[derive(Clone, Copy)]
 enum Directive {
@@ -82,31 +93,21 @@ static SECTIONS: [(&str, Section); 11] = [
     (".eh_frame", Section::Ignored),
 ];
 
-fn section_named(name: &[u8]) -> Option<Section> {
-    for (start, section) in &SECTIONS {
-        if name.starts_with(start.as_bytes()) {
-            return Some(*section);
-        }
-    }
-    None
-}
-
 impl Source {
     fn section_line(&mut self, text: &[u8]) -> Result<(), Fault> {
         let (first, _) = first_operand(text);
         let name = unquoted(first).unwrap_or(first);
-        let Some(section) = section_named(name) else {
-            return Err(self.named(Naming::Section, name));
-        };
-        self.enter(section);
-        Ok(())
+        for (start, section) in &SECTIONS {
+            if name.starts_with(start.as_bytes()) {
+                self.enter(*section);
+                return Ok(());
+            }
+        }
+        Err(self.named(Naming::Section, name))
     }
 
     /// `NAME` is the same in all files.
     fn global(&mut self, text: &[u8]) -> Result<(), Fault> {
-        if !is_name(text) {
-            return Err(self.named(Naming::Label, text));
-        }
         let symbol = self.symbol(text)?;
         if let Some(found) = self.symbols.get_mut(symbol) {
             found.is_global = true;
@@ -117,14 +118,13 @@ impl Source {
     /// `NAME,#function`, or `@function`; other types don't matter.
     fn type_line(&mut self, text: &[u8]) -> Result<(), Fault> {
         let (name, kind) = first_operand(text);
-        if !is_name(name) {
-            return Err(self.named(Naming::Label, name));
-        }
         if kind.ends_with(b"function") {
             let symbol = self.symbol(name)?;
             if let Some(found) = self.symbols.get_mut(symbol) {
                 found.is_function = true;
             }
+        } else if !is_name(name) {
+            return Err(self.named(Naming::Label, name));
         }
         Ok(())
     }
@@ -142,7 +142,7 @@ impl Source {
             first_word(second).0
         };
         let path = unquoted(path).unwrap_or(path);
-        let file = self.add_file(Source::base_name(path))?;
+        let file = self.add_file(base_name(path))?;
         self.numbered.insert(number, file)?;
         Ok(())
     }
@@ -164,14 +164,30 @@ impl Source {
         }
     }
 
+    /// Values or strings, with commas between them.
+    fn data_list(&mut self, directive: Directive, text: &[u8]) -> Result<(), Fault> {
+        let mut rest = text;
+        for _ in 0..text.len() {
+            let (first, others) = first_operand(rest);
+            match directive {
+                Directive::Values(size) => self.value(size, first)?,
+                Directive::Strings { ends } => self.string(ends, first)?,
+                _ => {}
+            }
+            rest = others;
+            if rest.is_empty() {
+                break;
+            }
+        }
+        Ok(())
+    }
+
     fn data_line(&mut self, directive: Directive, text: &[u8]) -> Result<(), Fault> {
         match directive {
             Directive::Align => self.aligned(text, false),
             Directive::PowerAlign => self.aligned(text, true),
-            Directive::Values(size) => self.values(size, text),
-            Directive::Strings { ends } => self.strings(ends, text),
             Directive::Room => self.room(text),
-            _ => Ok(()),
+            _ => self.data_list(directive, text),
         }
     }
 
@@ -198,7 +214,7 @@ impl Source {
     /// A directive, and what stands behind it.
     pub(crate) fn directive(&mut self, name: &[u8], text: &[u8]) -> Result<(), Fault> {
         let Some(found) = beside(name, &DIRECTIVES) else {
-            if self.section == Section::Ignored || name.starts_with(b".cfi_") {
+            if matches!(self.section, Section::Ignored) || name.starts_with(b".cfi_") {
                 return Ok(());
             }
             return Err(self.named(Naming::Directive, name));

@@ -50,10 +50,13 @@ fn closing_from(text: &[u8], start: usize) -> Option<usize> {
 /// A part of an address among operands: where it begins, where its parenthesis closes, and which one it is.
 fn part_in(text: &[u8]) -> Option<(usize, usize, Part)> {
     for start in 0..text.len() {
-        let part = match bytes_between(text, start, start.saturating_add(4)) {
-            b"%hi(" => Part::High,
-            b"%lo(" => Part::Low,
-            _ => continue,
+        let rest = bytes_between(text, start, text.len());
+        let part = if rest.starts_with(b"%hi(") {
+            Part::High
+        } else if rest.starts_with(b"%lo(") {
+            Part::Low
+        } else {
+            continue;
         };
         return Some((start, closing_from(text, start)?, part));
     }
@@ -72,10 +75,6 @@ fn names_float(text: &[u8]) -> bool {
     false
 }
 
-fn is_floating(word: &[u8], text: &[u8]) -> bool {
-    (word.starts_with(b"f") && !is_same(word, b"flush")) || names_float(text)
-}
-
 /// Whether a number has zeros in front, which would make it octal.
 fn has_octal(text: &[u8]) -> bool {
     let mut before = b' ';
@@ -90,39 +89,46 @@ fn has_octal(text: &[u8]) -> bool {
     false
 }
 
+/// Mnemonics that begin as branches do, and are none.
+static BITS: [&str; 4] = ["btst", "bset", "bclr", "btog"];
+
 fn is_branch(word: &[u8]) -> bool {
-    word.starts_with(b"b") && !matches!(word, b"btst" | b"bset" | b"bclr" | b"btog")
+    for other in &BITS {
+        if is_same(word, other.as_bytes()) {
+            return false;
+        }
+    }
+    word.starts_with(b"b")
 }
 
-/// A statement with a blank between its parts.
-fn push_statement(word: &[u8], text: &[u8], out: &mut Vec<u8>) -> Result<(), AllocError> {
+/// Appends the text of a statement: its mnemonic, and its operands in pieces.
+fn push_statement(word: &[u8], pieces: &[&[u8]], out: &mut Vec<u8>) -> Result<(), AllocError> {
     out.extend_from_slice(word)?;
     out.push(b' ')?;
-    out.extend_from_slice(text)?;
+    for piece in pieces {
+        out.extend_from_slice(piece)?;
+    }
     Ok(())
 }
 
 impl Source {
-    /// A statement of the source language, which has no name in it; of a reference its number is a part.
-    fn statement(
+    /// The fault of a mnemonic or of its operands.
+    fn misread(&self, word: &[u8], fault: SyntaxFault) -> Fault {
+        let naming = match fault {
+            SyntaxFault::UnknownMnemonic => Naming::Instruction,
+            _ => Naming::Operands,
+        };
+        self.named(naming, word)
+    }
+
+    /// Adds instructions, of a reference whose number is a part of theirs.
+    fn add_instructions(
         &mut self,
-        word: &[u8],
-        line: &[u8],
+        instructions: &[Instr],
         reference: Option<Reference>,
     ) -> Result<(), Fault> {
-        let mut tokens = Vec::new(self.alloc);
-        match push_tokens(line, &mut tokens) {
-            Ok(()) => {}
-            Err(TextFault::Memory(want)) => return Err(self.fault(Reason::Memory(want))),
-            Err(_) => return Err(self.named(Naming::Operands, word)),
-        }
-        let found = match parse_instr(line, tokens.as_slice(), &Nameless) {
-            Ok(found) => found,
-            Err(SyntaxFault::UnknownMnemonic) => return Err(self.named(Naming::Instruction, word)),
-            Err(_) => return Err(self.named(Naming::Operands, word)),
-        };
         let line = self.line();
-        for instr in found.as_slice() {
+        for instr in instructions {
             self.add_item(&Item::Instr {
                 word: encode(instr),
                 line,
@@ -130,6 +136,28 @@ impl Source {
             })?;
         }
         Ok(())
+    }
+
+    /// A statement of the source language, which has no name in it, with its operands in pieces; of a reference its
+    /// number is a part.
+    fn statement(
+        &mut self,
+        word: &[u8],
+        pieces: &[&[u8]],
+        reference: Option<Reference>,
+    ) -> Result<(), Fault> {
+        let mut line = Vec::new(self.alloc);
+        push_statement(word, pieces, &mut line)?;
+        let mut tokens = Vec::new(self.alloc);
+        match push_tokens(line.as_slice(), &mut tokens) {
+            Ok(()) => {}
+            Err(TextFault::Memory(want)) => return Err(self.fault(Reason::Memory(want))),
+            Err(_) => return Err(self.named(Naming::Operands, word)),
+        }
+        match parse_instr(line.as_slice(), tokens.as_slice(), &Nameless) {
+            Ok(found) => self.add_instructions(found.as_slice(), reference),
+            Err(fault) => Err(self.misread(word, fault)),
+        }
     }
 
     /// The symbol that a branch or a call goes to.
@@ -149,20 +177,13 @@ impl Source {
         if text.starts_with(b"%") {
             return Err(self.fault(Reason::CallThroughPointer));
         }
-        let reference = Some(self.target(word, text)?);
-        let line = self.line();
-        self.add_item(&Item::Instr {
-            word: encode(&Instr::Call(0)),
-            line,
-            reference,
-        })
+        let reference = self.target(word, text)?;
+        self.add_instructions(&[Instr::Call(0)], Some(reference))
     }
 
     fn branch(&mut self, word: &[u8], text: &[u8]) -> Result<(), Fault> {
         let reference = self.target(word, text)?;
-        let mut line = Vec::new(self.alloc);
-        push_statement(word, b"0", &mut line)?;
-        self.statement(word, line.as_slice(), Some(reference))
+        self.statement(word, &[b"0"], Some(reference))
     }
 
     /// A statement with `%hi(..)` or `%lo(..)` in it.
@@ -177,39 +198,30 @@ impl Source {
         let Some((name, offset)) = expression_of(inner.trim_ascii()) else {
             return Err(self.named(Naming::Operands, word));
         };
-        let mut line = Vec::new(self.alloc);
-        push_statement(word, bytes_between(text, 0, start), &mut line)?;
-        line.push(b'0')?;
-        line.extend_from_slice(bytes_between(text, end.saturating_add(1), text.len()))?;
-        if name.is_empty() {
-            return self.numbered_statement(word, line.as_slice(), part, offset);
+        let before = bytes_between(text, 0, start);
+        let pieces = [
+            before,
+            b"0",
+            bytes_between(text, end.saturating_add(1), text.len()),
+        ];
+        if !name.is_empty() {
+            let symbol = self.symbol(name)?;
+            let reference = Reference {
+                part,
+                symbol,
+                offset,
+            };
+            return self.statement(word, &pieces, Some(reference));
         }
-        let symbol = self.symbol(name)?;
-        let reference = Reference {
-            part,
-            symbol,
-            offset,
-        };
-        self.statement(word, line.as_slice(), Some(reference))
-    }
-
-    /// A statement whose number is a part of a number.
-    fn numbered_statement(
-        &mut self,
-        word: &[u8],
-        line: &[u8],
-        part: Part,
-        number: i64,
-    ) -> Result<(), Fault> {
-        self.statement(word, line, None)?;
-        let number = (number as i128).rem_euclid(0x1_0000_0000) as u32;
+        self.statement(word, &pieces, None)?;
+        let number = (offset as i128).rem_euclid(0x1_0000_0000) as u32;
         self.fill_last(part, number);
         Ok(())
     }
 
     /// An instruction, and what stands behind its mnemonic.
     pub(crate) fn instruction(&mut self, word: &[u8], text: &[u8]) -> Result<(), Fault> {
-        if is_floating(word, text) {
+        if (word.starts_with(b"f") && !is_same(word, b"flush")) || names_float(text) {
             return Err(self.named(Naming::Floating, word));
         }
         if has_octal(text) {
@@ -223,11 +235,7 @@ impl Source {
         }
         match part_in(text) {
             Some(place) => self.relocated(word, text, place),
-            None => {
-                let mut line = Vec::new(self.alloc);
-                push_statement(word, text, &mut line)?;
-                self.statement(word, line.as_slice(), None)
-            }
+            None => self.statement(word, &[text], None),
         }
     }
 }

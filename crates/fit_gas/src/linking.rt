@@ -13,23 +13,23 @@ pub struct Linked {
 impl Linked {
     /// Where a symbol stands.
     pub fn place(&self, symbol: usize) -> SymbolPlace {
-        self.places
-            .get(symbol)
-            .copied()
-            .unwrap_or(SymbolPlace::Nowhere)
+        match self.places.get(symbol) {
+            Some(place) => *place,
+            None => SymbolPlace::Nowhere,
+        }
     }
 }
 
 /// The global names that stand somewhere.
 fn globals(alloc: Global, source: &Source) -> Result<BTreeMap<String, SymbolPlace>, Fault> {
     let mut found: BTreeMap<String, SymbolPlace> = BTreeMap::new(alloc);
-    for symbol in source.symbols.iter() {
-        if symbol.is_global && symbol.place != SymbolPlace::Nowhere {
-            if found.contains_key(symbol.name.as_str()) {
-                let name = symbol.name.clone()?;
+    for symbol in &source.symbols {
+        if symbol.is_global && !matches!(symbol.place, SymbolPlace::Nowhere) {
+            let name = symbol.name.clone()?;
+            if found.contains_key(name.as_str()) {
                 return Err(Fault::new(symbol.line, Reason::Named(Naming::DefinedTwice, name)));
             }
-            found.insert(symbol.name.clone()?, symbol.place)?;
+            found.insert(name, symbol.place)?;
         }
     }
     Ok(found)
@@ -42,12 +42,12 @@ fn globals(alloc: Global, source: &Source) -> Result<BTreeMap<String, SymbolPlac
 pub fn links_of(alloc: Global, source: &Source) -> Result<Linked, Fault> {
     let globals = globals(alloc, source)?;
     let mut places = Vec::new(alloc);
-    for symbol in source.symbols.iter() {
+    for symbol in &source.symbols {
         let place = match symbol.place {
-            SymbolPlace::Nowhere => globals
-                .get(symbol.name.as_str())
-                .copied()
-                .unwrap_or(SymbolPlace::Nowhere),
+            SymbolPlace::Nowhere => match globals.get(symbol.name.as_str()) {
+                Some(place) => *place,
+                None => SymbolPlace::Nowhere,
+            },
             place => place,
         };
         places.push(place)?;

@@ -2,9 +2,8 @@
 use crate::instructions::with_part;
 use crate::text::{content, first_label, first_word, is_name, shown};
 use fit_code::{Fault, Line, Naming, Reason};
-use std::alloc::{AllocError, Global};
+use std::alloc::Global;
 use std::collections::BTreeMap;
-use v8_syntax::bytes_between;
 
 /// How many names there may be.
 const NAMES: usize = 200_000;
@@ -13,7 +12,7 @@ const NAMES: usize = 200_000;
 const ITEMS: usize = 400_000;
 
 /// The part of an address that an instruction takes.
-#[derive(Clone, Copy, PartialEq, Eq)]
+#[derive(Clone, Copy)]
 pub enum Part {
     /// The place that a branch or a call goes to.
     Target,
@@ -71,7 +70,7 @@ pub struct Datum {
 }
 
 /// Where a symbol stands.
-#[derive(Clone, Copy, PartialEq, Eq)]
+#[derive(Clone, Copy)]
 pub enum SymbolPlace {
     /// In no file so far.
     Nowhere,
@@ -96,7 +95,7 @@ pub struct Symbol {
 }
 
 /// What lines of assembly belong to.
-#[derive(Clone, Copy, PartialEq, Eq)]
+#[derive(Clone, Copy)]
 pub enum Section {
     Code,
     Data { readonly: bool },
@@ -131,14 +130,6 @@ pub struct Source {
     place: Line,
     /// The line of C, where one is known.
     pub(crate) origin: Option<Line>,
-}
-
-/// Adds a label or an instruction to the function of a number.
-fn push_item(codes: &mut Vec<Code>, number: usize, item: &Item) -> Result<(), AllocError> {
-    if let Some(code) = codes.get_mut(number) {
-        code.items.push(*item)?;
-    }
-    Ok(())
 }
 
 impl Source {
@@ -194,8 +185,11 @@ impl Source {
         Ok(number)
     }
 
-    /// The symbol of a name in the file that is read.
+    /// The symbol of a name in the file that is read; it has to be one.
     pub(crate) fn symbol(&mut self, name: &[u8]) -> Result<usize, Fault> {
+        if !is_name(name) {
+            return Err(self.named(Naming::Label, name));
+        }
         let text = shown(name);
         if let Some(number) = self.names.get(text) {
             return Ok(*number);
@@ -224,7 +218,7 @@ impl Source {
     pub(crate) fn define(&mut self, symbol: usize, place: SymbolPlace) -> Result<(), Fault> {
         let line = self.line();
         if let Some(found) = self.symbols.get_mut(symbol) {
-            if found.place != SymbolPlace::Nowhere {
+            if !matches!(found.place, SymbolPlace::Nowhere) {
                 let name = found.name.clone()?;
                 return Err(Fault::new(line, Reason::Named(Naming::DefinedTwice, name)));
             }
@@ -233,8 +227,8 @@ impl Source {
         Ok(())
     }
 
-    /// Counts a label or an instruction, as many as there may be.
-    fn count_item(&mut self) -> Result<(), Fault> {
+    /// Adds a label or an instruction to the function that is read, as many as there may be.
+    pub(crate) fn add_item(&mut self, item: &Item) -> Result<(), Fault> {
         if self.items >= ITEMS {
             return Err(self.fault(Reason::TooMany {
                 what: "labels and instructions",
@@ -242,16 +236,13 @@ impl Source {
             }));
         }
         self.items = self.items.saturating_add(1);
-        Ok(())
-    }
-
-    /// Adds a label or an instruction to the function that is read.
-    pub(crate) fn add_item(&mut self, item: &Item) -> Result<(), Fault> {
-        self.count_item()?;
-        match self.code {
-            Some(number) => Ok(push_item(&mut self.codes, number, item)?),
-            None => Err(self.fault(Reason::Unreadable("an instruction outside of a function"))),
+        let Some(number) = self.code else {
+            return Err(self.fault(Reason::Unreadable("an instruction outside of a function")));
+        };
+        if let Some(code) = self.codes.get_mut(number) {
+            code.items.push(*item)?;
         }
+        Ok(())
     }
 
     /// Puts a number into the instruction that was added last.
@@ -266,7 +257,8 @@ impl Source {
     }
 
     /// A label in the code: of a function, which begins there, or within one.
-    fn label_code(&mut self, symbol: usize) -> Result<(), Fault> {
+    fn label_code(&mut self, name: &[u8]) -> Result<(), Fault> {
+        let symbol = self.symbol(name)?;
         let begins = match self.symbols.get(symbol) {
             Some(found) => found.is_function,
             None => false,
@@ -292,16 +284,9 @@ impl Source {
 
     /// A label of the section that is read.
     fn label(&mut self, name: &[u8]) -> Result<(), Fault> {
-        if self.section == Section::Ignored {
-            return Ok(());
-        }
-        if !is_name(name) {
-            return Err(self.named(Naming::Label, name));
-        }
-        let symbol = self.symbol(name)?;
         match self.section {
-            Section::Code => self.label_code(symbol),
-            Section::Data { readonly } => self.label_data(symbol, readonly),
+            Section::Code => self.label_code(name),
+            Section::Data { readonly } => self.label_data(name, readonly),
             Section::Ignored => Ok(()),
         }
     }
@@ -320,9 +305,13 @@ impl Source {
         match word.first() {
             None => Ok(()),
             Some(b'.') => self.directive(word, rest),
-            Some(_) if self.section == Section::Code => self.instruction(word, rest),
-            Some(_) if self.section == Section::Ignored => Ok(()),
-            Some(_) => Err(self.fault(Reason::Unreadable("an instruction among data"))),
+            Some(_) => match self.section {
+                Section::Code => self.instruction(word, rest),
+                Section::Data { .. } => {
+                    Err(self.fault(Reason::Unreadable("an instruction among data")))
+                }
+                Section::Ignored => Ok(()),
+            },
         }
     }
 
@@ -351,16 +340,5 @@ impl Source {
         self.section = section;
         self.object = None;
         self.align = 1;
-    }
-
-    /// The last name of a path.
-    pub(crate) fn base_name(path: &[u8]) -> &[u8] {
-        let mut start: usize = 0;
-        for (place, byte) in path.iter().enumerate() {
-            if *byte == b'/' {
-                start = place.saturating_add(1);
-            }
-        }
-        bytes_between(path, start, path.len())
     }
 }

@@ -1,86 +1,54 @@
 //! The bytes that a string of the assembler stands for.
-use crate::text::digits_of;
+use crate::text::unquoted;
 use std::alloc::AllocError;
 
-/// What stands before the next byte of a string.
-#[derive(Clone, Copy)]
-enum Before {
-    /// Nothing that it belongs to.
-    Plain,
-    /// A backslash.
-    Backslash,
-    /// A backslash and octal digits, so many, with their value.
-    Octal(u32, u32),
-}
-
-/// The byte of a letter behind a backslash.
-fn escaped(letter: u8) -> u8 {
-    match letter {
-        b'n' => b'\n',
-        b't' => b'\t',
-        b'r' => b'\r',
-        b'b' => 8,
-        b'f' => 12,
-        other => other,
-    }
-}
-
-fn octal_of(byte: u8) -> Option<u32> {
-    match byte {
-        b'0'..=b'7' => Some(u32::from(byte - b'0')),
-        _ => None,
-    }
-}
-
-/// A byte behind an octal number that ended, or behind nothing.
-fn plain(byte: u8, out: &mut Vec<u8>) -> Result<Before, AllocError> {
-    if byte == b'\\' {
-        return Ok(Before::Backslash);
-    }
-    out.push(byte)?;
-    Ok(Before::Plain)
-}
-
-fn behind_backslash(byte: u8, out: &mut Vec<u8>) -> Result<Before, AllocError> {
-    if let Some(digit) = octal_of(byte) {
-        return Ok(Before::Octal(1, digit));
-    }
-    out.push(escaped(byte))?;
-    Ok(Before::Plain)
-}
-
-fn behind_octal(count: u32, value: u32, byte: u8, out: &mut Vec<u8>) -> Result<Before, AllocError> {
-    if count < 3
-        && let Some(digit) = octal_of(byte)
-    {
-        return Ok(Before::Octal(
-            count.saturating_add(1),
-            value.saturating_mul(8).saturating_add(digit),
-        ));
-    }
-    out.push((value & 0xff) as u8)?;
-    plain(byte, out)
-}
-
-/// Appends the bytes of a string, which stands here without its quotes. `\x` isn't read: false then, as at a backslash
-/// that ends it.
-pub fn push_string(text: &[u8], out: &mut Vec<u8>) -> Result<bool, AllocError> {
-    let mut before = Before::Plain;
+/// The byte that stands behind a backslash, and how many bytes of the text it takes: octal digits, three at most, or a
+/// letter. None where nothing stands there, and of `x`.
+fn escaped(text: &[u8]) -> Option<(u8, usize)> {
+    let mut value: u32 = 0;
+    let mut count: usize = 0;
     for byte in text {
-        before = match before {
-            Before::Plain => plain(*byte, out)?,
-            Before::Backslash if *byte == b'x' => return Ok(false),
-            Before::Backslash => behind_backslash(*byte, out)?,
-            Before::Octal(count, value) => behind_octal(count, value, *byte, out)?,
-        };
+        if count == 3 || !matches!(*byte, b'0'..=b'7') {
+            break;
+        }
+        value = value.saturating_mul(8).saturating_add(u32::from(*byte & 7));
+        count = count.saturating_add(1);
     }
-    if let Before::Octal(_, value) = before {
-        out.push((value & 0xff) as u8)?;
+    match text.first() {
+        _ if count > 0 => Some(((value & 0xff) as u8, count)),
+        None | Some(b'x') => None,
+        Some(b'n') => Some((b'\n', 1)),
+        Some(b't') => Some((b'\t', 1)),
+        Some(b'r') => Some((b'\r', 1)),
+        Some(b'b') => Some((8, 1)),
+        Some(b'f') => Some((12, 1)),
+        Some(letter) => Some((*letter, 1)),
     }
-    Ok(!matches!(before, Before::Backslash))
 }
 
-/// The first number among some text, as `.file` and `.loc` have it.
-pub fn leading_number(text: &[u8]) -> Option<i64> {
-    digits_of(text, 10)
+/// Appends the bytes of a string, which stands here in its quotes, and a zero where it ends with one. False where it
+/// has no quotes, and where `\x` is in it, which isn't read, or a backslash that ends it.
+pub fn push_string(text: &[u8], ends: bool, out: &mut Vec<u8>) -> Result<bool, AllocError> {
+    let Some(mut rest) = unquoted(text) else {
+        return Ok(false);
+    };
+    for _ in 0..text.len() {
+        let Some((first, others)) = rest.split_first() else {
+            break;
+        };
+        let (byte, length) = if *first == b'\\' {
+            match escaped(others) {
+                Some(found) => found,
+                None => return Ok(false),
+            }
+        } else {
+            (*first, 0)
+        };
+        out.push(byte)?;
+        rest = others.get(length..).unwrap_or(&[]);
+    }
+    if ends {
+        out.push(0)?;
+    }
+    Ok(true)
 }

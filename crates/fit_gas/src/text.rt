@@ -4,18 +4,10 @@ use v8_syntax::bytes_between;
 /// Numbers lie below this.
 const LIMIT: i64 = 0x100_0000_0000;
 
-fn is_blank(byte: u8) -> bool {
-    byte == b' ' || byte == b'\t' || byte == b'\r'
-}
-
-fn is_name_byte(byte: u8) -> bool {
-    byte.is_ascii_alphanumeric() || byte == b'_' || byte == b'.' || byte == b'$'
-}
-
 /// How many bytes of a text, from its beginning on, may stand in a name.
 fn name_length(text: &[u8]) -> usize {
     for (place, byte) in text.iter().enumerate() {
-        if !is_name_byte(*byte) {
+        if !byte.is_ascii_alphanumeric() && !matches!(*byte, b'_' | b'.' | b'$') {
             return place;
         }
     }
@@ -25,7 +17,7 @@ fn name_length(text: &[u8]) -> usize {
 /// Where the first blank of a text stands; its length where there is none.
 fn first_blank(text: &[u8]) -> usize {
     for (place, byte) in text.iter().enumerate() {
-        if is_blank(*byte) {
+        if matches!(*byte, b' ' | b'\t' | b'\r') {
             return place;
         }
     }
@@ -117,7 +109,7 @@ fn digit_value(byte: u8) -> u8 {
 }
 
 /// The number of some digits, below 2^40.
-pub fn digits_of(digits: &[u8], radix: u8) -> Option<i64> {
+fn digits_of(digits: &[u8], radix: u8) -> Option<i64> {
     let mut value: i64 = 0;
     for byte in digits {
         let digit = digit_value(*byte);
@@ -131,21 +123,23 @@ pub fn digits_of(digits: &[u8], radix: u8) -> Option<i64> {
     if digits.is_empty() { None } else { Some(value) }
 }
 
-/// A number as the assembler reads it: hexadecimal behind `0x`, octal behind `0`, else decimal.
-fn natural_of(text: &[u8]) -> Option<i64> {
-    match text {
-        [b'0', b'x', digits @ ..] => digits_of(digits, 16),
-        [b'0', _, ..] => digits_of(text, 8),
-        _ => digits_of(text, 10),
-    }
-}
-
-/// A number, perhaps behind a sign.
+/// A number as the assembler reads it, perhaps behind a sign: hexadecimal behind `0x`, octal behind `0`, else decimal.
 pub fn number_of(text: &[u8]) -> Option<i64> {
-    match text {
-        [b'-', rest @ ..] => Some(0i64.saturating_sub(natural_of(rest)?)),
-        _ => natural_of(text),
-    }
+    let (natural, is_negative) = match text {
+        [b'-', rest @ ..] => (rest, true),
+        _ => (text, false),
+    };
+    let (digits, radix) = match natural {
+        [b'0', b'x', digits @ ..] => (digits, 16),
+        [b'0', _, ..] => (natural, 8),
+        _ => (natural, 10),
+    };
+    let number = digits_of(digits, radix)?;
+    Some(if is_negative {
+        0i64.saturating_sub(number)
+    } else {
+        number
+    })
 }
 
 /// The number behind a name: 0 where there is nothing.
