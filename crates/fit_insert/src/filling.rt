@@ -1,5 +1,5 @@
 //! The numbers of a function: a `.function` line with others for its stack room and its budget.
-ghost use Rattle.std.specs.Prelude.{◌≡◌, ◌*◌, IsTrue, IfOk, IfSome, Ok, drop, slice_get};
+ghost use Rattle.std.specs.Prelude.{◌≡◌, ◌*◌, ◌∷◌, [], IsTrue, IfOk, IfSome, Ok, drop, slice_get};
 ghost use Rattle.sbx_text.specs.Tokens.{tokens_of};
 ghost use Rattle.fit_insert.specs.Lines.{bare, with_zeros, Fills, IsFilled};
 
@@ -17,23 +17,24 @@ fn token_at(tokens: &[Token], place: usize) -> Option<Token>
     tokens.get(place).copied()
 }
 
-/// A line with 0 in the place of two of its tokens.
-fn with_zeros(
+/// A line with other words in the place of two of its tokens; as it is where it hasn't got both.
+fn with_words(
     alloc: Global,
     line: &[u8],
-    first: Option<Token>,
-    second: Option<Token>,
+    tokens: (Option<Token>, Option<Token>),
+    first: &[u8],
+    second: &[u8],
 ) -> Result<Vec<u8>, AllocError>
-    ensures { IfOk result (λ made. made.items ≡ with_zeros line.now first second) }
+    ensures { first.now ≡ 48 ∷ [] → second.now ≡ 48 ∷ [] → IfOk result (λ made. made.items ≡ with_zeros line.now tokens.0 tokens.1) }
 {
-    let (Some(first), Some(second)) = (first, second) else {
+    let (Some(room), Some(budget)) = tokens else {
         return Vec::from_slice(alloc, line);
     };
-    let mut made = Vec::from_slice(alloc, bytes_between(line, 0, first.start))?;
-    made.extend_from_slice(b"0")?;
-    made.extend_from_slice(bytes_between(line, first.stop, second.start))?;
-    made.extend_from_slice(b"0")?;
-    made.extend_from_slice(bytes_between(line, second.stop, line.len()))?;
+    let mut made = Vec::from_slice(alloc, bytes_between(line, 0, room.start))?;
+    made.extend_from_slice(first)?;
+    made.extend_from_slice(bytes_between(line, room.stop, budget.start))?;
+    made.extend_from_slice(second)?;
+    made.extend_from_slice(bytes_between(line, budget.stop, line.len()))?;
     Ok(made)
 }
 
@@ -47,12 +48,8 @@ fn bare_of(alloc: Global, line: &[u8], tokens: &[Token]) -> Result<Vec<u8>, Allo
     if declares_function(read_statement(line, behind)) {
         let count = tokens.len();
         let (room, budget) = (count.saturating_sub(3), count.saturating_sub(1));
-        with_zeros(
-            alloc,
-            line,
-            token_at(tokens, room),
-            token_at(tokens, budget),
-        )
+        let tokens = (token_at(tokens, room), token_at(tokens, budget));
+        with_words(alloc, line, tokens, b"0", b"0")
     } else {
         Vec::from_slice(alloc, line)
     }
@@ -92,40 +89,32 @@ fn is_filled(alloc: Global, text: &[u8], other: &[u8]) -> Result<bool, AllocErro
     }
 }
 
-/// A line with its end and a function's numbers, as far as it has the tokens.
-fn numbered(alloc: Global, text: &[u8], total: Total) -> Result<Vec<u8>, AllocError> {
-    let line = only_line(text).unwrap_or(&[]);
-    let found = match tokens(alloc, line) {
-        Ok(found) => found,
-        Err(_fault) => return Ok(Vec::new(alloc)),
-    };
-    let count = found.len();
-    let (room, budget) = (count.saturating_sub(3), count.saturating_sub(1));
-    match (
-        token_at(found.as_slice(), room),
-        token_at(found.as_slice(), budget),
-    ) {
-        (Some(first), Some(second)) => with_numbers(alloc, text, first, second, total),
-        _ => Ok(Vec::new(alloc)),
-    }
-}
-
 /// A text with a function's numbers in the place of two of its tokens.
 fn with_numbers(
     alloc: Global,
     text: &[u8],
-    first: Token,
-    second: Token,
+    tokens: (Option<Token>, Option<Token>),
     total: Total,
 ) -> Result<Vec<u8>, AllocError> {
     let room = format!(in alloc; "{}", total.room)?;
     let budget = format!(in alloc; "{}", total.budget)?;
-    let mut made = Vec::from_slice(alloc, bytes_between(text, 0, first.start))?;
-    made.extend_from_slice(room.as_bytes())?;
-    made.extend_from_slice(bytes_between(text, first.stop, second.start))?;
-    made.extend_from_slice(budget.as_bytes())?;
-    made.extend_from_slice(bytes_between(text, second.stop, text.len()))?;
-    Ok(made)
+    with_words(alloc, text, tokens, room.as_bytes(), budget.as_bytes())
+}
+
+/// A line with its end and a function's numbers, as far as it has the tokens.
+fn numbered(alloc: Global, text: &[u8], total: Total) -> Result<Vec<u8>, AllocError> {
+    let line = only_line(text).unwrap_or(&[]);
+    let tokens = match tokens(alloc, line) {
+        Ok(found) => {
+            let (found, count) = (found.as_slice(), found.len());
+            (
+                token_at(found, count.saturating_sub(3)),
+                token_at(found, count.saturating_sub(1)),
+            )
+        }
+        Err(_fault) => (None, None),
+    };
+    with_numbers(alloc, text, tokens, total)
 }
 
 /// A line with its end and a function's numbers; none where it isn't a `.function` of plain numbers.
