@@ -1,12 +1,16 @@
 //! Condition codes are set in the block that reads them: a compare whose branch stands in a later block is repeated
 //! there.
 use crate::plain::against_zero;
-use crate::points::{bit_of, fields_of, operands_read, reads_codes, sets_codes, written};
-use fit_code::{Block, End, Fault, Function, Line, Reason, Step};
+use crate::points::{
+    bit_of, fields_of, form_fault, operands_read, reads_codes, sets_codes, written,
+};
+use fit_code::{Block, End, Fault, Function, Step};
 use fit_graph::predecessors_of;
 use std::alloc::{AllocError, Global};
 use v8_formats::{Instr, Operand, Three, encode};
 use v8_word::{Cond, Reg};
+
+const REFUSED: &str = "condition codes of several places, or of numbers that changed since";
 
 fn is_logic(instr: &Instr) -> bool {
     matches!(
@@ -52,22 +56,6 @@ fn repeated(instr: &Instr, zero_alone: bool) -> Option<Instr> {
     without_result(instr, &fields)
 }
 
-/// The registers that a step writes: of a call all that a callee may.
-fn written_in(step: &Step) -> u32 {
-    match step.callee {
-        Some(_) => 0xffff,
-        None => written(&step.instr),
-    }
-}
-
-/// Whether an instruction's operands are among some registers, a bit a register.
-fn reads_any(instr: &Instr, registers: u32) -> bool {
-    match fields_of(instr) {
-        Some(fields) => operands_read(&fields) & registers != 0,
-        None => true,
-    }
-}
-
 /// What sets the codes that a block begins with.
 #[derive(Drop)]
 struct Search {
@@ -83,16 +71,15 @@ struct Search {
 }
 
 impl Search {
-    /// Whether the instruction that was found sets the same codes at the start of the block.
-    fn is_answer(&self) -> bool {
-        match &self.found {
-            Some(found) => self.is_one && !reads_any(found, self.written),
-            None => false,
-        }
-    }
-
+    /// The instruction that was found, where it sets the same codes at the start of the block.
     fn answer(&self) -> Option<Instr> {
-        if self.is_answer() { self.found } else { None }
+        let found = self.found?;
+        let fields = fields_of(&found)?;
+        if self.is_one && operands_read(&fields) & self.written == 0 {
+            Some(found)
+        } else {
+            None
+        }
     }
 
     fn take(&mut self, setter: Option<Instr>) {
@@ -105,18 +92,22 @@ impl Search {
         self.found = setter;
     }
 
-    fn enter(&mut self, block: usize) -> Result<(), Fault> {
-        if let Some(seen) = self.seen.get_mut(block)
-            && !*seen
-        {
-            *seen = true;
-            self.open.push(block)?;
+    /// Blocks are to be looked at, each once.
+    fn enter(&mut self, blocks: &[usize]) -> Result<(), AllocError> {
+        for block in blocks {
+            if let Some(seen) = self.seen.get_mut(*block)
+                && !*seen
+            {
+                *seen = true;
+                self.open.push(*block)?;
+            }
         }
         Ok(())
     }
 
-    /// Looks for what sets the codes at the end of a block; goes to the blocks before it where nothing in it does.
-    fn look(&mut self, block: &Block, before: &[usize]) -> Result<(), Fault> {
+    /// Looks for what sets the codes at the end of a block; goes to the blocks before it where nothing in it does, and
+    /// where there are none the codes are set nowhere.
+    fn look(&mut self, block: &Block, before: &[usize]) -> Result<(), AllocError> {
         let mut setter = None;
         let mut later = 0;
         for step in block.steps.iter() {
@@ -124,31 +115,20 @@ impl Search {
                 setter = Some(step.instr);
                 later = 0;
             } else {
-                later |= written_in(step);
+                // a callee may write all of these
+                later |= match step.callee {
+                    Some(_) => 0xffff,
+                    None => written(&step.instr),
+                };
             }
         }
         self.written |= later;
-        match setter {
-            Some(instr) => self.take(repeated(&instr, self.zero_alone)),
-            None => self.go_before(before)?,
+        if let Some(instr) = setter {
+            self.take(repeated(&instr, self.zero_alone));
+            return Ok(());
         }
-        Ok(())
-    }
-
-    /// Goes to the blocks before one; where there are none the codes are set nowhere.
-    fn go_before(&mut self, before: &[usize]) -> Result<(), Fault> {
-        if before.is_empty() {
-            self.is_one = false;
-        }
-        self.enter_all(before)
-    }
-
-    /// Blocks are to be looked at.
-    fn enter_all(&mut self, blocks: &[usize]) -> Result<(), Fault> {
-        for block in blocks {
-            self.enter(*block)?;
-        }
-        Ok(())
+        self.is_one = self.is_one && !before.is_empty();
+        self.enter(before)
     }
 
     /// Looks at the blocks that are to be looked at, until there is none.
@@ -156,7 +136,7 @@ impl Search {
         &mut self,
         function: &Function,
         predecessors: &[Vec<usize>],
-    ) -> Result<(), Fault> {
+    ) -> Result<(), AllocError> {
         for _ in 0..predecessors.len() {
             let Some(from) = self.open.pop() else {
                 break;
@@ -190,20 +170,6 @@ fn reads_before(block: &Block) -> Option<bool> {
     }
 }
 
-fn refused(function: &Function, line: Line) -> Fault {
-    let name: Result<String, AllocError> = function.name.clone();
-    match name {
-        Ok(function) => Fault::new(
-            line,
-            Reason::Form {
-                function,
-                what: "condition codes of several places, or of numbers that changed since",
-            },
-        ),
-        Err(error) => Fault::from(error),
-    }
-}
-
 /// What sets the codes that a block begins with, as one instruction that may stand at its start.
 fn setter_of(
     alloc: Global,
@@ -211,7 +177,7 @@ fn setter_of(
     predecessors: &[Vec<usize>],
     block: usize,
     zero_alone: bool,
-) -> Result<Option<Instr>, Fault> {
+) -> Result<Option<Instr>, AllocError> {
     let mut search = Search {
         found: None,
         written: 0,
@@ -221,13 +187,14 @@ fn setter_of(
         zero_alone,
     };
     if let Some(before) = predecessors.get(block) {
-        search.enter_all(before.as_slice())?;
+        search.enter(before.as_slice())?;
     }
     search.look_through(function, predecessors)?;
     Ok(search.answer())
 }
 
-fn insert_first(function: &mut Function, block: usize, instr: Instr) -> Result<(), Fault> {
+/// Puts an instruction before a block's steps.
+fn insert_first(function: &mut Function, block: usize, instr: Instr) -> Result<(), AllocError> {
     if let Some(found) = function.blocks.get_mut(block) {
         found.steps.insert(
             0,
@@ -254,7 +221,7 @@ pub fn repeat_compares(alloc: Global, function: &mut Function) -> Result<(), Fau
         if let Some(zero_alone) = reads {
             match setter_of(alloc, function, predecessors.as_slice(), block, zero_alone)? {
                 Some(instr) => insert_first(function, block, instr)?,
-                None => return Err(refused(function, line)),
+                None => return Err(form_fault(&function.name, line, REFUSED)),
             }
         }
     }

@@ -27,22 +27,6 @@ struct Copies {
     steps: usize,
 }
 
-/// Whether a block is one of those that are held.
-fn is_held(holds: &[bool], block: usize) -> bool {
-    holds.get(block).copied().unwrap_or(false)
-}
-
-/// How many steps some of a function's blocks have.
-fn steps_of(function: &Function, holds: &[bool]) -> usize {
-    let mut steps: usize = 0;
-    for (number, block) in function.blocks.iter().enumerate() {
-        if is_held(holds, number) {
-            steps = steps.saturating_add(block.steps.len()).saturating_add(1);
-        }
-    }
-    steps
-}
-
 /// What is copied where one of a loop's entries stays: what comes behind the others, as far as that one.
 fn copies_beside(
     alloc: Global,
@@ -61,7 +45,12 @@ fn copies_beside(
         tangle.entries.as_slice(),
         within.as_slice(),
     )?;
-    let steps = steps_of(function, holds.as_slice());
+    let mut steps: usize = 0;
+    for (number, held) in holds.iter().enumerate() {
+        if *held && let Some(block) = function.blocks.get(number) {
+            steps = steps.saturating_add(block.steps.len()).saturating_add(1);
+        }
+    }
     Ok(Copies { holds, steps })
 }
 
@@ -73,7 +62,11 @@ fn least_copies(
 ) -> Result<Option<Copies>, AllocError> {
     let successors = successors_of(alloc, function)?;
     let mut least: Option<Copies> = None;
-    for entry in tangle.entries.iter().take(ENTRIES) {
+    for entry in tangle
+        .entries
+        .get(..ENTRIES)
+        .unwrap_or(tangle.entries.as_slice())
+    {
         let copies = copies_beside(alloc, function, successors.as_slice(), tangle, *entry)?;
         let is_less = match &least {
             Some(found) => copies.steps < found.steps,
@@ -91,49 +84,39 @@ fn numbers_of(alloc: Global, holds: &[bool]) -> Result<Vec<usize>, AllocError> {
     let mut numbers = Vec::new(alloc);
     let mut next = holds.len();
     for (block, held) in holds.iter().enumerate() {
-        if *held {
-            numbers.push(next)?;
-            next = next.saturating_add(1);
-        } else {
-            numbers.push(block)?;
-        }
+        numbers.push(if *held { next } else { block })?;
+        next = next.saturating_add(usize::from(*held));
     }
     Ok(numbers)
-}
-
-/// A block that goes on to copies where there are some.
-fn copy_of(alloc: Global, block: &Block, numbers: &[usize]) -> Result<Block, AllocError> {
-    Ok(Block {
-        steps: Vec::from_slice(alloc, block.steps.as_slice())?,
-        end: moved(block.end, numbers),
-        slot: block.slot,
-        line: block.line,
-    })
-}
-
-/// Copies of the blocks that are held.
-fn copies_of(
-    alloc: Global,
-    function: &Function,
-    holds: &[bool],
-    numbers: &[usize],
-) -> Result<Vec<Block>, AllocError> {
-    let mut copies = Vec::new(alloc);
-    for (number, block) in function.blocks.iter().enumerate() {
-        if is_held(holds, number) {
-            copies.push(copy_of(alloc, block, numbers)?)?;
-        }
-    }
-    Ok(copies)
 }
 
 /// Makes the blocks that aren't of a loop go to copies where there are some.
 fn lead_to_copies(function: &mut Function, tangle: &Tangle, numbers: &[usize]) {
     for (number, block) in function.blocks.iter_mut().enumerate() {
-        if !is_held(tangle.holds.as_slice(), number) {
-            block.end = moved(block.end, numbers);
+        match tangle.holds.get(number) {
+            Some(true) => {}
+            _ => block.end = moved(block.end, numbers),
         }
     }
+}
+
+/// Pushes a copy of a block, which goes on to copies where there are some.
+fn push_copy(
+    alloc: Global,
+    function: &mut Function,
+    number: usize,
+    numbers: &[usize],
+) -> Result<(), AllocError> {
+    if let Some(block) = function.blocks.get(number) {
+        let copy = Block {
+            steps: Vec::from_slice(alloc, block.steps.as_slice())?,
+            end: moved(block.end, numbers),
+            slot: block.slot,
+            line: block.line,
+        };
+        function.blocks.push(copy)?;
+    }
+    Ok(())
 }
 
 /// Copies blocks of a loop, to which ways from elsewhere lead from then on.
@@ -144,25 +127,28 @@ fn copy_blocks(
     copied: &[bool],
 ) -> Result<(), AllocError> {
     let numbers = numbers_of(alloc, copied)?;
-    let copies = copies_of(alloc, function, copied, numbers.as_slice())?;
     lead_to_copies(function, tangle, numbers.as_slice());
-    for copy in copies {
-        function.blocks.push(copy)?;
+    for (number, held) in copied.iter().enumerate() {
+        if *held {
+            push_copy(alloc, function, number, numbers.as_slice())?;
+        }
     }
     Ok(())
 }
 
 /// How many steps of a function may be copied: as many as it has, if they aren't too many.
-fn room_of(alloc: Global, function: &Function) -> Result<usize, AllocError> {
-    let all = vec![in alloc; true; function.blocks.len()]?;
-    let steps = steps_of(function, all.as_slice());
-    Ok(steps.max(FEW).min(STEPS.saturating_sub(steps)))
+fn room_of(function: &Function) -> usize {
+    let mut steps: usize = 0;
+    for block in &function.blocks {
+        steps = steps.saturating_add(block.steps.len()).saturating_add(1);
+    }
+    steps.max(FEW).min(STEPS.saturating_sub(steps))
 }
 
 /// Gives each loop of a function one entry, a head that is on each way to its blocks, as far as the copies have no more
 /// steps than the function has: the other loops stay as they are.
 pub fn give_one_entry(alloc: Global, function: &mut Function) -> Result<(), AllocError> {
-    let mut room = room_of(alloc, function)?;
+    let mut room = room_of(function);
     for _ in 0..LOOPS {
         if function.blocks.len() > BLOCKS {
             return Ok(());

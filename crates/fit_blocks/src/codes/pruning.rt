@@ -1,6 +1,6 @@
 //! Blocks that control doesn't come to are left out, and no block goes to the first one.
 use fit_code::{Block, End, Function};
-use fit_graph::order_of;
+use fit_graph::{Order, order_of};
 use std::alloc::{AllocError, Global};
 
 /// The other number of a block; 0 where it has none.
@@ -23,22 +23,29 @@ pub(crate) fn moved(end: End, numbers: &[usize]) -> End {
 
 /// Whether a block goes to the first one.
 fn goes_to_first(function: &Function) -> bool {
-    for block in function.blocks.iter() {
-        for to in &block.end.ways() {
-            if *to == Some(0) {
-                return true;
-            }
+    for block in &function.blocks {
+        let goes = match block.end {
+            End::Jump(to) => to == 0,
+            End::Branch { taken, next, .. } => taken == 0 || next == 0,
+            _ => false,
+        };
+        if goes {
+            return true;
         }
     }
     false
 }
 
 /// New numbers of the blocks that can be reached, in their order, from a number on.
-fn numbers_of(alloc: Global, function: &Function, first: usize) -> Result<Vec<usize>, AllocError> {
-    let order = order_of(alloc, function)?;
+fn numbers_of(
+    alloc: Global,
+    order: &Order,
+    count: usize,
+    first: usize,
+) -> Result<Vec<usize>, AllocError> {
     let mut numbers = Vec::new(alloc);
     let mut next = first;
-    for block in 0..function.blocks.len() {
+    for block in 0..count {
         numbers.push(next)?;
         if order.place(block).is_some() {
             next = next.saturating_add(1);
@@ -59,14 +66,13 @@ pub fn prune(alloc: Global, function: &mut Function) -> Result<(), AllocError> {
         })?;
     }
     let order = order_of(alloc, function)?;
-    let numbers = numbers_of(alloc, function, blocks.len())?;
-    let old = std::mem::replace(&mut function.blocks, Vec::new(alloc));
+    let numbers = numbers_of(alloc, &order, function.blocks.len(), blocks.len())?;
+    let old = std::mem::replace(&mut function.blocks, blocks);
     for (number, mut block) in old.into_iter().enumerate() {
         if order.place(number).is_some() {
             block.end = moved(block.end, numbers.as_slice());
-            blocks.push(block)?;
+            function.blocks.push(block)?;
         }
     }
-    function.blocks = blocks;
     Ok(())
 }

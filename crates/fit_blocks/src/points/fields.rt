@@ -1,6 +1,6 @@
 //! What instructions read and write.
-use v8_formats::{Instr, Operand, Three, bits_of, encode, three_of};
-use v8_word::Reg;
+use v8_formats::{Instr, Operand, Three, Trap, bits_of, encode, three_of};
+use v8_word::{Cond, Reg};
 
 /// A word read as a signed number.
 pub fn signed(word: u32) -> i64 {
@@ -16,15 +16,10 @@ pub fn word_of(number: i64) -> u32 {
     (number as i128).rem_euclid(0x1_0000_0000) as u32
 }
 
-/// Whether an instruction has the fields rd, rs1 and operand2.
-fn has_fields(word: u32) -> bool {
-    word >> 30 >= 2
-}
-
 /// The fields rd, rs1 and operand2; none of an instruction that hasn't these.
 pub fn fields_of(instr: &Instr) -> Option<Three> {
     let word = encode(instr);
-    if has_fields(word) {
+    if word >> 30 >= 2 {
         Some(three_of(word))
     } else {
         None
@@ -56,40 +51,24 @@ pub struct Access {
     pub stores: bool,
 }
 
-fn access_with(fields: &Three, bytes: u32, stores: bool) -> Option<Access> {
+/// The access that an instruction makes.
+pub fn access_of(instr: &Instr) -> Option<Access> {
+    let (fields, bytes, stores) = match *instr {
+        Instr::LoadUnsignedByte(fields) | Instr::LoadSignedByte(fields) => (fields, 1, false),
+        Instr::LoadUnsignedHalf(fields) | Instr::LoadSignedHalf(fields) => (fields, 2, false),
+        Instr::Load(fields) => (fields, 4, false),
+        Instr::LoadDouble(fields) => (fields, 8, false),
+        Instr::StoreByte(fields) | Instr::LoadStoreUnsignedByte(fields) => (fields, 1, true),
+        Instr::StoreHalf(fields) => (fields, 2, true),
+        Instr::Store(fields) | Instr::Swap(fields) => (fields, 4, true),
+        Instr::StoreDouble(fields) => (fields, 8, true),
+        _ => return None,
+    };
     Some(Access {
-        fields: *fields,
+        fields,
         bytes,
         stores,
     })
-}
-
-/// The access that an instruction makes.
-pub fn access_of(instr: &Instr) -> Option<Access> {
-    match instr {
-        Instr::LoadUnsignedByte(fields) | Instr::LoadSignedByte(fields) => access_with(
-            fields, 1, false,
-        ),
-        Instr::LoadUnsignedHalf(fields) | Instr::LoadSignedHalf(fields) => access_with(
-            fields, 2, false,
-        ),
-        Instr::Load(fields) => access_with(fields, 4, false),
-        Instr::LoadDouble(fields) => access_with(fields, 8, false),
-        Instr::StoreByte(fields) | Instr::LoadStoreUnsignedByte(fields) => access_with(
-            fields, 1, true,
-        ),
-        Instr::StoreHalf(fields) => access_with(fields, 2, true),
-        Instr::Store(fields) | Instr::Swap(fields) => access_with(fields, 4, true),
-        Instr::StoreDouble(fields) => access_with(fields, 8, true),
-        _ => None,
-    }
-}
-
-fn is_plain_store(instr: &Instr) -> bool {
-    matches!(
-        instr,
-        Instr::StoreByte(_) | Instr::StoreHalf(_) | Instr::Store(_) | Instr::StoreDouble(_)
-    )
 }
 
 /// The register next to an even one.
@@ -108,8 +87,11 @@ pub fn written(instr: &Instr) -> u32 {
         Instr::LoadDouble(fields) => bit_of(fields.rd) | bit_of(next_register(fields.rd)),
         // The service get leaves a byte in %o0.
         Instr::Ticc(_) => 0x100,
-        Instr::WriteY(_) => 0,
-        other if is_plain_store(other) => 0,
+        Instr::WriteY(_)
+        | Instr::StoreByte(_)
+        | Instr::StoreHalf(_)
+        | Instr::Store(_)
+        | Instr::StoreDouble(_) => 0,
         other => match fields_of(other) {
             Some(fields) => bit_of(fields.rd),
             None => 0,
@@ -119,21 +101,18 @@ pub fn written(instr: &Instr) -> u32 {
 
 /// The registers that an instruction reads, a bit a register. A call and a service read more.
 pub fn read_by(instr: &Instr) -> u32 {
-    let stored = match instr {
-        Instr::StoreDouble(fields) => bit_of(fields.rd) | bit_of(next_register(fields.rd)),
-        Instr::Swap(fields) => bit_of(fields.rd),
-        other if is_plain_store(other) => match fields_of(other) {
-            Some(fields) => bit_of(fields.rd),
-            None => 0,
-        },
-        _ => 0,
+    let Some(fields) = fields_of(instr) else {
+        return 0;
     };
     match instr {
         Instr::ReadY(_) => 0,
-        other => match fields_of(other) {
-            Some(fields) => stored | operands_read(&fields),
-            None => stored,
-        },
+        Instr::StoreDouble(_) => {
+            bit_of(fields.rd) | bit_of(next_register(fields.rd)) | operands_read(&fields)
+        }
+        Instr::StoreByte(_) | Instr::StoreHalf(_) | Instr::Store(_) | Instr::Swap(_) => {
+            bit_of(fields.rd) | operands_read(&fields)
+        }
+        _ => operands_read(&fields),
     }
 }
 
@@ -171,20 +150,22 @@ pub fn is_nop(instr: &Instr) -> bool {
     }
 }
 
+/// The number of the service that `ta n` asks for; none of another trap.
+pub fn service_of(trap: &Trap) -> Option<u32> {
+    match trap.operand2 {
+        Operand::Immediate(number) if trap.rs1 == Reg::G0 && trap.cond == Cond::Always => {
+            Some(number)
+        }
+        _ => None,
+    }
+}
+
 /// Whether sandboxed code may have an instruction within a block: arithmetic, loads and stores of the data's space,
 /// SETHI, reads and writes of Y, and the services get and put.
 pub fn is_allowed(instr: &Instr) -> bool {
     match instr {
         Instr::Sethi(_) | Instr::ReadY(_) | Instr::WriteY(_) => true,
-        Instr::Ticc(trap) => match trap.operand2 {
-            Operand::Immediate(number) => {
-                trap.rs1 == Reg::G0
-                    && trap.cond == v8_word::Cond::Always
-                    && 1 <= number
-                    && number <= 2
-            }
-            Operand::Register(_) => false,
-        },
+        Instr::Ticc(trap) => matches!(service_of(trap), Some(1 | 2)),
         Instr::TaddCcTv(_) | Instr::TsubCcTv(_) => false,
         other => match minor_of(other) {
             Some(minor) => minor <= 0x27,

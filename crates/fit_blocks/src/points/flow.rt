@@ -1,11 +1,11 @@
 //! What an instruction does to the flow of control, and its number filled in.
-use crate::points::fields::{is_allowed, signed};
+use crate::points::fields::{is_allowed, service_of};
 use crate::points::layout::object_of;
 use crate::points::points::{Flow, Maker};
 use fit_code::{Fault, Line, Reason, Step};
 use fit_gas::{Part, Reference, SymbolPlace, with_part};
 use v8_formats::{Instr, Operand, Three, decode};
-use v8_word::{Cond, Reg};
+use v8_word::Reg;
 
 /// Whether an instruction jumps to 8 or 12 bytes behind a call, whose address a register holds.
 fn returns_by(fields: &Three, register: Reg) -> bool {
@@ -14,27 +14,6 @@ fn returns_by(fields: &Three, register: Reg) -> bool {
             fields.rd == Reg::G0 && fields.rs1 == register && (number == 8 || number == 12)
         }
         Operand::Register(_) => false,
-    }
-}
-
-fn is_exit(instr: &Instr) -> bool {
-    match instr {
-        Instr::Ticc(trap) => {
-            trap.cond == Cond::Always
-                && trap.rs1 == Reg::G0
-                && matches!(trap.operand2, Operand::Immediate(0))
-        }
-        _ => false,
-    }
-}
-
-fn step_of(word: u32, line: Line, callee: Option<usize>, object: Option<usize>) -> Step {
-    Step {
-        instr: decode(word),
-        line,
-        callee,
-        object,
-        slot: None,
     }
 }
 
@@ -74,7 +53,7 @@ impl Maker<'_> {
             Instr::Save(_) => Ok(Flow::Save),
             Instr::Restore(_) => Ok(Flow::Restore),
             Instr::Unimp(_) => Ok(Flow::Mark),
-            other if is_exit(other) => Ok(Flow::Exit),
+            Instr::Ticc(trap) if service_of(trap) == Some(0) => Ok(Flow::Exit),
             other if is_allowed(other) => Ok(Flow::On),
             _ => Err(
                 self.points
@@ -85,51 +64,32 @@ impl Maker<'_> {
 
     /// An instruction with its reference filled in.
     pub fn step(&self, word: u32, line: Line, reference: Option<Reference>) -> Result<Step, Fault> {
-        match reference {
-            None => Ok(step_of(word, line, None, None)),
-            Some(reference) if reference.part == Part::Target => Ok(step_of(
-                word,
-                line,
-                self.callee(reference),
-                None,
-            )),
-            Some(reference) => {
-                let object = object_of(
-                    self.source,
-                    self.linked,
-                    self.layout,
-                    reference.symbol,
-                    line,
-                )?;
-                let address = self.layout.address(object, reference.offset);
-                let word = with_part(word, reference.part, address);
-                Ok(step_of(word, line, None, Some(object)))
+        let mut step = Step {
+            instr: decode(word),
+            line,
+            callee: None,
+            object: None,
+            slot: None,
+        };
+        let Some(reference) = reference else {
+            return Ok(step);
+        };
+        if matches!(reference.part, Part::Target) {
+            if let SymbolPlace::Function(number) = self.linked.place(reference.symbol) {
+                step.callee = Some(number);
             }
+            return Ok(step);
         }
-    }
-
-    /// The function that a transfer goes to; none where it goes to a label.
-    fn callee(&self, reference: Reference) -> Option<usize> {
-        match self.linked.place(reference.symbol) {
-            SymbolPlace::Function(number) => Some(number),
-            _ => None,
-        }
-    }
-}
-
-/// The bytes that SAVE takes from %sp; none where that isn't its form or isn't a number.
-pub fn frame_of(instr: &Instr, known: Option<u32>) -> Option<u32> {
-    let Instr::Save(fields) = instr else {
-        return None;
-    };
-    let word = match fields.operand2 {
-        Operand::Immediate(number) => Some(number),
-        Operand::Register(_) => known,
-    };
-    let bytes = 0i64.saturating_sub(signed(word?));
-    if fields.rs1 == Reg::SP && fields.rd == Reg::SP && 0 < bytes && bytes < 0x1_0000_0000 {
-        Some(bytes as u32)
-    } else {
-        None
+        let object = object_of(
+            self.source,
+            self.linked,
+            self.layout,
+            reference.symbol,
+            line,
+        )?;
+        let address = self.layout.address(object, reference.offset);
+        step.instr = decode(with_part(word, reference.part, address));
+        step.object = Some(object);
+        Ok(step)
     }
 }

@@ -1,4 +1,5 @@
 //! Where the objects of a program lie.
+use crate::points::fields::word_of;
 use fit_code::{Fault, Line, NO_LINE, Naming, Object, Reason, Region};
 use fit_gas::{Datum, Fix, Linked, Source, SymbolPlace};
 use std::alloc::{AllocError, Global};
@@ -60,56 +61,62 @@ pub struct Layout {
 }
 
 impl Layout {
-    /// No objects.
-    pub fn new(alloc: Global) -> Layout {
-        Layout {
-            alloc,
-            objects: Vec::new(alloc),
-            numbers: Vec::new(alloc),
-            constants: None,
-            start: DATA,
-            end: DATA + HEAD,
-            line: NO_LINE,
-        }
+    /// Room behind the objects, for as many bytes and a line; gives its address.
+    fn take_room(&mut self, align: u32, bytes: usize, line: Line) -> Result<u32, Fault> {
+        let start = multiple_from(self.end.saturating_add(PAD), align);
+        self.end = start.saturating_add(u32::try_from(bytes).unwrap_or(u32::MAX));
+        self.line = line;
+        check_end(self.end, line)?;
+        Ok(start)
     }
 
-    /// Adds an object for a line; gives its number.
+    /// Adds an object that may be written, of zeros, for a line; gives its number.
     ///
     /// # Errors
     /// At the line, where it would end behind what an image may have.
-    pub fn add(
-        &mut self,
-        name: String,
-        readonly: bool,
-        align: u32,
-        bytes: Vec<u8>,
-        line: Line,
-    ) -> Result<usize, Fault> {
-        let align = align.max(8);
-        let start = multiple_from(self.end.saturating_add(PAD), align);
-        let length = u32::try_from(bytes.len()).unwrap_or(u32::MAX);
-        let end = start.saturating_add(length);
-        check_end(end, line)?;
+    pub fn add_zeros(&mut self, name: String, bytes: usize, line: Line) -> Result<usize, Fault> {
         let number = self.objects.len();
+        let start = self.take_room(8, bytes, line)?;
         self.objects.push(Object {
             name,
-            readonly,
-            align,
-            bytes,
+            readonly: false,
+            align: 8,
+            bytes: vec![in self.alloc; 0; bytes]?,
             start,
         })?;
-        self.end = end;
-        self.line = line;
         Ok(number)
     }
 
-    /// Adds an object of zeros for a line.
-    ///
-    /// # Errors
-    /// As `add`.
-    pub fn add_zeros(&mut self, name: String, bytes: usize, line: Line) -> Result<usize, Fault> {
-        let bytes = vec![in self.alloc; 0; bytes]?;
-        self.add(name, false, 8, bytes, line)
+    /// Adds an object of the source, for the line where its name stands first; gives its number.
+    fn add_datum(&mut self, datum: &Datum, name: &str, line: Line) -> Result<usize, Fault> {
+        let number = self.objects.len();
+        let align = datum.align.max(8);
+        let start = self.take_room(align, datum.bytes.len(), line)?;
+        self.objects.push(Object {
+            name: String::from_str(self.alloc, name)?,
+            readonly: datum.readonly,
+            align,
+            bytes: datum.bytes.clone()?,
+            start,
+        })?;
+        Ok(number)
+    }
+
+    /// Adds the objects of the source that are constants, or those that aren't.
+    fn add_all(&mut self, source: &Source, readonly: bool) -> Result<(), Fault> {
+        for (place, datum) in source.objects.iter().enumerate() {
+            if datum.readonly == readonly {
+                let (name, line) = match source.symbols.get(datum.symbol) {
+                    Some(symbol) => (symbol.name.as_str(), symbol.line),
+                    None => ("", NO_LINE),
+                };
+                let number = self.add_datum(datum, name, line)?;
+                if let Some(found) = self.numbers.get_mut(place) {
+                    *found = number;
+                }
+            }
+        }
+        Ok(())
     }
 
     /// The address of an object plus a number, as a word.
@@ -118,7 +125,7 @@ impl Layout {
             Some(object) => object.start,
             None => 0,
         };
-        crate::points::fields::word_of(i64::from(start).saturating_add(offset))
+        word_of(i64::from(start).saturating_add(offset))
     }
 
     /// The region that objects are added to, as far as they go.
@@ -161,10 +168,12 @@ impl Layout {
     /// Puts an address into a word of an object.
     fn fill(&mut self, number: usize, at: usize, word: u32) {
         if let Some(object) = self.objects.get_mut(number) {
-            for (place, byte) in word.to_be_bytes().into_iter().enumerate() {
-                if let Some(found) = object.bytes.get_mut(at.saturating_add(place)) {
-                    *found = byte;
+            let mut place = at;
+            for byte in &word.to_be_bytes() {
+                if let Some(found) = object.bytes.get_mut(place) {
+                    *found = *byte;
                 }
+                place = place.saturating_add(1);
             }
         }
     }
@@ -173,10 +182,10 @@ impl Layout {
 /// A fault at a name of the source.
 pub fn fault_of(source: &Source, line: Line, naming: Naming, symbol: usize) -> Fault {
     let name = match source.symbols.get(symbol) {
-        Some(found) => String::from_str(source.alloc, found.name.as_str()),
-        None => String::from_str(source.alloc, "?"),
+        Some(found) => found.name.as_str(),
+        None => "?",
     };
-    match name {
+    match String::from_str(source.alloc, name) {
         Ok(name) => Fault::new(line, Reason::Named(naming, name)),
         Err(error) => Fault::from(error),
     }
@@ -199,30 +208,7 @@ pub fn object_of(
     }
 }
 
-/// Adds an object of the source, for the line where its name stands first; gives its number.
-fn add_datum(source: &Source, datum: &Datum, layout: &mut Layout) -> Result<usize, Fault> {
-    let (name, line) = match source.symbols.get(datum.symbol) {
-        Some(symbol) => (symbol.name.clone()?, symbol.line),
-        None => (String::new(source.alloc), NO_LINE),
-    };
-    let bytes = datum.bytes.clone()?;
-    layout.add(name, datum.readonly, datum.align, bytes, line)
-}
-
-/// Adds the objects of the source that are constants, or those that aren't.
-fn add_all(source: &Source, readonly: bool, layout: &mut Layout) -> Result<(), Fault> {
-    for (place, datum) in source.objects.iter().enumerate() {
-        if datum.readonly == readonly {
-            let number = add_datum(source, datum, layout)?;
-            if let Some(found) = layout.numbers.get_mut(place) {
-                *found = number;
-            }
-        }
-    }
-    Ok(())
-}
-
-/// Fills in the addresses that an object holds.
+/// Fills in the addresses that the object of a number holds.
 fn fill_all(
     source: &Source,
     linked: &Linked,
@@ -240,11 +226,18 @@ fn fill_all(
 
 /// Lays out the objects of a source: the constants first, on pages that may be read alone.
 pub fn layout_of(alloc: Global, source: &Source, linked: &Linked) -> Result<Layout, Fault> {
-    let mut layout = Layout::new(alloc);
-    layout.numbers = vec![in alloc; 0; source.objects.len()]?;
-    add_all(source, true, &mut layout)?;
+    let mut layout = Layout {
+        alloc,
+        objects: Vec::new(alloc),
+        numbers: vec![in alloc; 0; source.objects.len()]?,
+        constants: None,
+        start: DATA,
+        end: DATA + HEAD,
+        line: NO_LINE,
+    };
+    layout.add_all(source, true)?;
     layout.end_constants()?;
-    add_all(source, false, &mut layout)?;
+    layout.add_all(source, false)?;
     for (place, datum) in source.objects.iter().enumerate() {
         let number = layout.number(place);
         fill_all(source, linked, number, datum.fixes.as_slice(), &mut layout)?;

@@ -41,11 +41,16 @@ pub struct Points {
 impl Points {
     /// A fault of the function.
     pub fn fault(&self, line: Line, what: &'static str) -> Fault {
-        let name: Result<String, AllocError> = self.name.clone();
-        match name {
-            Ok(function) => Fault::new(line, Reason::Form { function, what }),
-            Err(error) => Fault::from(error),
-        }
+        form_fault(&self.name, line, what)
+    }
+}
+
+/// A fault of the function of a name.
+pub fn form_fault(function: &String, line: Line, what: &'static str) -> Fault {
+    let name: Result<String, AllocError> = function.clone();
+    match name {
+        Ok(function) => Fault::new(line, Reason::Form { function, what }),
+        Err(error) => Fault::from(error),
     }
 }
 

@@ -3,5 +3,5 @@
 mod slots;
 mod starts;
 
-pub use slots::{behind_mark, flow_at, line_at, may_go_before, restore_at, slot_of};
-pub use starts::{frame_and_start, leads_of};
+pub use slots::{behind_mark, may_go_before, restore_at, slot_of};
+pub use starts::{frame_and_start, mark_leads, number_leads};

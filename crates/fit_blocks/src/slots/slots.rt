@@ -3,12 +3,6 @@ use crate::points::{Flow, Points, bit_of, fields_of, is_nop, operands_read, sets
 use fit_code::{Fault, Line, Step};
 use v8_formats::{Instr, Three};
 
-/// What an instruction does to the flow of control, where there is one at the place.
-pub fn flow_at(points: &Points, place: usize) -> Option<Flow> {
-    let point = points.list.get(place)?;
-    Some(point.flow)
-}
-
 /// What stands in the delay slot behind a place, if it does something.
 pub fn slot_of(points: &Points, place: usize, line: Line) -> Result<Option<Step>, Fault> {
     let Some(point) = points.list.get(place.saturating_add(1)) else {
@@ -21,29 +15,20 @@ pub fn slot_of(points: &Points, place: usize, line: Line) -> Result<Option<Step>
     }
 }
 
-/// The line of the instruction at a place; of the function where there is none.
-pub fn line_at(points: &Points, place: usize) -> Line {
-    match points.list.get(place) {
-        Some(point) => point.step.line,
-        None => points.line,
-    }
-}
-
 /// The fields of the RESTORE at a place.
 pub fn restore_at(points: &Points, place: usize) -> Option<Three> {
-    match points.list.get(place) {
-        Some(point) => match point.step.instr {
-            Instr::Restore(fields) => Some(fields),
-            _ => None,
-        },
-        None => None,
+    let point = points.list.get(place)?;
+    match point.step.instr {
+        Instr::Restore(fields) => Some(fields),
+        _ => None,
     }
 }
 
 /// The place behind the constant that stands behind a call which gives a struct: it says nothing here.
 pub fn behind_mark(points: &Points, place: usize, line: Line) -> Result<Option<usize>, Fault> {
     if place >= 2
-        && let Some(Flow::Call) = flow_at(points, place.saturating_sub(2))
+        && let Some(before) = points.list.get(place.saturating_sub(2))
+        && let Flow::Call = before.flow
     {
         return Ok(Some(place.saturating_add(1)));
     }
