@@ -182,53 +182,43 @@ impl Source {
         Ok(())
     }
 
+    /// A directive of data, which has to stand in a section of data; one that aligns may stand among instructions.
     fn data_line(&mut self, directive: Directive, text: &[u8]) -> Result<(), Fault> {
-        match directive {
-            Directive::Align => self.aligned(text, false),
-            Directive::PowerAlign => self.aligned(text, true),
-            Directive::Room => self.room(text),
+        match (self.section, directive) {
+            (Section::Ignored, _) => Ok(()),
+            (Section::Code, Directive::Align | Directive::PowerAlign) => Ok(()),
+            (Section::Code, _) => Err(self.fault(Reason::Unreadable("data among instructions"))),
+            (_, Directive::Align) => self.aligned(text, false),
+            (_, Directive::PowerAlign) => self.aligned(text, true),
+            (_, Directive::Room) => self.room(text),
             _ => self.data_list(directive, text),
         }
     }
 
-    /// A directive that is the same in each section; else the directive.
-    fn common_line(
-        &mut self,
-        directive: Directive,
-        text: &[u8],
-    ) -> Result<Option<Directive>, Fault> {
-        match directive {
-            Directive::Enter(section) => self.enter(section),
-            Directive::Section => self.section_line(text)?,
-            Directive::Common => self.common(text)?,
-            Directive::Global => self.global(text)?,
-            Directive::Type => self.type_line(text)?,
-            Directive::File => self.file_line(text)?,
-            Directive::Loc => self.loc_line(text),
-            Directive::Nothing => {}
-            other => return Ok(Some(other)),
-        }
-        Ok(None)
-    }
-
     /// A directive, and what stands behind it.
     pub(crate) fn directive(&mut self, name: &[u8], text: &[u8]) -> Result<(), Fault> {
-        let Some(found) = beside(name, &DIRECTIVES) else {
+        let Some(directive) = beside(name, &DIRECTIVES) else {
             if matches!(self.section, Section::Ignored) || name.starts_with(b".cfi_") {
                 return Ok(());
             }
             return Err(self.named(Naming::Directive, name));
         };
-        let Some(other) = self.common_line(found, text)? else {
-            return Ok(());
-        };
-        match self.section {
-            Section::Data { .. } => self.data_line(other, text),
-            Section::Ignored => Ok(()),
-            Section::Code => match other {
-                Directive::Align | Directive::PowerAlign => Ok(()),
-                _ => Err(self.fault(Reason::Unreadable("data among instructions"))),
-            },
+        match directive {
+            Directive::Enter(section) => {
+                self.enter(section);
+                Ok(())
+            }
+            Directive::Section => self.section_line(text),
+            Directive::Common => self.common(text),
+            Directive::Global => self.global(text),
+            Directive::Type => self.type_line(text),
+            Directive::File => self.file_line(text),
+            Directive::Loc => {
+                self.loc_line(text);
+                Ok(())
+            }
+            Directive::Nothing => Ok(()),
+            _ => self.data_line(directive, text),
         }
     }
 }

@@ -14,16 +14,19 @@ fn escaped(text: &[u8]) -> Option<(u8, usize)> {
         value = value.saturating_mul(8).saturating_add(u32::from(*byte & 7));
         count = count.saturating_add(1);
     }
-    match text.first() {
-        _ if count > 0 => Some(((value & 0xff) as u8, count)),
-        None | Some(b'x') => None,
-        Some(b'n') => Some((b'\n', 1)),
-        Some(b't') => Some((b'\t', 1)),
-        Some(b'r') => Some((b'\r', 1)),
-        Some(b'b') => Some((8, 1)),
-        Some(b'f') => Some((12, 1)),
-        Some(letter) => Some((*letter, 1)),
+    if count > 0 {
+        return Some(((value & 0xff) as u8, count));
     }
+    let byte = match *text.first()? {
+        b'x' => return None,
+        b'n' => b'\n',
+        b't' => b'\t',
+        b'r' => b'\r',
+        b'b' => 8,
+        b'f' => 12,
+        letter => letter,
+    };
+    Some((byte, 1))
 }
 
 /// Appends the bytes of a string, which stands here in its quotes, and a zero where it ends with one. False where it
