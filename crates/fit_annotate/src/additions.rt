@@ -1,8 +1,9 @@
 //! The annotations that a source hasn't got yet, and where they stand.
 use crate::declared::{Declared, Looking};
+use fit_fuel::Total as Taken;
 use fit_insert::{Addition, Annotation, Total};
 use fit_source::Head;
-use fit_text::{BlockNotes, FunctionNotes};
+use fit_text::BlockNotes;
 use sbx_directives::Directive;
 use sbx_image::{Cell, Function, Range};
 use std::alloc::{AllocError, Global};
@@ -22,58 +23,56 @@ enum Sort {
     Cell,
 }
 
-/// Whether a directive is an annotation of a sort.
-fn is_of(sort: Sort, directive: &Directive) -> bool {
-    match sort {
-        Sort::Param => matches!(directive, Directive::Param(_)),
-        Sort::Result => matches!(directive, Directive::Result(_)),
-        Sort::Cell => matches!(directive, Directive::Cell(_)),
+/// The line behind the last annotation of a sort; where the source has none, the one behind the block's own.
+fn behind(head: &Head, sort: Sort) -> usize {
+    let mut line = head.line;
+    for given in &head.given {
+        match (sort, given.directive) {
+            (Sort::Param, Directive::Param(_))
+            | (Sort::Result, Directive::Result(_))
+            | (Sort::Cell, Directive::Cell(_)) => line = given.line,
+            _ => {}
+        }
     }
+    line.saturating_add(1)
 }
 
-/// Annotations of one block, each with its place.
-#[derive(Drop)]
-struct Own<'h> {
-    head: &'h Head,
-    list: Vec<Addition>,
-}
-
-impl Own<'_> {
-    /// The line behind the last annotation of a sort; where the source has none, the one behind the block's own.
-    fn behind(&self, sort: Sort) -> usize {
-        let mut line = self.head.line;
-        for given in &self.head.given {
-            if is_of(sort, &given.directive) {
-                line = given.line;
+/// The line before which the cell of a location stands; none where the source has it.
+fn place_of_cell(head: &Head, location: u16) -> Option<usize> {
+    for given in &head.given {
+        if let Directive::Cell(cell) = given.directive {
+            if cell.location == location {
+                return None;
+            }
+            if cell.location > location {
+                return Some(given.line);
             }
         }
-        line.saturating_add(1)
     }
+    Some(behind(head, Sort::Cell))
+}
 
+impl Added {
+    /// Adds an annotation before a line, behind all that stand there or before.
     fn push(&mut self, before: usize, annotation: Annotation) -> Result<(), AllocError> {
-        self.list.push(Addition { before, annotation })?;
+        let mut place = self.additions.len();
+        for addition in self.additions.iter().rev() {
+            if addition.before <= before {
+                break;
+            }
+            place = place.saturating_sub(1);
+        }
+        if place <= self.additions.len() {
+            self.additions
+                .insert(place, Addition { before, annotation })?;
+        }
         Ok(())
     }
 
-    /// The line before which the cell of a location stands; none where the source has it.
-    fn place_of_cell(&self, location: u16) -> Option<usize> {
-        for given in &self.head.given {
-            if let Directive::Cell(cell) = given.directive {
-                if cell.location == location {
-                    return None;
-                }
-                if cell.location > location {
-                    return Some(given.line);
-                }
-            }
-        }
-        Some(self.behind(Sort::Cell))
-    }
-
     /// Adds the cells of a block that the source hasn't got.
-    fn add_cells(&mut self, cells: &[Cell]) -> Result<(), AllocError> {
+    fn add_cells(&mut self, head: &Head, cells: &[Cell]) -> Result<(), AllocError> {
         for cell in cells {
-            if let Some(before) = self.place_of_cell(cell.location) {
+            if let Some(before) = place_of_cell(head, cell.location) {
                 self.push(before, Annotation::Cell(*cell))?;
             }
         }
@@ -81,8 +80,8 @@ impl Own<'_> {
     }
 
     /// Adds a block's fuel.
-    fn add_fuel(&mut self, notes: &BlockNotes) -> Result<(), AllocError> {
-        let before = self.behind(Sort::Cell);
+    fn add_fuel(&mut self, head: &Head, notes: &BlockNotes) -> Result<(), AllocError> {
+        let before = behind(head, Sort::Cell);
         self.push(before, Annotation::Fuel(notes.fuel))?;
         for term in notes.terms.as_slice() {
             self.push(before, Annotation::Term(*term))?;
@@ -90,85 +89,70 @@ impl Own<'_> {
         Ok(())
     }
 
-    /// Adds what a function takes for granted and gives back, as far as the source hasn't got it.
+    /// Adds what a function takes for granted, or gives back, of which the source says so many already.
     fn add_ranges(
         &mut self,
-        said: &Function,
-        params: &[Range],
-        results: &[Range],
+        head: &Head,
+        sort: Sort,
+        said: usize,
+        ranges: &[Range],
     ) -> Result<(), AllocError> {
-        let before = self.behind(Sort::Param);
-        for range in params.iter().skip(said.params.len()) {
-            self.push(before, Annotation::Param(*range))?;
-        }
-        let before = self.behind(Sort::Result);
-        for range in results.iter().skip(said.results.len()) {
-            self.push(before, Annotation::Result(*range))?;
+        let before = behind(head, sort);
+        for (place, range) in ranges.iter().enumerate() {
+            if place >= said {
+                let annotation = match sort {
+                    Sort::Result => Annotation::Result(*range),
+                    _ => Annotation::Param(*range),
+                };
+                self.push(before, annotation)?;
+            }
         }
         Ok(())
     }
 
-    /// Whether the source tells the function's depth.
-    fn has_depth(&self) -> bool {
-        for given in &self.head.given {
+    /// Adds a function's depth, unless the source tells it.
+    fn add_depth(&mut self, head: &Head, depth: u64) -> Result<(), AllocError> {
+        for given in &head.given {
             if matches!(given.directive, Directive::Depth(_)) {
-                return true;
+                return Ok(());
             }
         }
-        false
+        self.push(head.line.saturating_add(1), Annotation::Depth(depth))
     }
 
-    /// Adds a function's depth, where the source tells depths and not this one.
-    fn add_depth(&mut self, depth: u64) -> Result<(), AllocError> {
-        if depth > 0 && !self.has_depth() {
-            let before = self.head.line.saturating_add(1);
-            self.push(before, Annotation::Depth(depth))?;
-        }
-        Ok(())
-    }
-
-    /// Moves those that stand before a line.
-    fn move_to(&self, line: usize, additions: &mut Vec<Addition>) -> Result<(), AllocError> {
-        for addition in self.list.as_slice() {
-            if addition.before == line {
-                additions.push(*addition)?;
-            }
-        }
-        Ok(())
-    }
-
-    /// Moves all, by line: each stands behind the block's own line, or before or behind a given one.
-    fn move_all(&self, additions: &mut Vec<Addition>) -> Result<(), AllocError> {
-        let mut done = self.head.line.saturating_add(1);
-        self.move_to(done, additions)?;
-        for given in &self.head.given {
-            for line in &[given.line, given.line.saturating_add(1)] {
-                if done < *line {
-                    done = *line;
-                    self.move_to(done, additions)?;
-                }
-            }
-        }
-        Ok(())
-    }
-}
-
-impl Added {
-    /// The numbers of a function's line, where the source says 0.
-    fn add_total(
+    /// The numbers of a function's line, where the source says 0; its depth, where the source tells depths and not
+    /// this one; what it takes for granted and gives back, as far as the source hasn't got it.
+    fn add_head(
         &mut self,
+        looking: &Looking<'_>,
+        declared: &Declared,
+        number: usize,
         head: &Head,
         said: &Function,
-        notes: &FunctionNotes,
+        taken: Taken,
     ) -> Result<(), AllocError> {
-        if said.budget != notes.budget || u64::from(said.stack_room) != notes.room {
+        let budget = taken.budget.unwrap_or(0);
+        if said.budget != budget || u64::from(said.stack_room) != taken.room {
             self.totals.push(Total {
                 line: head.line,
-                room: notes.room,
-                budget: notes.budget,
+                room: taken.room,
+                budget,
             })?;
         }
-        Ok(())
+        if looking.image.version() == 3 && taken.depth > 0 {
+            self.add_depth(head, taken.depth)?;
+        }
+        let params = declared.ranges.params(number);
+        self.add_ranges(head, Sort::Param, said.params.len(), params)?;
+        match declared.ranges.results().get(number) {
+            Some(results) => self.add_ranges(
+                head,
+                Sort::Result,
+                said.results.len(),
+                results.as_slice(),
+            ),
+            None => Ok(()),
+        }
     }
 
     /// Adds what one function hasn't got.
@@ -178,48 +162,35 @@ impl Added {
         declared: &Declared,
         number: usize,
         said: &Function,
-        notes: &FunctionNotes,
+        taken: Taken,
     ) -> Result<(), AllocError> {
+        let blocks = match declared.blocks.get(number) {
+            Some(blocks) => blocks.as_slice(),
+            None => &[],
+        };
         for (block, head) in looking.heads_of(number).iter().enumerate() {
-            let mut own = Own {
-                head,
-                list: Vec::new(looking.alloc),
-            };
             if block == 0 {
-                self.add_total(head, said, notes)?;
-                if looking.image.version() == 3 {
-                    own.add_depth(notes.depth)?;
-                }
-                let results: &[Range] = match declared.ranges.results().get(number) {
-                    Some(results) => results.as_slice(),
-                    None => &[],
-                };
-                own.add_ranges(said, declared.ranges.params(number), results)?;
+                self.add_head(looking, declared, number, head, said, taken)?;
             } else if let Some(cells) = declared.ranges.cells(number, block) {
-                own.add_cells(cells)?;
+                self.add_cells(head, cells)?;
             }
-            if let Some(notes) = notes.blocks.get(block) {
-                own.add_fuel(notes)?;
+            if let Some(notes) = blocks.get(block) {
+                self.add_fuel(head, notes)?;
             }
-            own.move_all(&mut self.additions)?;
         }
         Ok(())
     }
 }
 
 /// What a source hasn't got of what is known of its program.
-pub fn additions_of(
-    alloc: Global,
-    looking: &Looking<'_>,
-    declared: &Declared,
-) -> Result<Added, AllocError> {
+pub fn additions_of(looking: &Looking<'_>, declared: &Declared) -> Result<Added, AllocError> {
     let mut added = Added {
-        additions: Vec::new(alloc),
-        totals: Vec::new(alloc),
+        additions: Vec::new(looking.alloc),
+        totals: Vec::new(looking.alloc),
     };
     for (number, said) in looking.image.functions().iter().enumerate() {
-        if let Some(Some(notes)) = declared.functions.get(number) {
-            added.add_function(looking, declared, number, said, notes)?;
+        if let Some(Some(taken)) = declared.totals.get(number) {
+            added.add_function(looking, declared, number, said, *taken)?;
         }
     }
     Ok(added)

@@ -9,9 +9,8 @@ use crate::declared::{Declared, Looking, declared_by};
 use crate::notes::{Asked, Note};
 use fit_code::{Fault, NO_LINE, Reason};
 use fit_insert::insert;
-use fit_source::{Lines, lines_of, program_of};
+use fit_source::{Read, lines_of, program_of};
 use sbx_asm::{AsmFault, assemble};
-use sbx_image::Image;
 use std::alloc::{AllocError, Global};
 
 /// Why there is no annotated source.
@@ -55,17 +54,13 @@ fn pages_for(room: u64) -> u64 {
     room.saturating_add(64 + 4095) / 4096
 }
 
-/// The notes of what isn't shown, by line, with one where the stack has fewer pages than the first function asks for.
-fn notes_of(looking: &Looking<'_>, declared: Declared) -> Result<Vec<Note>, AllocError> {
-    let Declared {
-        functions,
-        mut notes,
-        ..
-    } = declared;
-    if let Some(Some(first)) = functions.first() {
+/// Puts the notes of what isn't shown in the order of their lines, with one where the stack has fewer pages than the
+/// first function asks for.
+fn finish_notes(looking: &Looking<'_>, declared: &mut Declared) -> Result<(), AllocError> {
+    if let Some(Some(first)) = declared.totals.first() {
         let pages = pages_for(first.room);
         if pages > u64::from(looking.image.stack_pages()) {
-            notes.push(Note {
+            declared.notes.push(Note {
                 line: looking.line_of(0, 0),
                 asked: Asked::More {
                     what: "the number of `.stack`",
@@ -74,42 +69,45 @@ fn notes_of(looking: &Looking<'_>, declared: Declared) -> Result<Vec<Note>, Allo
             })?;
         }
     }
-    notes.as_mut_slice().sort_unstable_by_key(|note| note.line);
-    Ok(notes)
+    declared
+        .notes
+        .as_mut_slice()
+        .sort_unstable_by_key(|note| note.line);
+    Ok(())
 }
 
-/// What is put into a source, of which the assembler makes an image, and notes of what isn't shown.
-fn found_of(
-    alloc: Global,
-    file: &str,
-    image: &Image,
-    lines: &Lines,
-) -> Result<(Added, Vec<Note>), Refusal> {
-    let read = program_of(alloc, file, image, lines)?;
+/// What is put into a source, by what is found of its program, and notes of what isn't shown.
+fn added_to(looking: &Looking<'_>, read: Read) -> Result<(Added, Vec<Note>), Fault> {
+    let mut declared = declared_by(looking, read)?;
+    finish_notes(looking, &mut declared)?;
+    let added = additions_of(looking, &declared)?;
+    Ok((added, declared.notes))
+}
+
+/// The same of a source of which the assembler makes an image.
+fn found_of(alloc: Global, file: &str, source: &[u8]) -> Result<(Added, Vec<Note>), Refusal> {
+    let image = assemble(alloc, source)?;
+    let lines = lines_of(alloc, source)?;
+    let read = program_of(alloc, file, &image, &lines)?;
     let looking = Looking {
         alloc,
-        image,
+        image: &image,
         heads: lines.heads.as_slice(),
     };
-    let declared = declared_by(&looking, read)?;
-    let added = additions_of(alloc, &looking, &declared)?;
-    let notes = notes_of(&looking, declared)?;
-    Ok((added, notes))
+    Ok(added_to(&looking, read)?)
 }
 
-/// What an inserted line that is no annotation is told as; it can't be.
-fn misplaced() -> Refusal {
-    Refusal::Program(Fault::new(
-        NO_LINE,
-        Reason::Unreadable("an annotation has no place in the source"),
-    ))
-}
-
-/// A text that the assembler takes.
-fn taken(alloc: Global, text: Vec<u8>) -> Result<Vec<u8>, Refusal>
-    ensures same { IfOk result (λ taken. taken.items ≡ text.items) }
-    ensures means { IfOk result (λ taken. IsOk (source_image taken.items)) }
+/// A source with these annotations, which the assembler takes. That an inserted line is no annotation can't be.
+fn made_of(alloc: Global, source: &[u8], added: &Added) -> Result<Vec<u8>, Refusal>
+    ensures stays { IfOk result (λ text. IsAnnotated (lines_of source.now) (lines_of text.items)) }
+    ensures without { IfOk result (λ text. without (lines_of text.items) ≡ without (lines_of source.now)) }
+    ensures means { IfOk result (λ text. IsOk (source_image text.items)) }
 {
+    let (additions, totals) = (added.additions.as_slice(), added.totals.as_slice());
+    let Some(text) = insert(alloc, source, additions, totals)? else {
+        let reason = Reason::Unreadable("an annotation has no place in the source");
+        return Err(Refusal::Program(Fault::new(NO_LINE, reason)));
+    };
     match assemble(alloc, text.as_slice()) {
         Ok(_image) => Ok(text),
         Err(fault) => Err(Refusal::Made(fault)),
@@ -131,20 +129,7 @@ pub fn annotate(alloc: Global, file: &str, source: &[u8]) -> Result<Annotated, R
     ensures without { IfOk result (λ made. without (lines_of made.text.items) ≡ without (lines_of source.now)) }
     ensures means { IfOk result (λ made. IsOk (source_image made.text.items)) }
 {
-    let image = assemble(alloc, source)?;
-    let lines = lines_of(alloc, source)?;
-    let (added, notes) = found_of(alloc, file, &image, &lines)?;
-    let inserted = insert(
-        alloc,
-        source,
-        added.additions.as_slice(),
-        added.totals.as_slice(),
-    )?;
-    match inserted {
-        Some(text) => Ok(Annotated {
-            text: taken(alloc, text)?,
-            notes,
-        }),
-        None => Err(misplaced()),
-    }
+    let (added, notes) = found_of(alloc, file, source)?;
+    let text = made_of(alloc, source, &added)?;
+    Ok(Annotated { text, notes })
 }

@@ -1,11 +1,11 @@
 //! What the functions of a source declare: what it says of them itself, and what is found.
 use crate::notes::{Asked, Note};
-use fit_code::{Fault, Function, Program, Reason};
-use fit_fuel::{bounds_of, declare_function, total_of};
+use fit_code::{Block, Fault, Function, Program, Reason};
+use fit_fuel::{Task, Total, bounds_of, declare_function, total_of};
 use fit_ranges::Ranges;
 use fit_source::{Head, Read};
 use fit_tests::{Asking, asks_of};
-use fit_text::FunctionNotes;
+use fit_text::{BlockNotes, FunctionNotes};
 use sbx_directives::Directive;
 use sbx_domain::State;
 use sbx_image::{Cell, Image};
@@ -15,12 +15,10 @@ use std::alloc::{AllocError, Global};
 #[derive(Drop)]
 pub struct Declared {
     pub ranges: Ranges,
-    /// Of each function; its blocks are none where its fuel isn't found, or where the source says it.
-    pub functions: Vec<Option<FunctionNotes>>,
-    /// Of each function whether its budget is known.
-    known: Vec<bool>,
-    /// The budgets by which calls are paid for.
-    budgets: Vec<u64>,
+    /// What each function declares; calls are paid for by its budget, where it is known.
+    pub totals: Vec<Option<Total>>,
+    /// What is found of each function's blocks; nothing where its fuel isn't found, or where the source says it.
+    pub blocks: Vec<Vec<BlockNotes>>,
     pub notes: Vec<Note>,
 }
 
@@ -42,63 +40,71 @@ fn says_fuel(head: &Head) -> bool {
     false
 }
 
+/// Adds the cells that the source says of a function's blocks.
+fn add_cells(
+    alloc: Global,
+    function: &sbx_image::Function,
+    said: &mut Vec<Vec<Cell>>,
+) -> Result<(), AllocError> {
+    for block in function.blocks.as_slice() {
+        said.push(Vec::from_slice(alloc, block.cells.as_slice())?)?;
+    }
+    Ok(())
+}
+
 /// The cells that the source says of each function's blocks.
 fn said_cells(looking: &Looking<'_>) -> Result<Vec<Vec<Vec<Cell>>>, AllocError> {
     let mut said = Vec::new(looking.alloc);
     for function in looking.image.functions() {
-        let mut blocks = Vec::new(looking.alloc);
-        for block in function.blocks.as_slice() {
-            blocks.push(Vec::from_slice(looking.alloc, block.cells.as_slice())?)?;
-        }
-        said.push(blocks)?;
+        let blocks = said.push_mut(Vec::new(looking.alloc))?;
+        add_cells(looking.alloc, function, blocks)?;
     }
     Ok(said)
 }
 
-/// Whether one of a function's calls goes where the budget isn't known.
-fn calls_unknown(function: &Function, known: &[bool]) -> bool {
-    for block in &function.blocks {
-        for step in &block.steps {
-            if let Some(callee) = step.callee
-                && !known.get(callee).copied().unwrap_or(false)
-            {
-                return true;
+/// Whether one of a block's calls goes where the budget isn't known.
+fn calls_unknown(block: &Block, totals: &[Option<Total>]) -> bool {
+    for step in block.steps.as_slice() {
+        if let Some(callee) = step.callee {
+            match totals.get(callee) {
+                Some(Some(total)) if total.budget.is_some() => {}
+                _ => return true,
             }
         }
     }
     false
 }
 
-/// Notes of what isn't shown of a function's steps.
-fn add_asks(
-    asking: &Asking<'_>,
+/// A function without a meter that is to declare something, where what those take that it calls is known.
+fn task_of<'t>(
+    alloc: Global,
+    ranges: &'t Ranges,
     number: usize,
-    state: &mut State,
-    notes: &mut Vec<Note>,
-) -> Result<(), AllocError> {
-    for ask in asks_of(asking, number, state)? {
-        notes.push(Note {
-            line: ask.line.number,
-            asked: Asked::Shown(ask.lack),
-        })?;
+    known: &'t [Option<Total>],
+    spared: &'t [u64],
+) -> Task<'t> {
+    Task {
+        alloc,
+        ranges,
+        number,
+        meter: None,
+        known,
+        spared,
     }
-    Ok(())
 }
 
 impl<'l> Looking<'l> {
     /// The heads of a function's blocks.
     pub fn heads_of(&self, number: usize) -> &'l [Head] {
         let mut from = 0usize;
-        for function in self.image.functions().iter().take(number) {
-            from = from.saturating_add(function.blocks.len());
+        for (place, function) in self.image.functions().iter().enumerate() {
+            let to = from.saturating_add(function.blocks.len());
+            if place == number {
+                return self.heads.get(from..to).unwrap_or(&[]);
+            }
+            from = to;
         }
-        let count = match self.image.functions().get(number) {
-            Some(function) => function.blocks.len(),
-            None => 0,
-        };
-        self.heads
-            .get(from..from.saturating_add(count))
-            .unwrap_or(&[])
+        &[]
     }
 
     /// The line at which a block begins, by the numbers of its function and its own.
@@ -128,20 +134,13 @@ impl<'l> Looking<'l> {
 }
 
 impl Declared {
-    /// Nothing but the ranges is known of a program's functions.
-    fn none(alloc: Global, program: &Program, ranges: Ranges) -> Result<Declared, AllocError> {
-        let count = program.functions.len();
-        let mut functions = Vec::new(alloc);
-        for _ in 0..count {
-            functions.push(None)?;
+    /// Makes room for what is found of so many functions.
+    fn make_room(&mut self, alloc: Global, functions: usize) -> Result<(), AllocError> {
+        self.totals.resize(functions, None)?;
+        for _ in 0..functions {
+            self.blocks.push(Vec::new(alloc))?;
         }
-        Ok(Declared {
-            ranges,
-            functions,
-            known: vec![in alloc; false; count]?,
-            budgets: vec![in alloc; 0; count]?,
-            notes: Vec::new(alloc),
-        })
+        Ok(())
     }
 
     fn note(&mut self, line: u32, asked: Asked) -> Result<(), AllocError> {
@@ -159,6 +158,27 @@ impl Declared {
         Ok(())
     }
 
+    /// Notes of what isn't shown of a function's steps.
+    fn add_asks(
+        &mut self,
+        alloc: Global,
+        program: &Program,
+        number: usize,
+        state: &mut State,
+    ) -> Result<(), AllocError> {
+        let asking = Asking {
+            alloc,
+            program,
+            ranges: &self.ranges,
+            by_object: false,
+        };
+        let asks = asks_of(&asking, number, state)?;
+        for ask in asks.as_slice() {
+            self.note(ask.line.number, Asked::Shown(ask.lack))?;
+        }
+        Ok(())
+    }
+
     /// Notes of the loops that no counter bounds; says whether there are some.
     fn add_unbounded(
         &mut self,
@@ -167,9 +187,10 @@ impl Declared {
         number: usize,
         state: &mut State,
     ) -> Result<bool, AllocError> {
+        let bounds = bounds_of(looking.alloc, program, &self.ranges, number, state)?;
         let mut has_some = false;
-        for (within, bound) in bounds_of(looking.alloc, program, &self.ranges, number, state)? {
-            if bound.is_none() {
+        for (place, within) in bounds.loops.iter().enumerate() {
+            if bounds.at(place).is_none() {
                 has_some = true;
                 self.note(looking.line_of(number, within.head), Asked::Counter)?;
             }
@@ -195,38 +216,51 @@ impl Declared {
         Ok(())
     }
 
-    /// What is found of a function's fuel; nothing where it isn't, which is noted, or where the source says it.
-    fn found(
+    /// Whether a function calls one whose budget isn't known.
+    fn is_waiting(&self, function: &Function) -> bool {
+        for block in function.blocks.as_slice() {
+            if calls_unknown(block, self.totals.as_slice()) {
+                return true;
+            }
+        }
+        false
+    }
+
+    /// Finds a function's fuel, unless the source says it, and gives the budget; none where it isn't found, which is
+    /// noted.
+    fn find(
         &mut self,
         looking: &Looking<'_>,
         program: &mut Program,
         spared: &[u64],
         number: usize,
         state: &mut State,
-    ) -> Result<Option<FunctionNotes>, Fault> {
-        let is_free = match program.functions.get(number) {
-            Some(function) => !calls_unknown(function, self.known.as_slice()),
+    ) -> Result<Option<u64>, Fault> {
+        if looking.says_fuel_of(number) {
+            return Ok(looking.said_fuel(number));
+        }
+        let is_waiting = match program.functions.get(number) {
+            Some(function) => self.is_waiting(function),
             None => return Ok(None),
         };
-        if looking.says_fuel_of(number) {
-            return Ok(None);
-        }
-        if !is_free {
+        if is_waiting {
             self.note(looking.line_of(number, 0), Asked::Callee)?;
             return Ok(None);
         }
-        let made = declare_function(
+        let task = task_of(
             looking.alloc,
-            program,
             &self.ranges,
             number,
-            self.budgets.as_slice(),
+            self.totals.as_slice(),
             spared,
-            self.functions.as_slice(),
-            state,
         );
-        match made {
-            Ok(notes) => Ok(Some(notes)),
+        match declare_function(program, &task, state) {
+            Ok(FunctionNotes { budget, blocks, .. }) => {
+                if let Some(place) = self.blocks.get_mut(number) {
+                    *place = blocks;
+                }
+                Ok(Some(budget))
+            }
             Err(fault) => {
                 self.add_fault(looking, program, number, fault, state)?;
                 Ok(None)
@@ -251,6 +285,38 @@ impl Declared {
         Ok(said)
     }
 
+    /// Takes over what is found of a function beside what the source says of it.
+    fn settle(
+        &mut self,
+        looking: &Looking<'_>,
+        program: &Program,
+        number: usize,
+        budget: Option<u64>,
+    ) -> Result<(), AllocError> {
+        let (Some(said), Some(function)) = (
+            looking.image.functions().get(number),
+            program.functions.get(number),
+        ) else {
+            return Ok(());
+        };
+        let found = total_of(function, budget, self.totals.as_slice());
+        let line = looking.line_of(number, 0);
+        let what = "the budget, where 0 is filled in,";
+        let turns = self.settled(line, what, said.budget, budget.unwrap_or(0))?;
+        let what = "the stack room, where 0 is filled in,";
+        let room = self.settled(line, what, u64::from(said.stack_room), found.room)?;
+        let depth = self.settled(line, "the depth", u64::from(said.depth), found.depth)?;
+        if let Some(total) = self.totals.get_mut(number) {
+            let is_known = said.budget > 0 || budget.is_some();
+            *total = Some(Total {
+                budget: if is_known { Some(turns) } else { None },
+                room,
+                depth,
+            });
+        }
+        Ok(())
+    }
+
     /// Looks at one function, where those that it calls were looked at.
     fn look(
         &mut self,
@@ -261,85 +327,30 @@ impl Declared {
         state: &mut State,
     ) -> Result<(), Fault> {
         self.add_unreached(looking, number)?;
-        let asking = Asking {
-            alloc: looking.alloc,
-            program,
-            ranges: &self.ranges,
-            by_object: false,
-        };
-        add_asks(&asking, number, state, &mut self.notes)?;
-        let found = self.found(looking, program, spared, number, state)?;
-        self.settle(looking, program, number, found)?;
+        self.add_asks(looking.alloc, program, number, state)?;
+        let budget = self.find(looking, program, spared, number, state)?;
+        self.settle(looking, program, number, budget)?;
         Ok(())
     }
 
-    /// Takes over what is found of a function beside what the source says of it.
-    fn settle(
+    /// Looks at all functions, the last one first, since each calls those behind it alone.
+    fn look_at_all(
         &mut self,
         looking: &Looking<'_>,
-        program: &Program,
-        number: usize,
-        found: Option<FunctionNotes>,
-    ) -> Result<(), AllocError> {
-        let (Some(said), Some(function)) = (
-            looking.image.functions().get(number),
-            program.functions.get(number),
-        ) else {
-            return Ok(());
-        };
-        let total = total_of(function, self.functions.as_slice());
-        let line = looking.line_of(number, 0);
-        let (budget, blocks) = match found {
-            Some(notes) => (Some(notes.budget), notes.blocks),
-            None if looking.says_fuel_of(number) => (
-                looking.said_fuel(number),
-                Vec::new(looking.alloc),
-            ),
-            None => (None, Vec::new(looking.alloc)),
-        };
-        let is_known = said.budget > 0 || budget.is_some();
-        let budget = self.settled(
-            line,
-            "the budget, where 0 is filled in,",
-            said.budget,
-            budget.unwrap_or(0),
-        )?;
-        let room = self.settled(
-            line,
-            "the stack room, where 0 is filled in,",
-            u64::from(said.stack_room),
-            total.room,
-        )?;
-        let depth = self.settled(line, "the depth", u64::from(said.depth), total.depth)?;
-        let notes = FunctionNotes {
-            budget,
-            room,
-            depth,
-            blocks,
-        };
-        self.put(number, notes, is_known);
-        Ok(())
-    }
-
-    /// Says of a function what it declares, and whether its budget is known.
-    fn put(&mut self, number: usize, notes: FunctionNotes, is_known: bool) {
-        if let Some(place) = self.budgets.get_mut(number) {
-            *place = notes.budget;
+        program: &mut Program,
+        spared: &[Vec<u64>],
+        state: &mut State,
+    ) -> Result<(), Fault> {
+        let count = program.functions.len();
+        self.make_room(looking.alloc, count)?;
+        for number in (0..count).rev() {
+            let less = match spared.get(number) {
+                Some(spared) => spared.as_slice(),
+                None => &[],
+            };
+            self.look(looking, program, less, number, state)?;
         }
-        if let Some(place) = self.known.get_mut(number) {
-            *place = is_known;
-        }
-        if let Some(place) = self.functions.get_mut(number) {
-            *place = Some(notes);
-        }
-    }
-}
-
-/// The turns that the blocks of a function weigh less.
-fn spared_of(spared: &[Vec<u64>], number: usize) -> &[u64] {
-    match spared.get(number) {
-        Some(spared) => spared.as_slice(),
-        None => &[],
+        self.ranges.check_limits(program)
     }
 }
 
@@ -349,14 +360,15 @@ pub fn declared_by(looking: &Looking<'_>, read: Read) -> Result<Declared, Fault>
         mut program,
         spared,
     } = read;
-    let mut state = State::new(looking.alloc)?;
+    let alloc = looking.alloc;
+    let mut state = State::new(alloc)?;
     let said = said_cells(looking)?;
-    let ranges = Ranges::beside(looking.alloc, &program, said, &mut state)?;
-    let mut declared = Declared::none(looking.alloc, &program, ranges)?;
-    for number in (0..program.functions.len()).rev() {
-        let less = spared_of(spared.as_slice(), number);
-        declared.look(looking, &mut program, less, number, &mut state)?;
-    }
-    declared.ranges.check_limits(&program)?;
+    let mut declared = Declared {
+        ranges: Ranges::beside(alloc, &program, said, &mut state)?,
+        totals: Vec::new(alloc),
+        blocks: Vec::new(alloc),
+        notes: Vec::new(alloc),
+    };
+    declared.look_at_all(looking, &mut program, spared.as_slice(), &mut state)?;
     Ok(declared)
 }

@@ -3,10 +3,13 @@
 #![tactic(auto)]
 
 mod bounds;
+mod cells;
 mod declaring;
 mod meter;
+mod totals;
 mod ways;
 
-pub use bounds::{bounded_heads, bounds_of};
-pub use declaring::{declare, declare_function, total_of};
+pub use bounds::{Bounds, bounded_heads, bounds_of};
+pub use declaring::{Task, declare, declare_function};
 pub use meter::{Meter, put_number, put_step, step_of};
+pub use totals::{Total, total_of};

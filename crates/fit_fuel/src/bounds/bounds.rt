@@ -1,10 +1,11 @@
 //! The counters of loops.
-use crate::bounds::changes::{Passage, Setting, change_of_round, is_steady, passages_of};
-use fit_code::Program;
+use crate::bounds::changes::{Candidate, Setting, add_ways, candidates_of};
+use crate::bounds::rounds::{course_of, least_of_round};
+use crate::cells::range_of;
+use fit_code::{Function, Program};
 use fit_graph::{Loop, enters_beside_head, loops_of};
 use fit_ranges::Ranges;
 use sbx_domain::State;
-use sbx_parts::Cell;
 use std::alloc::{AllocError, Global};
 
 /// A counter of a loop.
@@ -19,142 +20,164 @@ pub struct Bound {
     pub is_steady: bool,
 }
 
-/// Whether one of some cells is of a location.
-fn names(cells: &[Cell], location: u16) -> bool {
-    for cell in cells {
-        if cell.location == location {
-            return true;
+/// The loops of a function, an outer one before an inner one, and of each, by its place, the bound that was found.
+#[derive(Drop)]
+pub struct Bounds {
+    pub loops: Vec<Loop>,
+    pub bounds: Vec<Option<Bound>>,
+}
+
+impl Bounds {
+    /// The bound of the loop at a place; none where none was found.
+    pub fn at(&self, place: usize) -> Option<Bound> {
+        match self.bounds.get(place) {
+            Some(bound) => *bound,
+            None => None,
         }
     }
-    false
+
+    /// Finds the loops of a function and their bounds.
+    fn find(
+        &mut self,
+        setting: &Setting<'_>,
+        function: &Function,
+        state: &mut State,
+    ) -> Result<(), AllocError> {
+        let is_plain = enters_beside_head(setting.alloc, function)?.is_none();
+        self.loops = loops_of(setting.alloc, function)?;
+        for within in self.loops.as_slice() {
+            self.bounds.push(if is_plain {
+                bound_of(setting, function, within, state)?
+            } else {
+                None
+            })?;
+        }
+        Ok(())
+    }
+
+    /// Adds the heads of the loops that have a steady bound of at most so many rounds, and only such loops in them.
+    fn add_heads(&mut self, most: u64, heads: &mut Vec<usize>) -> Result<(), AllocError> {
+        // an inner loop stands behind those around it, which are as unbounded as it is
+        for place in (0..self.loops.len()).rev() {
+            let Some(within) = self.loops.get(place) else {
+                continue;
+            };
+            match self.at(place) {
+                Some(bound) if bound.is_steady && bound.rounds <= most => heads.push(within.head)?,
+                _ => {
+                    if let Some(parent) = within.parent
+                        && let Some(around) = self.bounds.get_mut(parent)
+                    {
+                        *around = None;
+                    }
+                }
+            }
+        }
+        Ok(())
+    }
 }
 
 /// Whether each block of a loop knows a location where it begins.
 fn is_known_throughout(setting: &Setting<'_>, within: &Loop, location: u16) -> bool {
     for (block, is_in) in within.holds.iter().enumerate() {
-        let knows = match setting.ranges.cells(setting.number, block) {
-            Some(cells) => names(cells, location),
-            None => true,
-        };
-        if *is_in && !knows {
+        if *is_in
+            && let Some(cells) = setting.ranges.cells(setting.number, block)
+            && range_of(cells, location).is_none()
+        {
             return false;
         }
     }
     true
 }
 
-/// The bound that a candidate gives; none where it gives none.
+/// The bound that a candidate gives; none where it doesn't change one way, or isn't known throughout the loop.
 fn bound_by(
     setting: &Setting<'_>,
     within: &Loop,
-    passages: &[Passage],
-    candidate: usize,
-    cell: &Cell,
+    candidate: &Candidate,
 ) -> Result<Option<Bound>, AllocError> {
-    let blocks = within.holds.len();
-    let change = change_of_round(setting.alloc, passages, candidate, within.head, blocks)?;
-    let Some(change) = change else {
+    let Candidate { cell, passages } = candidate;
+    let Some(course) = course_of(passages.as_slice()) else {
         return Ok(None);
     };
-    if !is_known_throughout(setting, within, cell.location) {
+    if !(course.falls || course.rises) || !is_known_throughout(setting, within, cell.location) {
         return Ok(None);
     }
+    let blocks = within.holds.len();
+    let least = least_of_round(setting.alloc, passages.as_slice(), within.head, blocks)?;
+    let change = match i64::try_from(least) {
+        Ok(0) | Err(_) => return Ok(None),
+        Ok(amount) if course.falls => amount.saturating_neg(),
+        Ok(amount) => amount,
+    };
     let width = i64::from(cell.range.hi).saturating_sub(i64::from(cell.range.lo));
     let rounds = width.unsigned_abs() / change.unsigned_abs().max(1);
     Ok(Some(Bound {
         location: cell.location,
         change,
         rounds: rounds.saturating_add(1),
-        is_steady: is_steady(passages, candidate),
+        is_steady: course.is_steady,
     }))
 }
 
-/// Whether a bound is the better one: a steady one before others, and then that of fewer rounds.
-fn is_better(bound: Bound, found: Bound) -> bool {
-    if bound.is_steady == found.is_steady {
-        bound.rounds < found.rounds
+/// The better bound: a steady one before others, and then that of fewer rounds.
+fn better(found: Option<Bound>, other: Bound) -> Bound {
+    let Some(found) = found else {
+        return other;
+    };
+    let is_better = if other.is_steady == found.is_steady {
+        other.rounds < found.rounds
     } else {
-        bound.is_steady
-    }
-}
-
-/// The better bound.
-fn better(found: Option<Bound>, other: Option<Bound>) -> Option<Bound> {
-    match (found, other) {
-        (Some(found), Some(other)) if is_better(other, found) => Some(other),
-        (Some(found), _) => Some(found),
-        (None, other) => other,
-    }
+        other.is_steady
+    };
+    if is_better { other } else { found }
 }
 
 /// The bound of a loop by the counter that changes by one number and gives the fewest rounds, else by another; none
 /// where no location counts.
 fn bound_of(
     setting: &Setting<'_>,
+    function: &Function,
     within: &Loop,
     state: &mut State,
 ) -> Result<Option<Bound>, AllocError> {
-    let Some(candidates) = setting.ranges.cells(setting.number, within.head) else {
+    let Some(cells) = setting.ranges.cells(setting.number, within.head) else {
         return Ok(None);
     };
-    let passages = passages_of(setting, within, candidates, state)?;
+    let mut candidates = candidates_of(setting.alloc, cells)?;
+    add_ways(setting, function, within, candidates.as_mut_slice(), state)?;
     let mut found = None;
-    for (candidate, cell) in candidates.iter().enumerate() {
-        let other = bound_by(setting, within, passages.as_slice(), candidate, cell)?;
-        found = better(found, other);
+    for candidate in candidates.as_slice() {
+        if let Some(other) = bound_by(setting, within, candidate)? {
+            found = Some(better(found, other));
+        }
     }
     Ok(found)
 }
 
-/// Adds a loop with its bound, which is looked for where `is_plain`.
-fn add_bound(
-    setting: &Setting<'_>,
-    within: Loop,
-    is_plain: bool,
-    state: &mut State,
-    bounds: &mut Vec<(Loop, Option<Bound>)>,
-) -> Result<(), AllocError> {
-    let bound = if is_plain {
-        bound_of(setting, &within, state)?
-    } else {
-        None
-    };
-    bounds.push((within, bound))?;
-    Ok(())
-}
-
-/// The loops of a function, an outer one before an inner one, each with its bound, where one was found. Of a function
-/// with a loop that is entered beside its head no bounds are looked for.
+/// The loops of a function with their bounds. Of a function with a loop that is entered beside its head no bounds are
+/// looked for.
 pub fn bounds_of(
     alloc: Global,
     program: &Program,
     ranges: &Ranges,
     number: usize,
     state: &mut State,
-) -> Result<Vec<(Loop, Option<Bound>)>, AllocError> {
-    let mut bounds = Vec::new(alloc);
-    let Some(function) = program.functions.get(number) else {
-        return Ok(bounds);
+) -> Result<Bounds, AllocError> {
+    let mut found = Bounds {
+        loops: Vec::new(alloc),
+        bounds: Vec::new(alloc),
     };
-    let is_plain = enters_beside_head(alloc, function)?.is_none();
-    let setting = Setting {
-        alloc,
-        program,
-        ranges,
-        number,
-    };
-    for within in loops_of(alloc, function)? {
-        add_bound(&setting, within, is_plain, state, &mut bounds)?;
+    if let Some(function) = program.functions.get(number) {
+        let setting = Setting {
+            alloc,
+            program,
+            ranges,
+            number,
+        };
+        found.find(&setting, function, state)?;
     }
-    Ok(bounds)
-}
-
-/// Whether a bound is steady, and of few rounds.
-fn is_within(bound: Option<Bound>, most: u64) -> bool {
-    match bound {
-        Some(bound) => bound.is_steady && bound.rounds <= most,
-        None => false,
-    }
+    Ok(found)
 }
 
 /// The heads of a function's loops that have a steady bound of at most so many rounds, and only such loops in them.
@@ -166,19 +189,8 @@ pub fn bounded_heads(
     most: u64,
     state: &mut State,
 ) -> Result<Vec<usize>, AllocError> {
-    let bounds = bounds_of(alloc, program, ranges, number, state)?;
+    let mut found = bounds_of(alloc, program, ranges, number, state)?;
     let mut heads = Vec::new(alloc);
-    // an inner loop stands behind those around it
-    let mut holds_others = vec![in alloc; false; bounds.len()]?;
-    for (place, (within, bound)) in bounds.iter().enumerate().rev() {
-        let has_other = holds_others.get(place).copied().unwrap_or(false);
-        if !has_other && is_within(*bound, most) {
-            heads.push(within.head)?;
-        } else if let Some(parent) = within.parent
-            && let Some(mark) = holds_others.get_mut(parent)
-        {
-            *mark = true;
-        }
-    }
+    found.add_heads(most, &mut heads)?;
     Ok(heads)
 }

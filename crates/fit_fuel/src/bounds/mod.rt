@@ -2,5 +2,6 @@
 //! in a range.
 mod bounds;
 mod changes;
+mod rounds;
 
-pub use bounds::{Bound, bounded_heads, bounds_of};
+pub use bounds::{Bound, Bounds, bounded_heads, bounds_of};

@@ -1,6 +1,6 @@
 //! Limits of an image that a program may pass.
 use fit_code::{Block, End, Fault, Function, Line, Program, Reason};
-use fit_text::{Annotations, BlockNotes, FunctionNotes};
+use fit_text::{Annotations, FunctionNotes};
 
 /// The most words of code.
 const WORDS: u64 = 65_536;
@@ -29,20 +29,10 @@ fn words_of(block: &Block) -> u64 {
     words
 }
 
-fn check_block(block: &Block, notes: &BlockNotes) -> Result<(), Fault> {
-    let (cells, terms) = (notes.cells.len() as u64, notes.terms.len() as u64);
-    check(block.line, "what is known where a block begins", cells, 64)?;
-    check(block.line, "the loops around a block", terms, 8)
-}
-
 /// Checks a function, and gives how many words it has.
 fn check_function(function: &Function, notes: &FunctionNotes) -> Result<u64, Fault> {
-    check(
-        function.line,
-        "the blocks of a function",
-        function.blocks.len() as u64,
-        4096,
-    )?;
+    let blocks = function.blocks.len() as u64;
+    check(function.line, "the blocks of a function", blocks, 4096)?;
     check(
         function.line,
         "the stack that calls take",
@@ -52,7 +42,9 @@ fn check_function(function: &Function, notes: &FunctionNotes) -> Result<u64, Fau
     let mut words: u64 = 1;
     for (number, block) in function.blocks.iter().enumerate() {
         if let Some(notes) = notes.blocks.get(number) {
-            check_block(block, notes)?;
+            let (cells, terms) = (notes.cells.len() as u64, notes.terms.len() as u64);
+            check(block.line, "what is known where a block begins", cells, 64)?;
+            check(block.line, "the loops around a block", terms, 8)?;
             words = words.saturating_add(words_of(block));
         }
     }

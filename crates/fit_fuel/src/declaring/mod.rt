@@ -4,7 +4,5 @@ mod declaring;
 mod limits;
 mod metering;
 mod terms;
-mod totals;
 
-pub use declaring::{declare, declare_function};
-pub use totals::{Total, total_of};
+pub use declaring::{Task, declare, declare_function};

@@ -1,11 +1,13 @@
 //! The terms of blocks: what is left in the meter, and so many turns for each round that is left to a counter.
-use crate::bounds::Bound;
+use crate::bounds::{Bound, Bounds};
+use crate::cells::range_of;
 use crate::meter::Meter;
-use crate::ways::{Setting, Way, cells_at, constant_at, least_constants, ways_of_loop};
+use crate::ways::{Fuel, Setting, cells_at, constant_at};
 use fit_graph::Loop;
+use fit_text::BlockNotes;
 use sbx_domain::State;
-use sbx_parts::{Cell, Term};
-use std::alloc::{AllocError, Global};
+use sbx_parts::Term;
+use std::alloc::AllocError;
 
 /// Adds a term to those of a block, which stand by location.
 fn add_term(terms: &mut Vec<Term>, location: u16, coefficient: i32) -> Result<(), AllocError> {
@@ -31,58 +33,24 @@ fn add_term(terms: &mut Vec<Term>, location: u16, coefficient: i32) -> Result<()
     Ok(())
 }
 
-/// The terms of the meter, in each block that knows it.
-fn metered(
+/// Begins with the terms of the meter, in each block that knows it.
+fn begin(
     setting: &Setting<'_>,
     meter: Option<&Meter>,
-    blocks: usize,
-) -> Result<Vec<Vec<Term>>, AllocError> {
-    let mut all = Vec::new(setting.alloc);
-    for block in 0..blocks {
-        let mut terms = Vec::new(setting.alloc);
-        if let Some(meter) = meter {
-            let location = meter.location();
-            let unit = i32::try_from(meter.unit).unwrap_or(i32::MAX);
-            if names(cells_at(setting, block), location) {
-                add_term(&mut terms, location, unit)?;
-            }
-        }
-        all.push(terms)?;
-    }
-    Ok(all)
-}
-
-/// The ways that stay in a loop, where those back to its head end.
-fn ways_within(alloc: Global, ways: &[Way], within: &Loop) -> Result<Vec<Way>, AllocError> {
-    let mut found = Vec::new(alloc);
-    for way in ways {
-        if let Some(to) = way.to
-            && within.has(way.from)
-            && within.has(to)
+    blocks: &mut [BlockNotes],
+) -> Result<(), AllocError> {
+    for (block, notes) in blocks.iter_mut().enumerate() {
+        notes.terms.clear();
+        if let Some(meter) = meter
+            && range_of(cells_at(setting, block), meter.location()).is_some()
         {
-            let to = if to == within.head { None } else { Some(to) };
-            found.push(Way { to, ..*way })?;
+            notes.terms.push(Term {
+                location: meter.location(),
+                coefficient: i32::try_from(meter.unit).unwrap_or(i32::MAX),
+            })?;
         }
     }
-    Ok(found)
-}
-
-/// What a round of a loop weighs at most; none where no way leads round, or where an inner one gains.
-fn weight_of_round(
-    setting: &Setting<'_>,
-    terms: &[Vec<Term>],
-    places: &[bool],
-    within: &Loop,
-    state: &mut State,
-) -> Result<Option<i64>, AllocError> {
-    let ways = ways_of_loop(setting, terms, places, within, state)?;
-    let ways = ways_within(setting.alloc, ways.as_slice(), within)?;
-    Ok(
-        match least_constants(setting.alloc, terms.len(), ways.as_slice())? {
-            Some(constants) => constant_at(constants.as_slice(), within.head),
-            None => None,
-        },
-    )
+    Ok(())
 }
 
 /// How many turns pay for a round: so many for each number that the counter changes by, above 0 where it falls.
@@ -99,16 +67,6 @@ fn coefficient_of(bound: &Bound, weight: i64) -> Option<i32> {
     })
 }
 
-/// Whether one of some cells is of a location.
-fn names(cells: &[Cell], location: u16) -> bool {
-    for cell in cells {
-        if cell.location == location {
-            return true;
-        }
-    }
-    false
-}
-
 /// Whether a place of the meter stands in a loop.
 pub(crate) fn has_place(within: &Loop, places: &[bool]) -> bool {
     for (block, is_place) in places.iter().enumerate() {
@@ -119,50 +77,53 @@ pub(crate) fn has_place(within: &Loop, places: &[bool]) -> bool {
     false
 }
 
-/// Adds the terms that pay for a loop's rounds; says whether there are some.
+/// Adds the terms that pay for a loop's rounds; says whether there are some: none where it has no bound, where no way
+/// leads round, or where an inner loop gains.
 fn add_rounds(
     setting: &Setting<'_>,
-    terms: &mut Vec<Vec<Term>>,
-    places: &[bool],
+    fuel: &mut Fuel,
     within: &Loop,
-    bound: &Bound,
+    bound: Option<Bound>,
     state: &mut State,
 ) -> Result<bool, AllocError> {
-    let Some(weight) = weight_of_round(setting, terms.as_slice(), places, within, state)? else {
+    let Some(bound) = bound else {
         return Ok(false);
     };
-    let Some(coefficient) = coefficient_of(bound, weight) else {
+    if !fuel.pay(setting, Some(within), state)? {
+        return Ok(false);
+    }
+    let Some(weight) = constant_at(fuel.constants.as_slice(), within.head) else {
         return Ok(false);
     };
-    for (block, terms) in terms.iter_mut().enumerate() {
+    let Some(coefficient) = coefficient_of(&bound, weight) else {
+        return Ok(false);
+    };
+    for (block, notes) in fuel.blocks.iter_mut().enumerate() {
         if within.has(block) {
-            add_term(terms, bound.location, coefficient)?;
+            add_term(&mut notes.terms, bound.location, coefficient)?;
         }
     }
     Ok(true)
 }
 
-/// The terms of each block of a function with these loops and bounds; none where a loop has neither a place of the
-/// meter nor a bound.
-pub fn terms_of(
+/// Finds the terms of each block of a function with these loops and bounds, and then the constants; says whether there
+/// are some: none where a loop has neither a place of the meter nor a bound, or where a round of ways gains.
+pub fn find_fuel(
     setting: &Setting<'_>,
     meter: Option<&Meter>,
-    places: &[bool],
-    bounds: &[(Loop, Option<Bound>)],
+    bounds: &Bounds,
+    fuel: &mut Fuel,
     state: &mut State,
-) -> Result<Option<Vec<Vec<Term>>>, AllocError> {
-    let mut terms = metered(setting, meter, places.len())?;
+) -> Result<bool, AllocError> {
+    begin(setting, meter, fuel.blocks.as_mut_slice())?;
     // an inner loop stands behind those around it
-    for (within, bound) in bounds.iter().rev() {
-        if has_place(within, places) {
-            continue;
-        }
-        let Some(bound) = bound else {
-            return Ok(None);
-        };
-        if !add_rounds(setting, &mut terms, places, within, bound, state)? {
-            return Ok(None);
+    for place in (0..bounds.loops.len()).rev() {
+        if let Some(within) = bounds.loops.get(place)
+            && !has_place(within, fuel.places.as_slice())
+            && !add_rounds(setting, fuel, within, bounds.at(place), state)?
+        {
+            return Ok(false);
         }
     }
-    Ok(Some(terms))
+    fuel.pay(setting, None, state)
 }

@@ -43,17 +43,15 @@ pub fn step_of(instr: Instr, line: Line) -> Step {
     }
 }
 
-/// The step that puts the high bits of a number into a register.
-fn high_step(register: Reg, number: u32, line: Line) -> Step {
-    let fields = Upper {
-        rd: register,
-        imm22: number / 1024,
-    };
-    step_of(Instr::Sethi(fields), line)
-}
-
-/// The step that puts the low bits of a number beside its high ones, or a small number into a register.
-fn low_step(register: Reg, number: u32, line: Line) -> Step {
+/// Puts steps that set a register to a number before the step at a place.
+pub fn put_number(
+    steps: &mut Vec<Step>,
+    place: usize,
+    register: Reg,
+    number: u32,
+    line: Line,
+) -> Result<(), AllocError> {
+    // the low bits stand beside the high ones, which are put before them; a small number is put alone
     let (rs1, low) = if number > MOST {
         (register, number % 1024)
     } else {
@@ -64,20 +62,13 @@ fn low_step(register: Reg, number: u32, line: Line) -> Step {
         rs1,
         operand2: Operand::Immediate(low),
     };
-    step_of(Instr::Or(fields), line)
-}
-
-/// Puts steps that set a register to a number before the step at a place.
-pub fn put_number(
-    steps: &mut Vec<Step>,
-    place: usize,
-    register: Reg,
-    number: u32,
-    line: Line,
-) -> Result<(), AllocError> {
-    put_step(steps, place, low_step(register, number, line))?;
+    put_step(steps, place, step_of(Instr::Or(fields), line))?;
     if number > MOST {
-        put_step(steps, place, high_step(register, number, line))?;
+        let fields = Upper {
+            rd: register,
+            imm22: number / 1024,
+        };
+        put_step(steps, place, step_of(Instr::Sethi(fields), line))?;
     }
     Ok(())
 }

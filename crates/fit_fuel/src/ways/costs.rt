@@ -1,12 +1,10 @@
 //! By how much the constant of a block's fuel has to exceed that of the block behind it.
+use crate::totals::Total;
 use crate::ways::sums::Sum;
-use crate::ways::weights::weight_of_block;
-use arrayvec::ArrayVec;
 use fit_code::Program;
-use fit_graph::{Loop, successors_in};
 use fit_ranges::Ranges;
-use sbx_domain::{Lin, State};
-use sbx_form::FormTerm;
+use fit_text::BlockNotes;
+use sbx_domain::State;
 use sbx_parts::{Cell, Term};
 use std::alloc::{AllocError, Global};
 
@@ -14,7 +12,7 @@ use std::alloc::{AllocError, Global};
 #[derive(Clone, Copy)]
 pub struct Way {
     pub from: usize,
-    /// The block that it leads to; none where the function or the run ends.
+    /// The block that it leads to; none where the function or the run ends, or a round of the loop that is looked at.
     pub to: Option<usize>,
     /// Whether it is the way on from a place of the meter.
     pub is_metered: bool,
@@ -29,51 +27,19 @@ pub struct Setting<'s> {
     pub program: &'s Program,
     pub ranges: &'s Ranges,
     pub number: usize,
-    /// Of each function; of those that it calls they are known.
-    pub budgets: &'s [u64],
+    /// Of each function; those that it calls are known.
+    pub known: &'s [Option<Total>],
     /// The turns that each block of the function weighs less than its steps and its end; none of blocks that aren't
     /// named here.
     pub spared: &'s [u64],
 }
 
 /// The terms of a block, by its number.
-pub fn terms_at(terms: &[Vec<Term>], block: usize) -> &[Term] {
-    match terms.get(block) {
-        Some(terms) => terms.as_slice(),
+fn terms_at(blocks: &[BlockNotes], block: usize) -> &[Term] {
+    match blocks.get(block) {
+        Some(notes) => notes.terms.as_slice(),
         None => &[],
     }
-}
-
-/// Adds so many times a form.
-fn add_form(sum: &mut Sum, times: i64, form: &Lin) -> Result<(), AllocError> {
-    sum.add_number(times.saturating_mul(form.constant()));
-    let terms: ArrayVec<FormTerm, 8> = form.terms();
-    for term in terms.as_slice() {
-        let coefficient = i64::try_from(term.coefficient).unwrap_or(i64::MAX);
-        sum.add(term.location, times.saturating_mul(coefficient))?;
-    }
-    Ok(())
-}
-
-/// Adds what a block's terms come to at its beginning, where the state is that on the way there.
-fn add_terms(sum: &mut Sum, state: &State, terms: &[Term]) -> Result<(), AllocError> {
-    for term in terms {
-        let times = i64::from(term.coefficient);
-        match (state.form(term.location), state.range(term.location)) {
-            (Some(form), _) => add_form(sum, times, &form)?,
-            (None, Some(range)) => sum.add_most(times, range),
-            (None, None) => sum.add_number(i64::MAX),
-        }
-    }
-    Ok(())
-}
-
-/// Takes away a block's own terms.
-fn take_terms(sum: &mut Sum, terms: &[Term]) -> Result<(), AllocError> {
-    for term in terms {
-        sum.add(term.location, i64::from(term.coefficient).saturating_neg())?;
-    }
-    Ok(())
 }
 
 /// What is known where a block begins; nothing of a function's first one, whose fuel has no terms.
@@ -84,95 +50,29 @@ pub fn cells_at<'s>(setting: &Setting<'s>, block: usize) -> &'s [Cell] {
     }
 }
 
-/// What one way out of a block costs; nothing where it can't be gone.
-fn cost_of_way(
+/// What one way out of a block of this weight costs, where these are the blocks' terms; nothing where it can't be gone.
+pub fn cost_of_way(
     setting: &Setting<'_>,
-    terms: &[Vec<Term>],
+    blocks: &[BlockNotes],
     from: usize,
     way: usize,
     to: Option<usize>,
     weight: i64,
     state: &mut State,
 ) -> Result<Option<i64>, AllocError> {
+    let Setting {
+        program,
+        ranges,
+        number,
+        ..
+    } = *setting;
+    if to.is_some() && !ranges.run_block(program, number, from, way, state) {
+        return Ok(None);
+    }
     let mut sum = Sum::of(setting.alloc, weight);
-    take_terms(&mut sum, terms_at(terms, from))?;
+    sum.take_terms(terms_at(blocks, from))?;
     if let Some(to) = to {
-        let can_be = setting
-            .ranges
-            .run_block(setting.program, setting.number, from, way, state);
-        if !can_be {
-            return Ok(None);
-        }
-        add_terms(&mut sum, state, terms_at(terms, to))?;
+        sum.add_terms(state, terms_at(blocks, to))?;
     }
     Ok(Some(sum.greatest(cells_at(setting, from))))
-}
-
-/// Adds the ways out of a block.
-fn add_ways(
-    setting: &Setting<'_>,
-    terms: &[Vec<Term>],
-    from: usize,
-    is_place: bool,
-    state: &mut State,
-    ways: &mut Vec<Way>,
-) -> Result<(), AllocError> {
-    let Some(function) = setting.program.functions.get(setting.number) else {
-        return Ok(());
-    };
-    let Some(block) = function.blocks.get(from) else {
-        return Ok(());
-    };
-    let spared = setting.spared.get(from).copied().unwrap_or(0);
-    let weight = weight_of_block(function, from, block, setting.budgets).saturating_sub(
-        i64::try_from(spared).unwrap_or(i64::MAX),
-    );
-    let targets = successors_in(function, from);
-    for (way, to) in targets.iter().enumerate() {
-        let to = *to;
-        let is_there = to.is_some() || (way == 0 && targets[1].is_none());
-        if is_there && let Some(cost) = cost_of_way(setting, terms, from, way, to, weight, state)? {
-            let is_metered = is_place && way == 1;
-            ways.push(Way {
-                from,
-                to,
-                is_metered,
-                cost,
-            })?;
-        }
-    }
-    Ok(())
-}
-
-/// The ways out of the blocks of a loop of a function, which have these terms; `places` says which blocks are places of
-/// the meter.
-pub fn ways_of_loop(
-    setting: &Setting<'_>,
-    terms: &[Vec<Term>],
-    places: &[bool],
-    within: &Loop,
-    state: &mut State,
-) -> Result<Vec<Way>, AllocError> {
-    let mut ways = Vec::new(setting.alloc);
-    for (block, is_place) in places.iter().enumerate() {
-        if within.has(block) {
-            add_ways(setting, terms, block, *is_place, state, &mut ways)?;
-        }
-    }
-    Ok(ways)
-}
-
-/// The ways out of all blocks of a function, which have these terms; `places` says which blocks are places of the
-/// meter.
-pub fn ways_of(
-    setting: &Setting<'_>,
-    terms: &[Vec<Term>],
-    places: &[bool],
-    state: &mut State,
-) -> Result<Vec<Way>, AllocError> {
-    let mut ways = Vec::new(setting.alloc);
-    for (block, is_place) in places.iter().enumerate() {
-        add_ways(setting, terms, block, *is_place, state, &mut ways)?;
-    }
-    Ok(ways)
 }

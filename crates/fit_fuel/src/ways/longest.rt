@@ -1,10 +1,12 @@
 //! The least constants that pay for all ways: the dearest way on from each block.
 use crate::ways::costs::Way;
-use std::alloc::{AllocError, Global};
 
 /// The constant of a block; none where no way on is known.
 pub fn constant_at(constants: &[Option<i64>], block: usize) -> Option<i64> {
-    constants.get(block).copied().flatten()
+    match constants.get(block) {
+        Some(constant) => *constant,
+        None => None,
+    }
 }
 
 /// What a way asks of its block's constant; none where that isn't known yet.
@@ -17,13 +19,13 @@ fn asked(constants: &[Option<i64>], way: &Way) -> Option<i64> {
 
 /// Raises constants to what the ways ask for, once; says whether one rose. The way on from a place of the meter is left
 /// out.
-fn raise(constants: &mut Vec<Option<i64>>, ways: &[Way]) -> bool {
+fn raise(constants: &mut [Option<i64>], ways: &[Way]) -> bool {
     let mut has_risen = false;
     for way in ways.iter().rev() {
         if way.is_metered {
             continue;
         }
-        let wanted = asked(constants.as_slice(), way);
+        let wanted = asked(constants, way);
         let Some(constant) = constants.get_mut(way.from) else {
             continue;
         };
@@ -40,17 +42,13 @@ fn raise(constants: &mut Vec<Option<i64>>, ways: &[Way]) -> bool {
     has_risen
 }
 
-/// The least constants that pay for all ways but those on from places of the meter; none where a round of them gains.
-pub fn least_constants(
-    alloc: Global,
-    blocks: usize,
-    ways: &[Way],
-) -> Result<Option<Vec<Option<i64>>>, AllocError> {
-    let mut constants = vec![in alloc; None; blocks]?;
-    for _ in 0..=blocks {
-        if !raise(&mut constants, ways) {
-            return Ok(Some(constants));
+/// Finds the least constants that pay for all ways but those on from places of the meter; says whether there are some,
+/// and no round of ways gains.
+pub fn settle(constants: &mut [Option<i64>], ways: &[Way]) -> bool {
+    for _ in 0..=constants.len() {
+        if !raise(constants, ways) {
+            return true;
         }
     }
-    Ok(None)
+    false
 }

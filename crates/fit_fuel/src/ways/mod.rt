@@ -1,8 +1,10 @@
 //! What the ways out of blocks cost in fuel, and the least constants that pay for them.
 mod costs;
+mod fuel;
 mod longest;
 mod sums;
 mod weights;
 
-pub use costs::{Setting, Way, cells_at, ways_of, ways_of_loop};
-pub use longest::{constant_at, least_constants};
+pub use costs::{Setting, Way, cells_at};
+pub use fuel::Fuel;
+pub use longest::constant_at;

@@ -1,6 +1,10 @@
 //! Sums of multiples of locations, and the greatest value that they can have. A sum past the greatest number stays
 //! there, and is refused as a budget.
-use sbx_parts::{Cell, Range};
+use crate::cells::range_of;
+use arrayvec::ArrayVec;
+use sbx_domain::State;
+use sbx_form::FormTerm;
+use sbx_parts::{Cell, Range, Term};
 use std::alloc::{AllocError, Global};
 
 /// A multiple of the number that a location begins with.
@@ -24,20 +28,6 @@ fn greatest_of(times: i64, range: Range) -> i64 {
     low.max(high)
 }
 
-/// The range of a location in cells; any word where it has none.
-fn range_in(cells: &[Cell], location: u16) -> Range {
-    for cell in cells {
-        if cell.location == location {
-            return cell.range;
-        }
-    }
-    Range {
-        lo: i32::MIN,
-        hi: i32::MAX,
-        alignment: 0,
-    }
-}
-
 impl Sum {
     /// A number alone.
     pub fn of(alloc: Global, constant: i64) -> Sum {
@@ -47,18 +37,8 @@ impl Sum {
         }
     }
 
-    /// Adds a number.
-    pub fn add_number(&mut self, number: i64) {
-        self.constant = self.constant.saturating_add(number);
-    }
-
-    /// Adds so many times the most of a range.
-    pub fn add_most(&mut self, times: i64, range: Range) {
-        self.add_number(greatest_of(times, range));
-    }
-
     /// Adds so many times a location.
-    pub fn add(&mut self, location: u16, times: i64) -> Result<(), AllocError> {
+    fn add(&mut self, location: u16, times: i64) -> Result<(), AllocError> {
         for multiple in self.multiples.iter_mut() {
             if multiple.location == location {
                 multiple.times = multiple.times.saturating_add(times);
@@ -69,11 +49,50 @@ impl Sum {
         Ok(())
     }
 
-    /// The greatest value over all numbers of the cells' ranges.
+    /// Adds so many times the terms of a form.
+    fn add_form(&mut self, times: i64, terms: &[FormTerm]) -> Result<(), AllocError> {
+        for term in terms {
+            let coefficient = i64::try_from(term.coefficient).unwrap_or(i64::MAX);
+            self.add(term.location, times.saturating_mul(coefficient))?;
+        }
+        Ok(())
+    }
+
+    /// Adds what a block's terms come to at its beginning, where the state is that on the way there.
+    pub fn add_terms(&mut self, state: &State, terms: &[Term]) -> Result<(), AllocError> {
+        for term in terms {
+            let times = i64::from(term.coefficient);
+            let more = match (state.form(term.location), state.range(term.location)) {
+                (Some(form), _) => {
+                    let others: ArrayVec<FormTerm, 8> = form.terms();
+                    self.add_form(times, others.as_slice())?;
+                    times.saturating_mul(form.constant())
+                }
+                (None, Some(range)) => greatest_of(times, range),
+                (None, None) => i64::MAX,
+            };
+            self.constant = self.constant.saturating_add(more);
+        }
+        Ok(())
+    }
+
+    /// Takes away a block's own terms.
+    pub fn take_terms(&mut self, terms: &[Term]) -> Result<(), AllocError> {
+        for term in terms {
+            self.add(term.location, i64::from(term.coefficient).saturating_neg())?;
+        }
+        Ok(())
+    }
+
+    /// The greatest value over all numbers of the cells' ranges; a location that they don't name may be any word.
     pub fn greatest(&self, cells: &[Cell]) -> i64 {
         let mut greatest = self.constant;
         for multiple in self.multiples.as_slice() {
-            let range = range_in(cells, multiple.location);
+            let range = range_of(cells, multiple.location).unwrap_or(Range {
+                lo: i32::MIN,
+                hi: i32::MAX,
+                alignment: 0,
+            });
             greatest = greatest.saturating_add(greatest_of(multiple.times, range));
         }
         greatest
