@@ -1,5 +1,4 @@
 //! Putting the meter into a function.
-use crate::metering::entries::{counted_loops, late_heads};
 use crate::metering::heads::heads_of;
 use crate::metering::registers::free_register;
 use fit_code::{Block, End, Fault, Function, Line, NO_LINE, Reason, Step};
@@ -78,33 +77,24 @@ fn line_of(function: &Function, block: usize) -> Line {
     }
 }
 
-/// A new block; gives its number.
+/// A new block without steps, behind the others.
 fn add_block(
+    alloc: Global,
     function: &mut Function,
-    steps: Vec<Step>,
     end: End,
-    slot: Option<Instr>,
     line: Line,
-) -> Result<usize, AllocError> {
-    let number = function.blocks.len();
-    function.blocks.push(Block {
-        steps,
+) -> Result<&mut Block, AllocError> {
+    let block = function.blocks.push_mut(Block {
+        steps: Vec::new(alloc),
         end,
-        slot,
+        slot: None,
         line,
     })?;
-    Ok(number)
+    Ok(block)
 }
 
-/// The block where a run ends because the meter is empty.
-fn add_empty(alloc: Global, function: &mut Function, line: Line) -> Result<usize, AllocError> {
-    let mut steps = Vec::new(alloc);
-    let word = EMPTY | line.number.min(0xffff);
-    put_number(&mut steps, 0, scratch(8), word, line)?;
-    add_block(function, steps, End::Exit, None, line)
-}
-
-/// A place of the meter before a block.
+/// A place of the meter before a block, and the block where the run ends because the meter is empty; gives the place's
+/// number.
 fn add_place(
     alloc: Global,
     function: &mut Function,
@@ -112,25 +102,29 @@ fn add_place(
     before: usize,
 ) -> Result<usize, AllocError> {
     let line = line_of(function, before);
-    let empty = add_empty(alloc, function, line)?;
-    let mut steps = Vec::new(alloc);
-    let mut slot = None;
+    let empty = function.blocks.len();
+    let block = add_block(alloc, function, End::Exit, line)?;
+    let word = EMPTY | line.number.min(0xffff);
+    put_number(&mut block.steps, 0, scratch(8), word, line)?;
+    let place = function.blocks.len();
+    let end = End::Branch {
+        cond: Cond::Negative,
+        taken: empty,
+        next: before,
+    };
+    let block = add_block(alloc, function, end, line)?;
     if let Some(distance) = meter.word {
-        steps.push(step_of(word_move(meter.register, distance, false), line))?;
-        slot = Some(word_move(meter.register, distance, true));
+        block.slot = Some(word_move(meter.register, distance, true));
+        let load = step_of(word_move(meter.register, distance, false), line);
+        block.steps.push(load)?;
     }
     let fields = Three {
         rd: meter.register,
         rs1: meter.register,
         operand2: Operand::Immediate(1),
     };
-    steps.push(step_of(Instr::SubCc(fields), line))?;
-    let end = End::Branch {
-        cond: Cond::Negative,
-        taken: empty,
-        next: before,
-    };
-    add_block(function, steps, end, slot, line)
+    block.steps.push(step_of(Instr::SubCc(fields), line))?;
+    Ok(place)
 }
 
 /// The end with another block in the place of one.
@@ -146,14 +140,6 @@ fn redirected(end: End, old: usize, new: usize) -> End {
     }
 }
 
-/// Whether a block is in a loop.
-fn is_in(within: Option<&Loop>, block: usize) -> bool {
-    match within {
-        Some(within) => within.has(block),
-        None => false,
-    }
-}
-
 /// Puts a place before a block: whatever went to the block goes there, but for the blocks of a loop.
 fn put_place(
     alloc: Global,
@@ -164,23 +150,39 @@ fn put_place(
 ) -> Result<(), AllocError> {
     let place = add_place(alloc, function, meter, head)?;
     for (number, block) in function.blocks.iter_mut().enumerate() {
-        if number != place && !is_in(within, number) {
+        let is_in = match within {
+            Some(within) => within.has(number),
+            None => false,
+        };
+        if number != place && !is_in {
             block.end = redirected(block.end, head, place);
         }
     }
     Ok(())
 }
 
-/// Puts places before loops, by their numbers, on the ways into them.
+/// Whether a loop goes without the meter, and that around it doesn't.
+fn is_counted_within(loops: &[Loop], within: &Loop, heads: &[usize]) -> bool {
+    match within.parent {
+        Some(parent) => match loops.get(parent) {
+            Some(around) => !heads.contains(&within.head) && heads.contains(&around.head),
+            None => false,
+        },
+        None => false,
+    }
+}
+
+/// Puts places before loops that go without the meter in one that has it, on the ways into them, so that what comes
+/// before pays for the way there alone, and not for their rounds.
 fn put_entries(
     alloc: Global,
     function: &mut Function,
     meter: &Meter,
     loops: &[Loop],
-    numbers: &[usize],
+    heads: &[usize],
 ) -> Result<(), AllocError> {
-    for number in numbers {
-        if let Some(within) = loops.get(*number) {
+    for within in loops {
+        if is_counted_within(loops, within, heads) {
             put_place(alloc, function, meter, within.head, Some(within))?;
         }
     }
@@ -200,58 +202,21 @@ fn put_start(function: &mut Function, meter: &Meter) -> Result<(), AllocError> {
     Ok(())
 }
 
-/// The blocks before which a place of the meter stands on each way, and the loops, by their numbers, before which one
-/// stands on the ways in.
-#[derive(Drop)]
-struct Places {
-    heads: Vec<usize>,
-    counted: Vec<usize>,
-}
-
-/// Those of some blocks that aren't among others.
-fn without(alloc: Global, blocks: &[usize], others: &[usize]) -> Result<Vec<usize>, AllocError> {
-    let mut left = Vec::new(alloc);
-    for block in blocks {
-        if !others.contains(block) {
-            left.push(*block)?;
-        }
+/// Gives a function with these loops a meter of so many turns, which places before these blocks count down.
+fn put_meter(
+    alloc: Global,
+    function: &mut Function,
+    turns: u64,
+    loops: &[Loop],
+    heads: &[usize],
+) -> Result<Meter, Fault> {
+    let meter = meter_for(function, turns)?;
+    for head in heads {
+        put_place(alloc, function, &meter, *head, None)?;
     }
-    Ok(left)
-}
-
-/// The blocks that control goes back to, but for the heads of loops that counters bound.
-fn unbounded_heads(
-    alloc: Global,
-    function: &Function,
-    bounded: &[usize],
-) -> Result<Vec<usize>, AllocError> {
-    let heads = heads_of(alloc, function)?;
-    without(alloc, heads.as_slice(), bounded)
-}
-
-/// The loops before which a place stands, of those that counters bound and that don't go with the meter all the same.
-fn counted_beside(
-    alloc: Global,
-    loops: &[Loop],
-    bounded: &[usize],
-    late: &[usize],
-) -> Result<Vec<usize>, AllocError> {
-    let left = without(alloc, bounded, late)?;
-    counted_loops(alloc, loops, left.as_slice())
-}
-
-/// Where places of the meter stand, where counters bound the loops of some heads; nowhere where they bound all.
-fn places_for(
-    alloc: Global,
-    function: &Function,
-    loops: &[Loop],
-    bounded: &[usize],
-) -> Result<Places, AllocError> {
-    let mut heads = unbounded_heads(alloc, function, bounded)?;
-    let late = late_heads(alloc, function, loops, heads.as_slice(), bounded)?;
-    let counted = counted_beside(alloc, loops, bounded, late.as_slice())?;
-    heads.extend_from_slice(late.as_slice())?;
-    Ok(Places { heads, counted })
+    put_entries(alloc, function, &meter, loops, heads)?;
+    put_start(function, &meter)?;
+    Ok(meter)
 }
 
 /// Gives a function a meter of so many turns: one place for each block that control goes back to but those of
@@ -263,21 +228,10 @@ pub fn insert_meter(
     bounded: &[usize],
 ) -> Result<Option<Meter>, Fault> {
     let loops = loops_of(alloc, function)?;
-    let places = places_for(alloc, function, loops.as_slice(), bounded)?;
-    if places.heads.is_empty() {
+    let heads = heads_of(alloc, function, loops.as_slice(), bounded)?;
+    if heads.is_empty() {
         return Ok(None);
     }
-    let meter = meter_for(function, turns)?;
-    for head in places.heads.as_slice() {
-        put_place(alloc, function, &meter, *head, None)?;
-    }
-    put_entries(
-        alloc,
-        function,
-        &meter,
-        loops.as_slice(),
-        places.counted.as_slice(),
-    )?;
-    put_start(function, &meter)?;
+    let meter = put_meter(alloc, function, turns, loops.as_slice(), heads.as_slice())?;
     Ok(Some(meter))
 }

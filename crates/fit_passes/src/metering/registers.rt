@@ -51,8 +51,11 @@ const FRAMED: [u8; 16] = [23, 22, 21, 20, 19, 18, 17, 16, 29, 28, 27, 26, 4, 3, 
 /// Of a leaf, globals, and outs but those of results.
 const LEAF: [u8; 8] = [4, 3, 2, 1, 13, 12, 11, 10];
 
-/// The first of some registers that isn't named.
-fn first_free(candidates: &[u8], named: u32) -> Option<Reg> {
+/// A register that a function has no use for; none where it uses all.
+pub fn free_register(function: &Function) -> Option<Reg> {
+    let named = named_by(function);
+    let (framed, leaf): (&[u8], &[u8]) = (&FRAMED, &LEAF);
+    let candidates = if function.framed { framed } else { leaf };
     for number in candidates {
         if let Some(register) = Reg::new(*number)
             && named & one(register) == 0
@@ -61,14 +64,4 @@ fn first_free(candidates: &[u8], named: u32) -> Option<Reg> {
         }
     }
     None
-}
-
-/// A register that a function has no use for; none where it uses all.
-pub fn free_register(function: &Function) -> Option<Reg> {
-    let named = named_by(function);
-    if function.framed {
-        first_free(&FRAMED, named)
-    } else {
-        first_free(&LEAF, named)
-    }
 }

@@ -67,22 +67,25 @@ fn share_out(shares: &mut [u64], function: &Function, turns: u64) {
 fn shares_of(alloc: Global, program: &Program, turns: u64) -> Result<Vec<u64>, AllocError> {
     let mut shares = vec![in alloc; turns; program.functions.len()]?;
     for (number, function) in program.functions.iter().enumerate() {
-        let share = shares.get(number).copied().unwrap_or(turns);
+        let share = match shares.get(number) {
+            Some(share) => *share,
+            None => turns,
+        };
         share_out(shares.as_mut_slice(), function, share);
     }
     Ok(shares)
 }
 
-/// Gives each function with loops that have no bound a meter.
+/// Gives each function with loops that have no bound a meter, by the ranges of the program without meters.
 fn insert_meters(
     alloc: Global,
     program: &mut Program,
-    ranges: &Ranges,
     plan: Plan,
+    ranges: &Ranges,
+    meters: &mut Vec<Option<Meter>>,
     state: &mut State,
-) -> Result<Vec<Option<Meter>>, Fault> {
+) -> Result<(), Fault> {
     let shares = shares_of(alloc, program, plan.turns)?;
-    let mut meters = Vec::new(alloc);
     for (number, turns) in shares.iter().enumerate() {
         let most = match (plan.has_bounds, number) {
             (false, _) => 0,
@@ -94,7 +97,7 @@ fn insert_meters(
             meters.push(insert_meter(alloc, function, *turns, bounded.as_slice())?)?;
         }
     }
-    Ok(meters)
+    Ok(())
 }
 
 /// Places the blocks of each function.
@@ -114,22 +117,23 @@ fn block_count(program: &Program) -> usize {
     count
 }
 
-/// Places blocks, and adds the tests that are asked for then, until none is; gives the ranges. Tests know blocks by
-/// their numbers, so each placing begins with none. None goes again: ranges that are found from nothing may be wider
-/// than those that came about step by step, and such a test would come and go without an end.
+/// Places blocks, and adds the tests that are asked for then, until none is; the ranges are found anew. Tests know
+/// blocks by their numbers, so each placing begins with none. None goes again: ranges that are found from nothing may
+/// be wider than those that came about step by step, and such a test would come and go without an end.
 fn settle_places(
     alloc: Global,
     program: &mut Program,
     options: Options,
+    ranges: &mut Ranges,
     state: &mut State,
-) -> Result<Ranges, Fault> {
+) -> Result<(), Fault> {
     for _ in 0..PLACINGS {
         place_all(alloc, program)?;
         let before = block_count(program);
-        let mut ranges = Ranges::of(alloc, program, state)?;
-        Tests::none(alloc, options).settle(program, &mut ranges, state)?;
+        *ranges = Ranges::of(alloc, program, state)?;
+        Tests::none(alloc, options).settle(program, ranges, state)?;
         if block_count(program) == before {
-            return Ok(ranges);
+            return Ok(());
         }
     }
     Err(Fault::new(
@@ -141,10 +145,10 @@ fn settle_places(
     ))
 }
 
-/// What was put into a program whose blocks stand in their places, and its ranges.
+/// What is put into a program, and its ranges.
 #[derive(Drop)]
 struct Fitted {
-    tests: Vec<Test>,
+    tests: Tests,
     meters: Vec<Option<Meter>>,
     ranges: Ranges,
 }
@@ -154,51 +158,66 @@ fn fit(
     alloc: Global,
     program: &mut Program,
     plan: Plan,
+    fitted: &mut Fitted,
     state: &mut State,
-) -> Result<Fitted, Fault> {
-    let options = Options {
-        by_object: plan.by_object,
-        drops: true,
-    };
-    let mut ranges = Ranges::of(alloc, program, state)?;
-    let mut tests = Tests::none(alloc, options);
-    tests.settle(program, &mut ranges, state)?;
-    let meters = insert_meters(alloc, program, &ranges, plan, state)?;
+) -> Result<(), Fault> {
+    fitted.tests.settle(program, &mut fitted.ranges, state)?;
+    insert_meters(
+        alloc,
+        program,
+        plan,
+        &fitted.ranges,
+        &mut fitted.meters,
+        state,
+    )?;
     let kept = Options {
+        by_object: plan.by_object,
         drops: false,
-        ..options
     };
-    let ranges = settle_places(alloc, program, kept, state)?;
-    end_unreached(program, &ranges)?;
-    ranges.store(program)?;
-    Ok(Fitted {
-        tests: tests.list,
-        meters,
-        ranges,
+    settle_places(alloc, program, kept, &mut fitted.ranges, state)?;
+    end_unreached(program, &fitted.ranges)?;
+    fitted.ranges.store(program)?;
+    Ok(())
+}
+
+/// Writes the annotated source of a fitted program; gives the most turns of a run.
+fn write_source(
+    alloc: Global,
+    text: &mut String,
+    program: &mut Program,
+    fitted: &Fitted,
+    state: &mut State,
+) -> Result<u64, Fault> {
+    let meters = fitted.meters.as_slice();
+    let notes = declare(alloc, program, &fitted.ranges, meters, state)?;
+    push_source(alloc, text, program, &notes)?;
+    Ok(match notes.functions.first() {
+        Some(notes) => notes.budget,
+        None => 0,
     })
 }
 
 /// Makes an annotated source of a program. What a step leaves known in its place it leaves known in a slot, so that
 /// the ranges stay.
 pub fn make(alloc: Global, program: Program, plan: Plan) -> Result<Made, Fault> {
+    let options = Options {
+        by_object: plan.by_object,
+        drops: true,
+    };
     let mut program = program;
     let mut state = State::new(alloc)?;
-    let Fitted {
-        tests,
-        meters,
-        ranges,
-    } = fit(alloc, &mut program, plan, &mut state)?;
-    fill(&mut program);
-    let notes = declare(alloc, &mut program, &ranges, meters.as_slice(), &mut state)?;
-    let budget = match notes.functions.first() {
-        Some(notes) => notes.budget,
-        None => 0,
+    let mut fitted = Fitted {
+        ranges: Ranges::of(alloc, &program, &mut state)?,
+        tests: Tests::none(alloc, options),
+        meters: Vec::new(alloc),
     };
+    fit(alloc, &mut program, plan, &mut fitted, &mut state)?;
+    fill(&mut program);
     let mut text = String::new(alloc);
-    push_source(alloc, &mut text, &program, &notes)?;
+    let budget = write_source(alloc, &mut text, &mut program, &fitted, &mut state)?;
     Ok(Made {
         program,
-        tests,
+        tests: fitted.tests.list,
         text,
         budget,
     })

@@ -7,19 +7,14 @@ use std::alloc::AllocError;
 /// The register of the exit word, %o0.
 const EXIT_WORD: u8 = 8;
 
-/// The exit word of a block's line, as where a test of an index fails.
-fn word_of(block: &Block) -> i32 {
-    let kind = Kind::Index.number();
-    kind.saturating_mul(65_536)
-        .saturating_add(block.line.number.min(0xffff).cast_signed())
-}
-
-/// Makes a block an end of the run.
+/// Makes a block an end of the run, with the exit word of its line as where a test of an index fails.
 fn end_block(block: &mut Block) -> Result<(), AllocError> {
+    let line = block.line;
+    let kind = Kind::Index.number().saturating_mul(65_536);
+    let word = kind.saturating_add(line.number.min(0xffff).cast_signed());
     block.steps.clear();
     block.end = End::Exit;
     block.slot = None;
-    let (word, line) = (word_of(block), block.line);
     push_number(&mut block.steps, EXIT_WORD, word, line)
 }
 

@@ -1,53 +1,32 @@
 //! Filling delay slots.
-use crate::placing::registers::{is_plain, reads, sets_codes, writes};
+use crate::placing::kinds::{is_plain, sets_codes};
 use fit_code::{Block, End, Program, Step};
+use fit_graph::effects_of;
 
 /// Whether a step may go to a slot.
 fn is_movable(step: &Step) -> bool {
     step.callee.is_none() && is_plain(&step.instr)
 }
 
-/// Whether a step may go behind the one after it: neither has to do with what the other writes.
+/// Whether a step may go behind the one after it: neither has to do with what the other writes. Words of the frame are
+/// memory, with which the other one has nothing to do.
 fn may_pass(step: &Step, later: &Step) -> bool {
-    let (read, written) = (reads(&step.instr), writes(&step.instr));
-    let passed = writes(&later.instr);
-    reads(&later.instr) & written == 0 && passed & (read | written) == 0
+    let (moved, passed) = (effects_of(0, &step.instr), effects_of(0, &later.instr));
+    passed.reads & moved.writes == 0 && passed.writes & (moved.reads | moved.writes) == 0
 }
 
-/// The place of the step that may go to the slot of a branch: the last one, or the one before the comparison that is
-/// the last.
-fn found_for_branch(steps: &[Step]) -> Option<usize> {
+/// The place of the step that may go to the slot of a jump or a branch: the last one or, at a branch, the one before
+/// the comparison that is the last.
+fn found_for(steps: &[Step], is_branch: bool) -> Option<usize> {
     let (last, before) = steps.split_last()?;
-    if !sets_codes(&last.instr) {
-        return if is_movable(last) {
-            Some(before.len())
-        } else {
-            None
-        };
+    if is_movable(last) {
+        return Some(before.len());
     }
     let (candidate, others) = before.split_last()?;
-    if is_movable(candidate) && may_pass(candidate, last) {
+    if is_branch && sets_codes(&last.instr) && is_movable(candidate) && may_pass(candidate, last) {
         Some(others.len())
     } else {
         None
-    }
-}
-
-/// The place of the step that may go to the slot of a jump.
-fn found_for_jump(steps: &[Step]) -> Option<usize> {
-    let (last, before) = steps.split_last()?;
-    if is_movable(last) {
-        Some(before.len())
-    } else {
-        None
-    }
-}
-
-/// Takes a step out of a block, and puts it into the slot of the block's end.
-fn move_to_end(block: &mut Block, place: usize) {
-    if place < block.steps.len() {
-        let step = block.steps.remove(place);
-        block.slot = Some(step.instr);
     }
 }
 
@@ -57,12 +36,15 @@ fn fill_end(block: &mut Block, after: usize) {
         return;
     }
     let found = match block.end {
-        End::Branch { .. } => found_for_branch(block.steps.as_slice()),
-        End::Jump(to) if to != after => found_for_jump(block.steps.as_slice()),
+        End::Branch { .. } => found_for(block.steps.as_slice(), true),
+        End::Jump(to) if to != after => found_for(block.steps.as_slice(), false),
         _ => None,
     };
-    if let Some(place) = found {
-        move_to_end(block, place);
+    if let Some(place) = found
+        && place < block.steps.len()
+    {
+        let step = block.steps.remove(place);
+        block.slot = Some(step.instr);
     }
 }
 
@@ -74,23 +56,15 @@ fn takes_before(steps: &[Step], place: usize) -> bool {
     place > 0 && call.callee.is_some() && call.slot.is_none() && is_movable(step)
 }
 
-/// Takes a step out, and puts it into the slot of the call behind it.
-fn move_to_call(steps: &mut Vec<Step>, place: usize) {
-    if place < steps.len() {
-        let step = steps.remove(place);
-        if let Some(call) = steps.get_mut(place) {
-            call.slot = Some(step.instr);
-        }
-    }
-}
-
 /// Fills the slots of a block's calls.
 fn fill_calls(steps: &mut Vec<Step>) {
-    let mut place = steps.len();
-    for _ in 0..steps.len() {
-        place = place.saturating_sub(1);
-        if takes_before(steps.as_slice(), place) {
-            move_to_call(steps, place.saturating_sub(1));
+    for place in (1..steps.len()).rev() {
+        let before = place.saturating_sub(1);
+        if takes_before(steps.as_slice(), place) && before < steps.len() {
+            let step = steps.remove(before);
+            if let Some(call) = steps.get_mut(before) {
+                call.slot = Some(step.instr);
+            }
         }
     }
 }

@@ -90,7 +90,7 @@ struct Chain {
 
 impl Chain {
     fn is_placed(&self, block: usize) -> bool {
-        self.numbers.get(block).copied().flatten().is_some()
+        matches!(self.numbers.get(block), Some(Some(_)))
     }
 
     /// The new number of a block; 0 of one that has none.
@@ -107,12 +107,6 @@ impl Chain {
             *number = Some(self.blocks.len());
         }
         self.blocks.push(block)?;
-        Ok(())
-    }
-
-    /// The number of a block that is new to the chain.
-    fn add_number(&mut self) -> Result<(), AllocError> {
-        self.numbers.push(None)?;
         Ok(())
     }
 }
@@ -136,7 +130,7 @@ fn add_jump(
         slot: None,
         line,
     })?;
-    chain.add_number()?;
+    chain.numbers.push(None)?;
     Ok(number)
 }
 
@@ -206,20 +200,20 @@ fn renumbered(chain: &Chain, end: End) -> End {
     }
 }
 
-/// Puts a function's blocks in the order of the chain.
+/// Puts a function's blocks in the order of the chain, which has each of them once at most.
 fn reorder(alloc: Global, function: &mut Function, chain: &Chain) -> Result<(), AllocError> {
-    let mut old = Vec::new(alloc);
-    for block in mem::replace(&mut function.blocks, Vec::new(alloc)) {
-        old.push(Some(block))?;
-    }
+    let mut placed = Vec::new(alloc);
     for place in chain.blocks.as_slice() {
-        if let Some(slot) = old.get_mut(*place)
-            && let Some(mut block) = slot.take()
-        {
-            block.end = renumbered(chain, block.end);
-            function.blocks.push(block)?;
+        if let Some(block) = function.blocks.get_mut(*place) {
+            placed.push(Block {
+                steps: mem::replace(&mut block.steps, Vec::new(alloc)),
+                end: renumbered(chain, block.end),
+                slot: block.slot,
+                line: block.line,
+            })?;
         }
     }
+    function.blocks = placed;
     Ok(())
 }
 
