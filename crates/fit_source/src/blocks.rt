@@ -7,6 +7,9 @@ use v8_formats::{Branch, Cond, Instr, Operand, Reg, Three, decode};
 use v8_map::CODE_START;
 use v8_meaning::{Operation, is_admitted, is_ret, is_retl, operation_of, target};
 
+/// What a block that is a slot weighs: the branch's own block pays for it.
+const SLOT: u64 = 2;
+
 /// An image, and the lines of its source.
 #[derive(Clone, Copy)]
 pub struct Reading<'r> {
@@ -21,6 +24,8 @@ pub struct Blocks<'r> {
     pub reading: Reading<'r>,
     pub function: &'r Function,
     pub end: u32,
+    /// The blocks of the source that were read.
+    pub found: Vec<Block>,
     /// Delay slots of branches that annul them where they aren't taken: each is a block behind the function's own,
     /// which the way to the branch's target goes through.
     pub slots: Vec<Block>,
@@ -38,13 +43,13 @@ struct Ended {
 }
 
 /// What a word is in a block.
+#[derive(Clone, Copy)]
 enum Item {
     /// SAVE, which is no step.
     Save,
-    Step(Step),
-    /// A call, whose slot is the next word.
-    Call(Step),
-    /// The block ends behind so many words.
+    /// A step, and how many bytes it takes: a call's slot is the next word.
+    Step(Step, u32),
+    /// The block ends behind so many bytes.
     Ends(Ended, u32),
 }
 
@@ -57,55 +62,47 @@ fn plain(end: End) -> Ended {
 }
 
 /// `%g0,%g0,%g0`, which a leaf's return has.
-fn no_fields() -> Three {
-    Three {
-        rd: Reg::G0,
-        rs1: Reg::G0,
-        operand2: Operand::Register(Reg::G0),
-    }
-}
-
-fn is_nop(instr: &Instr) -> bool {
-    match instr {
-        Instr::Sethi(fields) => fields.rd == Reg::G0,
-        _ => false,
-    }
-}
+const NO_FIELDS: Three = Three {
+    rd: Reg::G0,
+    rs1: Reg::G0,
+    operand2: Operand::Register(Reg::G0),
+};
 
 /// An instruction, unless it does nothing.
 fn unless_nop(instr: Instr) -> Option<Instr> {
-    if is_nop(&instr) { None } else { Some(instr) }
+    match instr {
+        Instr::Sethi(fields) if fields.rd == Reg::G0 => None,
+        _ => Some(instr),
+    }
 }
 
-/// Whether an instruction may be a step, or stand in a slot: no transfer of control, no SAVE or RESTORE, and no
-/// service.
-fn is_plain(instr: &Instr) -> bool {
-    let operation = operation_of(instr);
-    is_admitted(&operation)
-        && !matches!(
-            operation,
-            Operation::Save(_)
-                | Operation::Restore(_)
-                | Operation::Call(_)
-                | Operation::BranchOnCondition(_)
-                | Operation::JumpAndLink(_)
-                | Operation::TrapOnCondition(_)
-        )
+/// What an instruction may be.
+#[derive(Clone, Copy)]
+enum Role {
+    /// A step, or what stands in a slot.
+    Plain,
+    /// `ta n`.
+    Service(u32),
+    /// A transfer of control, SAVE or RESTORE, or what sandboxed code may not have.
+    Other,
 }
 
-/// The number of `ta n`; none of another instruction.
-fn service_of(instr: &Instr) -> Option<u32> {
+fn role_of(instr: &Instr) -> Role {
     let operation = operation_of(instr);
     if !is_admitted(&operation) {
-        return None;
+        return Role::Other;
     }
-    let Operation::TrapOnCondition(trap) = operation else {
-        return None;
-    };
-    let operand2 = trap.operand2;
-    match operand2 {
-        Operand::Immediate(number) => Some(number),
-        Operand::Register(_) => None,
+    match operation {
+        Operation::TrapOnCondition(trap) => match trap.operand2 {
+            Operand::Immediate(number) => Role::Service(number),
+            Operand::Register(_) => Role::Other,
+        },
+        Operation::Save(_)
+        | Operation::Restore(_)
+        | Operation::Call(_)
+        | Operation::BranchOnCondition(_)
+        | Operation::JumpAndLink(_) => Role::Other,
+        _ => Role::Plain,
     }
 }
 
@@ -142,11 +139,6 @@ impl Reading<'_> {
 }
 
 impl Blocks<'_> {
-    /// How many blocks the source has in the function.
-    fn count(&self) -> usize {
-        self.function.blocks.len()
-    }
-
     /// The block that begins at an address.
     fn block_at(&self, address: u32) -> Option<usize> {
         for (number, block) in self.function.blocks.as_slice().iter().enumerate() {
@@ -187,22 +179,21 @@ impl Blocks<'_> {
     /// The same, where it is no transfer.
     fn plain_slot(&self, address: u32, stop: u32) -> Result<Instr, Fault> {
         let instr = self.slot_of(address, stop)?;
-        if is_plain(&instr) {
-            Ok(instr)
-        } else {
-            Err(
+        match role_of(&instr) {
+            Role::Plain => Ok(instr),
+            _ => Err(
                 self.reading.fault(
                     address.saturating_add(4),
                     "an instruction that a delay slot may not have",
                 ),
-            )
+            ),
         }
     }
 
     /// The block behind one with a number.
     fn next(&self, number: usize, address: u32) -> Result<usize, Fault> {
         let next = number.saturating_add(1);
-        if next < self.count() {
+        if next < self.function.blocks.len() {
             Ok(next)
         } else {
             Err(
@@ -214,7 +205,7 @@ impl Blocks<'_> {
 
     /// A block that is a slot of its own, and goes on to another one.
     fn add_slot(&mut self, instr: Instr, to: usize, line: Line) -> Result<usize, AllocError> {
-        let number = self.count().saturating_add(self.slots.len());
+        let number = self.function.blocks.len().saturating_add(self.slots.len());
         self.slots.push(Block {
             steps: Vec::new(self.reading.alloc),
             end: End::Jump(to),
@@ -251,39 +242,34 @@ impl Blocks<'_> {
         stop: u32,
         branch: Branch,
     ) -> Result<Ended, Fault> {
+        let what = "a branch goes where no `.block` of its function begins";
         let to = match self.block_at(target(address, branch.displacement)) {
             Some(to) if to > 0 => to,
-            _ => {
-                return Err(
-                    self.reading.fault(
-                        address,
-                        "a branch goes where no `.block` of its function begins",
-                    ),
-                );
-            }
+            _ => return Err(self.reading.fault(address, what)),
         };
         let slot = self.plain_slot(address, stop)?;
         if branch.cond == Cond::Always {
             return Ok(self.jump(number, to, branch.annul, slot));
         }
         let next = self.next(number, address)?;
-        let mut ended = plain(End::Branch {
-            cond: branch.cond,
-            taken: to,
-            next,
-        });
-        if !branch.annul {
-            ended.slot = unless_nop(slot);
-        } else if !is_nop(&slot) {
+        let mut taken = to;
+        let mut slot = unless_nop(slot);
+        if branch.annul
+            && let Some(instr) = slot
+        {
             let line = self.reading.line(address);
-            let taken = self.add_slot(slot, to, line)?;
-            ended.end = End::Branch {
+            taken = self.add_slot(instr, to, line)?;
+            slot = None;
+        }
+        Ok(Ended {
+            end: End::Branch {
                 cond: branch.cond,
                 taken,
                 next,
-            };
-        }
-        Ok(ended)
+            },
+            slot,
+            last: None,
+        })
     }
 
     /// The end that a return is.
@@ -296,9 +282,12 @@ impl Blocks<'_> {
         {
             return Ok(plain(End::Return(fields)));
         }
-        if !framed && !is_framed && is_plain(&slot) {
+        if !framed
+            && !is_framed
+            && let Role::Plain = role_of(&slot)
+        {
             return Ok(Ended {
-                end: End::Return(no_fields()),
+                end: End::Return(NO_FIELDS),
                 slot: None,
                 last: unless_nop(slot),
             });
@@ -342,25 +331,23 @@ impl Blocks<'_> {
     ) -> Result<Item, Fault> {
         match instr {
             Instr::Save(_) if address == self.function.entry && self.function.frame > 0 => {
-                Ok(Item::Save)
+                return Ok(Item::Save);
             }
             Instr::Bicc(branch) if branch.cond != Cond::Never => {
-                Ok(Item::Ends(self.branch(number, address, stop, *branch)?, 2))
+                return Ok(Item::Ends(self.branch(number, address, stop, *branch)?, 8));
             }
             Instr::Call(displacement) => {
-                Ok(Item::Call(self.call(address, stop, *displacement, own)?))
+                return Ok(Item::Step(self.call(address, stop, *displacement, own)?, 8));
             }
-            Instr::Jmpl(fields) if is_ret(fields) => {
-                Ok(Item::Ends(self.returned(address, stop, true)?, 2))
+            Instr::Jmpl(fields) if is_ret(fields) || is_retl(fields) => {
+                return Ok(Item::Ends(self.returned(address, stop, is_ret(fields))?, 8));
             }
-            Instr::Jmpl(fields) if is_retl(fields) => {
-                Ok(Item::Ends(self.returned(address, stop, false)?, 2))
-            }
-            other if service_of(other) == Some(0) => Ok(Item::Ends(plain(End::Exit), 1)),
-            other if is_plain(other) || service_of(other).is_some() => {
-                Ok(Item::Step(self.step(address, *other)))
-            }
-            _ => Err(
+            _ => {}
+        }
+        match role_of(instr) {
+            Role::Service(0) => Ok(Item::Ends(plain(End::Exit), 4)),
+            Role::Plain | Role::Service(_) => Ok(Item::Step(self.step(address, *instr), 4)),
+            Role::Other => Err(
                 self.reading.fault(
                     address,
                     "an instruction that sandboxed code may not have here",
@@ -379,27 +366,16 @@ impl Blocks<'_> {
         }
     }
 
-    /// Ends a block by what its last words are.
-    fn ended(&mut self, address: u32, ended: Ended, steps: Vec<Step>) -> Result<Block, Fault> {
-        let Ended { end, slot, last } = ended;
-        let mut steps = steps;
-        let line = self.reading.line(address);
-        self.spared.push(u64::from(last.is_some()))?;
-        if let Some(instr) = last {
-            steps.push(self.step(address.saturating_add(4), instr))?;
-        }
-        Ok(Block {
-            steps,
-            end,
-            slot,
-            line,
-        })
-    }
-
-    /// One block, by the number of its function and its own.
-    pub fn read(&mut self, own: usize, number: usize, start: u32) -> Result<Block, Fault> {
+    /// Reads the steps of a block, by the number of its function and its own; gives how it ends, and at which address.
+    /// Where its end has words, another block has to begin behind them.
+    fn read_steps(
+        &mut self,
+        own: usize,
+        number: usize,
+        start: u32,
+        steps: &mut Vec<Step>,
+    ) -> Result<(Ended, u32), Fault> {
         let stop = self.end_of(number);
-        let mut steps = Vec::new(self.reading.alloc);
         let mut address = start;
         for _ in 0..stop.saturating_sub(start) / 4 {
             if address >= stop {
@@ -408,41 +384,59 @@ impl Blocks<'_> {
             let Some(instr) = self.reading.instr(address) else {
                 break;
             };
-            let mut width = 4;
             match self.word(own, number, address, stop, &instr)? {
-                Item::Save => {}
-                Item::Step(step) => steps.push(step)?,
-                Item::Call(step) => {
+                Item::Save => address = address.saturating_add(4),
+                Item::Step(step, width) => {
                     steps.push(step)?;
-                    width = 8;
+                    address = address.saturating_add(width);
                 }
-                Item::Ends(ended, words) => {
-                    return self.end_at(address, words, stop, ended, steps);
+                Item::Ends(ended, width) => {
+                    let behind = address.saturating_add(width);
+                    if behind < stop {
+                        let what = "a block begins here: write a `.block`";
+                        return Err(self.reading.fault(behind, what));
+                    }
+                    return Ok((ended, address));
                 }
             }
-            address = address.saturating_add(width);
         }
         let last = stop.saturating_sub(4);
         let next = self.next(number, last)?;
-        self.ended(last, plain(End::Jump(next)), steps)
+        Ok((plain(End::Jump(next)), last))
     }
 
-    /// Ends a block by the words at an address, behind which another one has to begin.
-    fn end_at(
-        &mut self,
-        address: u32,
-        words: u32,
-        stop: u32,
-        ended: Ended,
-        steps: Vec<Step>,
-    ) -> Result<Block, Fault> {
-        let behind = address.saturating_add(words.saturating_mul(4));
-        if behind < stop {
-            return Err(
-                self.reading
-                    .fault(behind, "a block begins here: write a `.block`"),
-            );
+    /// Reads one block, by the number of its function and its own.
+    fn read(&mut self, own: usize, number: usize, start: u32) -> Result<(), Fault> {
+        let mut steps = Vec::new(self.reading.alloc);
+        let (Ended { end, slot, last }, address) = self.read_steps(own, number, start, &mut steps)?;
+        self.spared.push(u64::from(last.is_some()))?;
+        if let Some(instr) = last {
+            steps.push(self.step(address.saturating_add(4), instr))?;
         }
-        self.ended(address, ended, steps)
+        self.found.push(Block {
+            steps,
+            end,
+            slot,
+            line: self.reading.line(address),
+        })?;
+        Ok(())
+    }
+
+    /// Reads the blocks of the function, by its number.
+    pub fn read_all(&mut self, own: usize) -> Result<(), Fault> {
+        let function = self.function;
+        for (number, block) in function.blocks.as_slice().iter().enumerate() {
+            self.read(own, number, block.address)?;
+        }
+        Ok(())
+    }
+
+    /// Puts the blocks that are slots behind the others.
+    pub fn add_slots(&mut self) -> Result<(), AllocError> {
+        for slot in std::mem::replace(&mut self.slots, Vec::new(self.reading.alloc)) {
+            self.found.push(slot)?;
+            self.spared.push(SLOT)?;
+        }
+        Ok(())
     }
 }

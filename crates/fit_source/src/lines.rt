@@ -49,23 +49,6 @@ fn name_in(alloc: Global, line: &[u8], name: Name) -> Result<String, AllocError>
 }
 
 impl Lines {
-    /// A block begins.
-    fn begin(
-        &mut self,
-        alloc: Global,
-        line: usize,
-        is_function: bool,
-        name: String,
-    ) -> Result<(), AllocError> {
-        self.heads.push(Head {
-            line,
-            is_function,
-            name,
-            given: Vec::new(alloc),
-        })?;
-        Ok(())
-    }
-
     /// Takes over a directive of a line.
     fn add_directive(
         &mut self,
@@ -74,15 +57,9 @@ impl Lines {
         bytes: &[u8],
         directive: Directive,
     ) -> Result<(), AllocError> {
-        match directive {
-            Directive::Function { name, .. } => {
-                let name = name_in(alloc, bytes, name)?;
-                self.begin(alloc, line, true, name)
-            }
-            Directive::Block(name) => {
-                let name = name_in(alloc, bytes, name)?;
-                self.begin(alloc, line, false, name)
-            }
+        let (name, is_function) = match directive {
+            Directive::Function { name, .. } => (name, true),
+            Directive::Block(name) => (name, false),
             Directive::Param(_)
             | Directive::Result(_)
             | Directive::Depth(_)
@@ -92,10 +69,17 @@ impl Lines {
                 if let Some(head) = self.heads.last_mut() {
                     head.given.push(Given { line, directive })?;
                 }
-                Ok(())
+                return Ok(());
             }
-            _ => Ok(()),
-        }
+            _ => return Ok(()),
+        };
+        self.heads.push(Head {
+            line,
+            is_function,
+            name: name_in(alloc, bytes, name)?,
+            given: Vec::new(alloc),
+        })?;
+        Ok(())
     }
 
     /// Takes over what stands behind the labels of a line.

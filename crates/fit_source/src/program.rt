@@ -1,7 +1,7 @@
 //! A source's image as a program.
 use crate::blocks::{Blocks, Reading};
 use crate::lines::{Head, Lines};
-use fit_code::{Block, Fault, Function, Line, NO_LINE, Object, Program, Region};
+use fit_code::{Fault, Function, Line, NO_LINE, Object, Program, Region};
 use sbx_image::Image;
 use std::alloc::{AllocError, Global};
 use v8_formats::Instr;
@@ -16,9 +16,6 @@ pub struct Read {
     pub spared: Vec<Vec<u64>>,
 }
 
-/// What a block that is a slot weighs: the branch's own block pays for it.
-const SLOT: u64 = 2;
-
 /// A line of the source.
 fn line_of(number: usize) -> Line {
     Line {
@@ -27,15 +24,18 @@ fn line_of(number: usize) -> Line {
     }
 }
 
-/// The lines at which the image's functions begin, one after the other.
-fn function_heads<'l>(alloc: Global, lines: &'l Lines) -> Result<Vec<&'l Head>, AllocError> {
-    let mut found = Vec::new(alloc);
+/// The line at which the function of a number begins.
+fn head_of(lines: &Lines, number: usize) -> Option<&Head> {
+    let mut before: usize = 0;
     for head in &lines.heads {
         if head.is_function {
-            found.push(head)?;
+            if before == number {
+                return Some(head);
+            }
+            before = before.saturating_add(1);
         }
     }
-    Ok(found)
+    None
 }
 
 /// Whether a function begins as its kind asks for: a framed one with SAVE, and its frame with it.
@@ -79,92 +79,49 @@ fn add_data(alloc: Global, image: &Image, program: &mut Program) -> Result<(), A
     Ok(())
 }
 
-/// Puts a block behind others.
-fn push_block(blocks: &mut Vec<Block>, block: Block) -> Result<(), AllocError> {
-    blocks.push(block)?;
-    Ok(())
-}
-
-/// Reads the blocks of a function, by its number.
-fn read_all(blocks: &mut Blocks<'_>, number: usize, found: &mut Vec<Block>) -> Result<(), Fault> {
-    for (place, block) in blocks.function.blocks.as_slice().iter().enumerate() {
-        let made = blocks.read(number, place, block.address)?;
-        push_block(found, made)?;
-    }
-    Ok(())
-}
-
-/// Puts blocks that are slots behind the others.
-fn add_slots(
-    slots: Vec<Block>,
-    found: &mut Vec<Block>,
-    spared: &mut Vec<u64>,
-) -> Result<(), AllocError> {
-    for slot in slots {
-        found.push(slot)?;
-        spared.push(SLOT)?;
-    }
-    Ok(())
-}
-
 impl Read {
-    /// Puts a function behind the others.
-    fn add(&mut self, function: Function, spared: Vec<u64>) -> Result<(), AllocError> {
-        self.program.functions.push(function)?;
-        self.spared.push(spared)?;
-        Ok(())
-    }
-
-    /// Names the source's file.
-    fn add_file(&mut self, alloc: Global, file: &str) -> Result<(), AllocError> {
-        let name = String::from_str(alloc, file)?;
-        self.program.files.push(name)?;
-        Ok(())
-    }
-
-    /// Adds the functions of the image that is read.
-    fn add_all(&mut self, reading: &Reading<'_>, heads: &[&Head]) -> Result<(), Fault> {
+    /// Adds a file of a name, and the data and the functions of the image that is read.
+    fn add_all(&mut self, reading: &Reading<'_>, file: &str) -> Result<(), Fault> {
+        let alloc = reading.alloc;
+        self.program.files.push(String::from_str(alloc, file)?)?;
+        add_data(alloc, reading.image, &mut self.program)?;
         for (number, function) in reading.image.functions().iter().enumerate() {
-            let (made, spared) = reading.function(number, function, heads.get(number).copied())?;
-            self.add(made, spared)?;
+            let (made, spared) = reading.function(number, function)?;
+            self.program.functions.push(made)?;
+            self.spared.push(spared)?;
         }
         Ok(())
     }
 }
 
 impl<'r> Reading<'r> {
-    /// A function, by its number and where it begins; and the turns that its blocks weigh less.
+    /// A function, by its number; and the turns that its blocks weigh less.
     fn function(
         &self,
         number: usize,
         function: &'r sbx_image::Function,
-        head: Option<&Head>,
     ) -> Result<(Function, Vec<u64>), Fault> {
         check_kind(self, function)?;
         let mut blocks = Blocks {
             reading: *self,
             function,
             end: self.end_of(number),
+            found: Vec::new(self.alloc),
             slots: Vec::new(self.alloc),
             spared: Vec::new(self.alloc),
         };
-        let mut found = Vec::new(self.alloc);
-        read_all(&mut blocks, number, &mut found)?;
-        let Blocks {
-            slots,
-            mut spared,
-            ..
-        } = blocks;
-        add_slots(slots, &mut found, &mut spared)?;
-        Ok((self.made(function, head, found)?, spared))
+        blocks.read_all(number)?;
+        blocks.add_slots()?;
+        let mut made = self.declared(function, head_of(self.lines, number))?;
+        made.blocks = blocks.found;
+        Ok((made, blocks.spared))
     }
 
-    /// The function of some blocks.
-    fn made(
+    /// A function without its blocks.
+    fn declared(
         &self,
         function: &sbx_image::Function,
         head: Option<&Head>,
-        blocks: Vec<Block>,
     ) -> Result<Function, AllocError> {
         let (name, line) = match head {
             Some(head) => (head.name.as_str(), line_of(head.line)),
@@ -174,7 +131,7 @@ impl<'r> Reading<'r> {
             name: String::from_str(self.alloc, name)?,
             framed: function.frame > 0,
             frame: function.frame,
-            blocks,
+            blocks: Vec::new(self.alloc),
             params: Vec::from_slice(self.alloc, function.params.as_slice())?,
             results: Vec::from_slice(self.alloc, function.results.as_slice())?,
             line,
@@ -211,9 +168,6 @@ pub fn program_of(alloc: Global, file: &str, image: &Image, lines: &Lines) -> Re
         },
         spared: Vec::new(alloc),
     };
-    read.add_file(alloc, file)?;
-    add_data(alloc, image, &mut read.program)?;
-    let heads = function_heads(alloc, lines)?;
-    read.add_all(&reading, heads.as_slice())?;
+    read.add_all(&reading, file)?;
     Ok(read)
 }
