@@ -4,7 +4,7 @@ use crate::data::push_data;
 use crate::length::Length;
 use crate::lines::{Told, push_slot};
 use crate::names::names_of;
-use fit_code::{Block, End, Fault, Function, Line, NO_LINE, Program, Step};
+use fit_code::{Block, End, Fault, Function, NO_LINE, Program, Range, Step};
 use sbx_declare::{Bounds, Location};
 use std::alloc::{AllocError, Global};
 use v8_formats::{Instr, Operand};
@@ -20,33 +20,17 @@ struct BlockPlace<'n> {
     number: usize,
 }
 
-/// The service that a step asks for; none of another step.
-fn service_of(step: &Step) -> Option<u32> {
-    match step.instr {
-        Instr::Ticc(trap) => match trap.operand2 {
-            Operand::Immediate(number) => Some(number),
-            Operand::Register(_) => None,
-        },
-        _ => None,
-    }
-}
-
-/// Whether a step of a block asks for a service.
-fn asks_in(block: &Block, service: u32) -> bool {
-    for step in block.steps.as_slice() {
-        if service_of(step) == Some(service) {
-            return true;
-        }
-    }
-    false
-}
-
 /// Whether a program asks for a service.
 fn asks_for(program: &Program, service: u32) -> bool {
-    for function in program.functions.as_slice() {
-        for block in function.blocks.as_slice() {
-            if asks_in(block, service) {
-                return true;
+    for function in &program.functions {
+        for block in &function.blocks {
+            for step in &block.steps {
+                if let Instr::Ticc(trap) = step.instr
+                    && let Operand::Immediate(number) = trap.operand2
+                    && number == service
+                {
+                    return true;
+                }
             }
         }
     }
@@ -68,13 +52,13 @@ fn push_head(out: &mut String, program: &Program, room: u64) -> Result<(), Alloc
 
 /// What is known where a block begins, and its fuel.
 fn push_notes(out: &mut String, notes: &BlockNotes) -> Result<(), AllocError> {
-    for cell in notes.cells.as_slice() {
+    for cell in &notes.cells {
         let (location, range) = (Location(cell.location), Bounds(cell.range));
         writeln!(out, ".cell {location},{range}")?;
     }
     let fuel = notes.fuel;
     writeln!(out, ".fuel {fuel}")?;
-    for term in notes.terms.as_slice() {
+    for term in &notes.terms {
         let (location, coefficient) = (Location(term.location), term.coefficient);
         writeln!(out, ".term {location},{coefficient}")?;
     }
@@ -97,13 +81,9 @@ fn push_step(
     told.push_instr(out, &step.instr, step.line)
 }
 
-/// A branch, as far as its target.
-fn push_branch(out: &mut String, cond: Cond, name: &str, taken: usize) -> Result<(), AllocError> {
-    let suffix = match suffixes().get(usize::from(cond.code())) {
-        Some(suffix) => *suffix,
-        None => "n",
-    };
-    writeln!(out, "    b{suffix} {name}.{taken}")
+/// A line that names a block.
+fn push_named(out: &mut String, what: &str, name: &str, number: usize) -> Result<(), AllocError> {
+    writeln!(out, "{what} {name}.{number}")
 }
 
 /// The end of a block.
@@ -113,27 +93,28 @@ fn push_end(
     place: BlockPlace<'_>,
     block: &Block,
 ) -> Result<(), AllocError> {
-    let name = place.name;
-    match block.end {
-        End::Jump(to) if to == place.number.saturating_add(1) => Ok(()),
-        End::Jump(to) => {
-            writeln!(out, "    ba {name}.{to}")?;
-            push_slot(out, block.slot)
+    let (cond, to) = match block.end {
+        End::Jump(to) if to == place.number.saturating_add(1) => return Ok(()),
+        End::Jump(to) => (Cond::Always, to),
+        End::Branch { cond, taken, .. } => (cond, taken),
+        End::Return(fields) => {
+            let (text, slot) = if place.framed {
+                ("ret", Some(Instr::Restore(fields)))
+            } else {
+                ("retl", block.slot)
+            };
+            told.push_text(out, text, block.line)?;
+            return push_slot(out, slot);
         }
-        End::Branch { cond, taken, .. } => {
-            push_branch(out, cond, name, taken)?;
-            push_slot(out, block.slot)
-        }
-        End::Return(fields) if place.framed => {
-            told.push_text(out, "ret", block.line)?;
-            push_slot(out, Some(Instr::Restore(fields)))
-        }
-        End::Return(_) => {
-            told.push_text(out, "retl", block.line)?;
-            push_slot(out, block.slot)
-        }
-        End::Exit => told.push_text(out, "ta 0", block.line),
-    }
+        End::Exit => return told.push_text(out, "ta 0", block.line),
+    };
+    let suffix = match suffixes().get(usize::from(cond.code())) {
+        Some(suffix) => *suffix,
+        None => "n",
+    };
+    out.push_str("    b")?;
+    push_named(out, suffix, place.name, to)?;
+    push_slot(out, block.slot)
 }
 
 /// A block with a number; the first one begins with its function.
@@ -145,21 +126,29 @@ fn push_block(
     block: &Block,
     notes: Option<&BlockNotes>,
 ) -> Result<(), AllocError> {
-    let (name, number) = (place.name, place.number);
-    if number > 0 {
-        writeln!(out, ".block {name}.{number}")?;
+    let frame = place.frame;
+    if place.number > 0 {
+        push_named(out, ".block", place.name, place.number)?;
     }
     if let Some(notes) = notes {
         push_notes(out, notes)?;
     }
-    if number == 0 && place.frame > 0 {
-        let frame = place.frame;
+    if place.number == 0 && frame > 0 {
         writeln!(out, "    save %sp,-{frame},%sp")?;
     }
-    for step in block.steps.as_slice() {
+    for step in &block.steps {
         push_step(out, told, names, step)?;
     }
     push_end(out, told, place, block)
+}
+
+/// Ranges, in a line each.
+fn push_ranges(out: &mut String, what: &str, ranges: &[Range]) -> Result<(), AllocError> {
+    for range in ranges {
+        let range = Bounds(*range);
+        writeln!(out, "{what} {range}")?;
+    }
+    Ok(())
 }
 
 /// The line that begins a function, and what it promises.
@@ -175,24 +164,8 @@ fn push_function_head(
         out,
         "\n.function {name},{kind},{frame},{room},{budget}\n.depth {depth}"
     )?;
-    for range in function.params.as_slice() {
-        let range = Bounds(*range);
-        writeln!(out, ".param {range}")?;
-    }
-    for range in function.results.as_slice() {
-        let range = Bounds(*range);
-        writeln!(out, ".result {range}")?;
-    }
-    Ok(())
-}
-
-/// The line of a block, or of its function where it has none.
-fn line_of(function: &Function, block: &Block) -> Line {
-    if block.line == NO_LINE {
-        function.line
-    } else {
-        block.line
-    }
+    push_ranges(out, ".param", function.params.as_slice())?;
+    push_ranges(out, ".result", function.results.as_slice())
 }
 
 /// A function, behind a source of some length.
@@ -214,7 +187,12 @@ fn push_function(
             number,
         };
         push_block(out, told, names, place, block, notes.blocks.get(number))?;
-        length.count(out.as_str(), line_of(function, block))?;
+        let line = if block.line == NO_LINE {
+            function.line
+        } else {
+            block.line
+        };
+        length.count(out.as_str(), line)?;
     }
     Ok(())
 }
@@ -230,29 +208,23 @@ pub fn push_source(
     program: &Program,
     annotations: &Annotations,
 ) -> Result<(), Fault> {
-    let names = names_of(alloc, program)?;
     let room = match annotations.functions.first() {
         Some(notes) => notes.room,
         None => 0,
     };
     push_head(out, program, room)?;
     push_data(out, program)?;
+    let names = names_of(alloc, program)?;
+    let names = names.as_slice();
     let mut told = Told::new(program);
     let mut length = Length::none();
-    for (function, (name, notes)) in program
-        .functions
-        .iter()
-        .zip(names.iter().zip(annotations.functions.iter()))
-    {
-        push_function(
-            out,
-            &mut length,
-            &mut told,
-            names.as_slice(),
-            name.as_str(),
-            function,
-            notes,
-        )?;
+    for (number, function) in program.functions.iter().enumerate() {
+        if let Some(name) = names.get(number)
+            && let Some(notes) = annotations.functions.get(number)
+        {
+            let name = name.as_str();
+            push_function(out, &mut length, &mut told, names, name, function, notes)?;
+        }
     }
     Ok(())
 }

@@ -59,13 +59,9 @@ fn push_object(out: &mut String, from: u64, object: &Object) -> Result<u64, Allo
     Ok(start.saturating_add(object.bytes.len() as u64))
 }
 
-fn right_name(region: &Region) -> &'static str {
-    if region.readonly { "ro" } else { "rw" }
-}
-
 /// A region with the objects that lie in it.
 fn push_region(out: &mut String, region: &Region, objects: &[Object]) -> Result<(), AllocError> {
-    let right = right_name(region);
+    let right = if region.readonly { "ro" } else { "rw" };
     writeln!(out, "\n.region {right}")?;
     let start = u64::from(region.start);
     let end = start.saturating_add(u64::from(region.length));
@@ -81,7 +77,7 @@ fn push_region(out: &mut String, region: &Region, objects: &[Object]) -> Result<
 
 /// The regions of a program; the code comes behind them.
 pub fn push_data(out: &mut String, program: &Program) -> Result<(), AllocError> {
-    for region in program.regions.as_slice() {
+    for region in &program.regions {
         push_region(out, region, program.objects.as_slice())?;
     }
     out.push_str("\n.text\n")

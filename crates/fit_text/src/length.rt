@@ -13,11 +13,6 @@ pub struct Length {
     bytes: usize,
 }
 
-fn fault(line: Line, what: &'static str, most: usize) -> Fault {
-    let most = most as u64;
-    Fault::new(line, Reason::TooMany { what, most })
-}
-
 /// How many lines end in some text.
 fn line_ends(text: &[u8]) -> usize {
     let mut count: usize = 0;
@@ -41,12 +36,14 @@ impl Length {
         let added = source.as_bytes().get(self.bytes..).unwrap_or(&[]);
         self.lines = self.lines.saturating_add(line_ends(added));
         self.bytes = source.len();
-        if self.lines > LINES {
-            return Err(fault(line, "lines in the source that would be made", LINES));
-        }
-        if self.bytes > BYTES {
-            return Err(fault(line, "bytes in the source that would be made", BYTES));
-        }
-        Ok(())
+        let (what, most) = if self.lines > LINES {
+            ("lines in the source that would be made", LINES)
+        } else if self.bytes > BYTES {
+            ("bytes in the source that would be made", BYTES)
+        } else {
+            return Ok(());
+        };
+        let most = most as u64;
+        Err(Fault::new(line, Reason::TooMany { what, most }))
     }
 }

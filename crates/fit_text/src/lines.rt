@@ -10,7 +10,7 @@ use v8_forms::print_instr;
 const COMMENT: usize = 40;
 
 /// The lines of C that instructions come from, as far as they have been told.
-#[derive(Drop)]
+#[derive(Clone, Copy)]
 pub struct Told<'p> {
     program: &'p Program,
     last: Line,
