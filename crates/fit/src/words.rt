@@ -1,9 +1,8 @@
 //! What the words of a command line ask for.
 use std::alloc::{AllocError, Global};
-use std::convert::AsStr;
 
 /// The turns that a program's loops may take where the words say nothing.
-const TURNS: u64 = 1_000_000_000;
+pub const TURNS: u64 = 1_000_000_000;
 
 /// The most turns that may be asked for.
 const MOST: u64 = 1_000_000_000_000;
@@ -30,12 +29,12 @@ Status 0: made. 1: a test would be added, or something isn't shown, and --strict
 2: refused, with a line and a reason. 3: other words. 4: a file can't be read or written. 5: memory.
 ";
 
-/// What is to be done.
+/// What words give, each but sources at most once.
 #[derive(Drop)]
-pub struct Job<'a> {
+pub struct Words<'a> {
     pub sources: Vec<&'a str>,
-    pub out: &'a str,
-    pub turns: u64,
+    pub out: Option<&'a str>,
+    pub turns: Option<u64>,
     pub is_strict: bool,
     pub by_region: bool,
 }
@@ -48,44 +47,18 @@ enum Next {
     Turns,
 }
 
-/// What the words give so far, each but sources at most once.
-#[derive(Drop)]
-struct Words<'a> {
-    sources: Vec<&'a str>,
-    out: Option<&'a str>,
-    turns: Option<u64>,
-    is_strict: bool,
-    by_region: bool,
-}
-
-/// The number that a word of digits is.
-fn number_of(word: &str) -> Option<u64> {
-    match word.parse::<u64>() {
-        Ok(number) if 0 < number && number <= MOST => Some(number),
-        _ => None,
-    }
-}
-
-/// Whether a word begins as an option does.
-pub fn is_option(word: &str) -> bool {
-    matches!(word.as_bytes(), [b'-', ..])
-}
-
-/// Puts a value where none is yet.
-fn put<T>(place: &mut Option<T>, value: T) -> Option<Next>
-where
-    T: Drop,
-{
-    match place {
-        Some(_) => None,
-        None => {
-            *place = Some(value);
-            Some(Next::Any)
+impl<'a> Words<'a> {
+    /// Nothing.
+    pub fn none(alloc: Global) -> Words<'a> {
+        Words {
+            sources: Vec::new(alloc),
+            out: None,
+            turns: None,
+            is_strict: false,
+            by_region: false,
         }
     }
-}
 
-impl<'a> Words<'a> {
     /// Takes a word that isn't a value, and says what the one after it is; nothing where the word has no place.
     fn take_any(&mut self, word: &'a str) -> Result<Option<Next>, AllocError> {
         match word {
@@ -93,58 +66,47 @@ impl<'a> Words<'a> {
             "--turns" => return Ok(Some(Next::Turns)),
             "--strict" => self.is_strict = true,
             "--region" => self.by_region = true,
-            word if is_option(word) => return Ok(None),
+            word if matches!(word.as_bytes(), [b'-', ..]) => return Ok(None),
             source => self.sources.push(source)?,
         }
         Ok(Some(Next::Any))
     }
 
-    /// Takes a word, and says what the one after it is; nothing where the word has no place.
-    fn take(&mut self, next: Next, word: &'a str) -> Result<Option<Next>, AllocError> {
-        match next {
-            Next::Any => self.take_any(word),
-            Next::Out => Ok(put(&mut self.out, word)),
-            Next::Turns => Ok(match number_of(word) {
-                Some(turns) => put(&mut self.turns, turns),
-                None => None,
-            }),
-        }
-    }
-
-    /// The job that all words give; nothing where there is no source, or nowhere to write.
-    fn job(self) -> Option<Job<'a>> {
-        let out = self.out?;
-        if self.sources.is_empty() {
+    /// Takes the name of the file that is written; no second one has a place.
+    fn take_out(&mut self, word: &'a str) -> Option<Next> {
+        if self.out.is_some() {
             return None;
         }
-        Some(Job {
-            sources: self.sources,
-            out,
-            turns: self.turns.unwrap_or(TURNS),
-            is_strict: self.is_strict,
-            by_region: self.by_region,
-        })
+        self.out = Some(word);
+        Some(Next::Any)
     }
-}
 
-/// The job that the words after the program's name ask for; nothing where they ask for none.
-pub fn read_words<S: AsStr>(alloc: Global, words: &[S]) -> Result<Option<Job<'_>>, AllocError> {
-    let mut read = Words {
-        sources: Vec::new(alloc),
-        out: None,
-        turns: None,
-        is_strict: false,
-        by_region: false,
-    };
-    let mut next = Next::Any;
-    for word in words {
-        match read.take(next, word.as_str())? {
-            Some(found) => next = found,
-            None => return Ok(None),
+    /// Takes a number of turns; no second one has a place.
+    fn take_turns(&mut self, word: &str) -> Option<Next> {
+        match word.parse::<u64>() {
+            Ok(turns) if 0 < turns && turns <= MOST && self.turns.is_none() => {
+                self.turns = Some(turns);
+                Some(Next::Any)
+            }
+            _ => None,
         }
     }
-    Ok(match next {
-        Next::Any => read.job(),
-        Next::Out | Next::Turns => None,
-    })
+
+    /// Takes the words after the program's name, or those after `annotate`; says whether each has a place.
+    pub fn take(&mut self, words: &'a [String]) -> Result<bool, AllocError> {
+        let mut next = Next::Any;
+        for word in words {
+            let word = word.as_str();
+            let found = match next {
+                Next::Any => self.take_any(word)?,
+                Next::Out => self.take_out(word),
+                Next::Turns => self.take_turns(word),
+            };
+            match found {
+                Some(found) => next = found,
+                None => return Ok(false),
+            }
+        }
+        Ok(matches!(next, Next::Any))
+    }
 }
