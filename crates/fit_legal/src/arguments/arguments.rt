@@ -1,11 +1,10 @@
 //! Arguments in memory. Nothing recurses, so each function has one place in the data for the arguments that its
 //! callers leave at `%sp + 64` and behind: the address of a struct that is returned, the seventh argument and
 //! further ones.
-use fit_blocks::{
-    Layout, Points, access_of, bit_of, fields_of, push_step, signed, word_of, written,
-};
+use crate::places::STACK_POINTER;
+use fit_blocks::{Layout, Points, access_of, fields_of, push_step, signed, written};
 use fit_code::{Block, End, Fault, Function, Line, Step};
-use std::alloc::Global;
+use std::alloc::{AllocError, Global};
 use v8_formats::{Instr, Operand, Three, Upper};
 use v8_word::Reg;
 
@@ -31,25 +30,12 @@ pub fn beside(step: &Step, instr: Instr, object: Option<usize>) -> Step {
     }
 }
 
-/// SETHI of an address into a register.
-fn high(address: u32, rd: Reg) -> Instr {
-    let imm22 = address >> 10;
-    Instr::Sethi(Upper { rd, imm22 })
-}
-
-/// OR of the low bits of an address to a register.
-fn low(address: u32, rd: Reg) -> Instr {
-    Instr::Or(Three {
-        rd,
-        rs1: rd,
-        operand2: Operand::Immediate(address & 0x3ff),
-    })
-}
-
-/// The same access with another address.
-pub fn moved(instr: &Instr, rd: Reg, rs1: Reg, operand2: Operand) -> Instr {
-    let fields = Three { rd, rs1, operand2 };
-    match instr {
+/// The same access, sum, difference or compare with other fields.
+pub fn with_fields(instr: &Instr, fields: Three) -> Option<Instr> {
+    Some(match instr {
+        Instr::Add(_) => Instr::Add(fields),
+        Instr::Sub(_) => Instr::Sub(fields),
+        Instr::SubCc(_) => Instr::SubCc(fields),
         Instr::Load(_) => Instr::Load(fields),
         Instr::LoadUnsignedByte(_) => Instr::LoadUnsignedByte(fields),
         Instr::LoadUnsignedHalf(_) => Instr::LoadUnsignedHalf(fields),
@@ -62,52 +48,12 @@ pub fn moved(instr: &Instr, rd: Reg, rs1: Reg, operand2: Operand) -> Instr {
         Instr::StoreDouble(_) => Instr::StoreDouble(fields),
         Instr::Swap(_) => Instr::Swap(fields),
         Instr::LoadStoreUnsignedByte(_) => Instr::LoadStoreUnsignedByte(fields),
-        other => *other,
-    }
-}
-
-/// The number that is added to a register, where it is a number and the register is that one.
-fn offset_from(fields: &Three, register: Reg) -> Option<i64> {
-    match fields.operand2 {
-        Operand::Immediate(number) if fields.rs1 == register => Some(signed(number)),
-        _ => None,
-    }
-}
-
-/// The number that the address of an access adds to a register, where it is a number and the register is that one.
-fn access_from(step: &Step, register: Reg) -> Option<i64> {
-    match access_of(&step.instr) {
-        Some(access) => offset_from(&access.fields, register),
-        None => None,
-    }
-}
-
-/// The same of a store alone.
-fn store_from(step: &Step, register: Reg) -> Option<i64> {
-    match access_of(&step.instr) {
-        Some(access) if access.stores => offset_from(&access.fields, register),
-        _ => None,
-    }
-}
-
-/// How many bytes an access moves; 0 of another step.
-pub fn bytes_of(step: &Step) -> u32 {
-    match access_of(&step.instr) {
-        Some(access) => access.bytes,
-        None => 0,
-    }
-}
-
-/// The number that a sum adds to a register, where it is a number and the register is that one.
-fn sum_from(step: &Step, register: Reg) -> Option<i64> {
-    match &step.instr {
-        Instr::Add(fields) => offset_from(fields, register),
-        _ => None,
-    }
+        _ => return None,
+    })
 }
 
 /// The register that a step leaves its result in.
-pub fn destination(step: &Step) -> Reg {
+fn destination(step: &Step) -> Reg {
     match fields_of(&step.instr) {
         Some(fields) => fields.rd,
         None => Reg::G0,
@@ -116,8 +62,27 @@ pub fn destination(step: &Step) -> Reg {
 
 /// The access of a step, by the scratch register and the low bits of an address.
 fn access_at(step: &Step, address: u32) -> Instr {
-    let operand2 = Operand::Immediate(address & 0x3ff);
-    moved(&step.instr, destination(step), scratch(), operand2)
+    let fields = Three {
+        rd: destination(step),
+        rs1: scratch(),
+        operand2: Operand::Immediate(address & 0x3ff),
+    };
+    match with_fields(&step.instr, fields) {
+        Some(instr) => instr,
+        None => step.instr,
+    }
+}
+
+/// Pushes SETHI of an address that an object has, and an instruction that takes it from there.
+fn push_behind_high(
+    step: &Step,
+    object: usize,
+    high: Upper,
+    instr: Instr,
+    out: &mut Vec<Step>,
+) -> Result<(), AllocError> {
+    push_step(out, beside(step, Instr::Sethi(high), Some(object)))?;
+    push_step(out, beside(step, instr, Some(object)))
 }
 
 /// Pushes an access whose address is a place in an object.
@@ -127,11 +92,13 @@ pub fn push_access(
     offset: i64,
     step: &Step,
     out: &mut Vec<Step>,
-) -> Result<(), Fault> {
+) -> Result<(), AllocError> {
     let address = layout.address(object, offset);
-    let place = Some(object);
-    push_step(out, beside(step, high(address, scratch()), place))?;
-    Ok(push_step(out, beside(step, access_at(step, address), place))?)
+    let high = Upper {
+        rd: scratch(),
+        imm22: address >> 10,
+    };
+    push_behind_high(step, object, high, access_at(step, address), out)
 }
 
 /// Pushes steps that leave the address of a place in an object in a register.
@@ -142,15 +109,15 @@ pub fn push_address(
     step: &Step,
     rd: Reg,
     out: &mut Vec<Step>,
-) -> Result<(), Fault> {
+) -> Result<(), AllocError> {
     let address = layout.address(object, offset);
-    push_step(out, beside(step, high(address, rd), Some(object)))?;
-    Ok(push_step(out, beside(step, low(address, rd), Some(object)))?)
-}
-
-/// The word of an offset from %sp.
-pub fn stack_operand(offset: i64) -> Operand {
-    Operand::Immediate(word_of(offset))
+    let imm22 = address >> 10;
+    let low = Instr::Or(Three {
+        rd,
+        rs1: rd,
+        operand2: Operand::Immediate(address & 0x3ff),
+    });
+    push_behind_high(step, object, Upper { rd, imm22 }, low, out)
 }
 
 /// The places of arguments of all functions, by the numbers of the source's functions.
@@ -181,9 +148,19 @@ impl Arguments {
     }
 }
 
-/// Whether so many bytes at a place are arguments in memory.
-fn is_argument(offset: i64, bytes: u32) -> bool {
-    FIRST <= offset && offset.saturating_add(i64::from(bytes)) <= FIRST + BYTES as i64
+/// The place of so many bytes among the arguments in memory behind a register, where the fields name that register and
+/// a number, and the bytes are arguments.
+fn argument_at(fields: &Three, register: Reg, bytes: u32) -> Option<i64> {
+    let Operand::Immediate(number) = fields.operand2 else {
+        return None;
+    };
+    let offset = signed(number).saturating_sub(FIRST);
+    let end = offset.saturating_add(i64::from(bytes));
+    if fields.rs1 == register && 0 <= offset && end <= BYTES as i64 {
+        Some(offset)
+    } else {
+        None
+    }
 }
 
 /// The function that a block's steps call first, from a place on.
@@ -214,137 +191,111 @@ fn next_call(function: &Function, block: usize, place: usize) -> Option<usize> {
     None
 }
 
-/// The register from which a function reaches its own arguments.
-fn own_base(function: &Function) -> Reg {
-    if function.framed { Reg::FP } else { Reg::SP }
+/// A function whose steps are put otherwise, by its number in the source.
+#[derive(Clone, Copy)]
+struct Own<'f> {
+    points: &'f Points,
+    function: &'f Function,
+    number: usize,
+    /// The register from which it reaches its own arguments.
+    base: Reg,
 }
 
-/// The number of the function whose arguments a step loads or stores, with the place of these bytes.
-fn argument_of(
-    function: &Function,
-    own: usize,
-    place: (usize, usize),
-    step: &Step,
-) -> Result<Option<(usize, i64)>, ()> {
-    if let Some(offset) = access_from(step, own_base(function))
-        && is_argument(offset, bytes_of(step))
-    {
-        return Ok(Some((own, offset.saturating_sub(FIRST))));
+impl Own<'_> {
+    /// The number of the function whose arguments a step at a place loads or stores, with the place of these bytes.
+    fn argument_of(
+        &self,
+        block: usize,
+        place: usize,
+        step: &Step,
+    ) -> Result<Option<(usize, i64)>, Fault> {
+        let Some(access) = access_of(&step.instr) else {
+            return Ok(None);
+        };
+        if let Some(offset) = argument_at(&access.fields, self.base, access.bytes) {
+            return Ok(Some((self.number, offset)));
+        }
+        if !self.function.framed || !access.stores {
+            return Ok(None);
+        }
+        let Some(offset) = argument_at(&access.fields, Reg::SP, access.bytes) else {
+            return Ok(None);
+        };
+        match next_call(self.function, block, place) {
+            Some(callee) => Ok(Some((callee, offset))),
+            None => Err(
+                self.points
+                    .fault(step.line, "an argument in memory, and no call behind it"),
+            ),
+        }
     }
-    match store_from(step, Reg::SP) {
-        Some(offset) if function.framed && is_argument(offset, bytes_of(step)) => {
-            match next_call(function, place.0, place.1) {
-                Some(callee) => Ok(Some((callee, offset.saturating_sub(FIRST)))),
-                None => Err(()),
+
+    /// The address of the function's own arguments that a step makes, and the register that it leaves it in.
+    fn address_of(&self, step: &Step) -> Option<(i64, Reg)> {
+        match step.instr {
+            Instr::Add(fields) if fields.rd != Reg::SP => {
+                Some((argument_at(&fields, self.base, 0)?, fields.rd))
+            }
+            _ => None,
+        }
+    }
+
+    /// Pushes a step at a place, with what it has to do with arguments in memory put otherwise.
+    fn push_placed(
+        &self,
+        (block, place): (usize, usize),
+        step: &Step,
+        arguments: &mut Arguments,
+        layout: &mut Layout,
+        out: &mut Vec<Step>,
+    ) -> Result<(), Fault> {
+        if let Some((callee, offset)) = self.argument_of(block, place, step)? {
+            let object = arguments.place(layout, callee, step.line)?;
+            return Ok(push_access(layout, object, offset, step, out)?);
+        }
+        if let Some((offset, rd)) = self.address_of(step) {
+            let object = arguments.place(layout, self.number, step.line)?;
+            return Ok(push_address(layout, object, offset, step, rd, out)?);
+        }
+        Ok(push_step(out, *step)?)
+    }
+
+    /// The steps of a block with what they have to do with arguments in memory put otherwise.
+    fn placed_steps(
+        &self,
+        block: usize,
+        arguments: &mut Arguments,
+        layout: &mut Layout,
+    ) -> Result<Vec<Step>, Fault> {
+        let mut steps = Vec::new(layout.alloc);
+        if let Some(found) = self.function.blocks.get(block) {
+            for (place, step) in found.steps.iter().enumerate() {
+                self.push_placed((block, place), step, arguments, layout, &mut steps)?;
             }
         }
-        _ => Ok(None),
+        Ok(steps)
     }
-}
-
-/// The address of a function's own arguments that a step makes.
-fn address_of_own(function: &Function, step: &Step) -> Option<i64> {
-    match sum_from(step, own_base(function)) {
-        Some(offset) if is_argument(offset, 0) && destination(step) != Reg::SP => Some(
-            offset.saturating_sub(FIRST),
-        ),
-        _ => None,
-    }
-}
-
-fn refused(points: &Points, line: Line) -> Fault {
-    points.fault(line, "an argument in memory, and no call behind it")
-}
-
-/// Puts what one step has to do with arguments in memory otherwise.
-fn push_placed(
-    points: &Points,
-    own: usize,
-    function: &Function,
-    place: (usize, usize),
-    arguments: &mut Arguments,
-    layout: &mut Layout,
-    out: &mut Vec<Step>,
-) -> Result<(), Fault> {
-    let Some(found) = function.blocks.get(place.0) else {
-        return Ok(());
-    };
-    let Some(step) = found.steps.get(place.1) else {
-        return Ok(());
-    };
-    match argument_of(function, own, place, step) {
-        Ok(Some((callee, offset))) => {
-            let object = arguments.place(layout, callee, step.line)?;
-            return push_access(layout, object, offset, step, out);
-        }
-        Ok(None) => {}
-        Err(()) => return Err(refused(points, step.line)),
-    }
-    if let Some(offset) = address_of_own(function, step) {
-        let object = arguments.place(layout, own, step.line)?;
-        return push_address(layout, object, offset, step, destination(step), out);
-    }
-    Ok(push_step(out, *step)?)
-}
-
-/// The steps of a block with what they have to do with arguments in memory put otherwise.
-fn placed_steps(
-    points: &Points,
-    own: usize,
-    function: &Function,
-    block: usize,
-    arguments: &mut Arguments,
-    layout: &mut Layout,
-) -> Result<Vec<Step>, Fault> {
-    let mut steps = Vec::new(layout.alloc);
-    let count = match function.blocks.get(block) {
-        Some(found) => found.steps.len(),
-        None => 0,
-    };
-    for place in 0..count {
-        push_placed(
-            points,
-            own,
-            function,
-            (block, place),
-            arguments,
-            layout,
-            &mut steps,
-        )?;
-    }
-    Ok(steps)
-}
-
-/// Whether a step of a block writes %sp.
-fn writes_stack_pointer(block: &Block) -> bool {
-    for step in &block.steps {
-        if written(&step.instr) & bit_of(Reg::SP) != 0 {
-            return true;
-        }
-    }
-    false
 }
 
 /// Whether a function without a window moves %sp, to have room of its own there.
 pub fn moves_stack(function: &Function) -> bool {
-    if function.framed {
-        return false;
-    }
     for block in &function.blocks {
-        if writes_stack_pointer(block) {
-            return true;
+        for step in &block.steps {
+            if !function.framed && written(&step.instr) & STACK_POINTER != 0 {
+                return true;
+            }
         }
     }
     false
 }
 
-/// Puts a function's accesses to arguments in memory otherwise. `own` is its number in the source.
+/// Puts a function's accesses to arguments in memory otherwise. `number` is its number in the source.
 ///
 /// # Errors
 /// Where an argument is stored, and a branch comes before the next call.
 pub fn place_arguments(
     points: &Points,
-    own: usize,
+    number: usize,
     function: &mut Function,
     arguments: &mut Arguments,
     layout: &mut Layout,
@@ -352,8 +303,15 @@ pub fn place_arguments(
     if moves_stack(function) {
         return Ok(());
     }
+    let base = if function.framed { Reg::FP } else { Reg::SP };
     for block in 0..function.blocks.len() {
-        let steps = placed_steps(points, own, function, block, arguments, layout)?;
+        let own = Own {
+            points,
+            function,
+            number,
+            base,
+        };
+        let steps = own.placed_steps(block, arguments, layout)?;
         if let Some(found) = function.blocks.get_mut(block) {
             found.steps = steps;
         }

@@ -3,6 +3,6 @@
 mod arguments;
 
 pub use arguments::{
-    Arguments, beside, bytes_of, destination, moved, moves_stack, place_arguments, push_access,
-    push_address, scratch, stack_operand,
+    Arguments, beside, moves_stack, place_arguments, push_access, push_address, scratch,
+    with_fields,
 };

@@ -5,24 +5,16 @@ use fit_gas::{Code, Item, Linked, Part, Source, SymbolPlace};
 use std::alloc::{AllocError, Global};
 use v8_formats::{Instr, decode};
 
-fn is_call(word: u32) -> bool {
-    matches!(decode(word), Instr::Call(_))
-}
-
-/// The function that an item calls.
-fn callee_of(source: &Source, linked: &Linked, item: &Item) -> Result<Option<usize>, Fault> {
+/// The symbol of what an item calls, and the line.
+fn called_by(item: &Item) -> Option<(usize, Line)> {
     match item {
         Item::Instr {
             word,
             line,
             reference: Some(reference),
-        } if reference.part == Part::Target && is_call(*word) => match linked.place(
-            reference.symbol,
-        ) {
-            SymbolPlace::Function(number) => Ok(Some(number)),
-            _ => Err(fault_of(source, *line, Naming::NotDefined, reference.symbol)),
-        },
-        _ => Ok(None),
+        } if matches!(reference.part, Part::Target) && matches!(decode(*word), Instr::Call(_)) =>
+            Some((reference.symbol, *line)),
+        _ => None,
     }
 }
 
@@ -34,7 +26,7 @@ struct Visit {
 }
 
 /// How far a function was walked over.
-#[derive(Clone, Copy, PartialEq, Eq)]
+#[derive(Clone, Copy)]
 enum Progress {
     New,
     Open,
@@ -92,8 +84,17 @@ impl Walk {
         Ok(names)
     }
 
-    /// Goes on to what an item calls.
-    fn go_into(&mut self, source: &Source, callee: usize, line: Line) -> Result<(), Fault> {
+    /// Goes on to the function that is called by a symbol at a line.
+    fn go_into(
+        &mut self,
+        source: &Source,
+        linked: &Linked,
+        symbol: usize,
+        line: Line,
+    ) -> Result<(), Fault> {
+        let SymbolPlace::Function(callee) = linked.place(symbol) else {
+            return Err(fault_of(source, line, Naming::NotDefined, symbol));
+        };
         match self.progress(callee) {
             Progress::New => Ok(self.enter(callee)?),
             Progress::Done => Ok(()),
@@ -106,27 +107,22 @@ impl Walk {
 
     /// Goes on by one item, or leaves a function; says whether there was something to do.
     fn go(&mut self, source: &Source, linked: &Linked) -> Result<bool, Fault> {
-        let Some(visit) = self.open.pop() else {
+        let Some(visit) = self.open.last_mut() else {
             return Ok(false);
         };
-        let item = match source.codes.get(visit.code) {
-            Some(code) => code.items.get(visit.item),
-            None => None,
-        };
-        let Some(item) = item else {
-            self.mark(visit.code, Progress::Done);
-            self.left.push(visit.code)?;
-            return Ok(true);
-        };
-        self.open.push(Visit {
-            code: visit.code,
-            item: visit.item.saturating_add(1),
-        })?;
-        if let Some(callee) = callee_of(source, linked, item)?
-            && let Item::Instr { line, .. } = item
+        let Visit { code, item } = *visit;
+        visit.item = item.saturating_add(1);
+        if let Some(found) = source.codes.get(code)
+            && let Some(item) = found.items.get(item)
         {
-            self.go_into(source, callee, *line)?;
+            if let Some((symbol, line)) = called_by(item) {
+                self.go_into(source, linked, symbol, line)?;
+            }
+            return Ok(true);
         }
+        self.mark(code, Progress::Done);
+        let _ = self.open.pop();
+        self.left.push(code)?;
         Ok(true)
     }
 }

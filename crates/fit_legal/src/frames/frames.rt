@@ -1,30 +1,29 @@
 //! Frames. Words that are only spilled stay in the frame; where an address in it is taken, or other sizes are, the
 //! frame's memory goes to the data, since nothing recurses.
-use crate::arguments::{bytes_of, destination, moves_stack, push_access, push_address, scratch};
+use crate::arguments::{moves_stack, push_access, push_address, scratch};
 use crate::places::{
-    SAVE_AREA, address_made, by_scratch, first_word, is_inside, place_accessed, scratch_place,
-    second_word, stack_bits, taken_by, uses_frame, word_place,
+    SAVE_AREA, STACK, STACK_POINTER, address_made, by_scratch, place_accessed, taken_by,
+    uses_frame, word_place, word_step,
 };
-use fit_blocks::{Layout, Points, bit_of, operands_read, push_step, written};
-use fit_code::{Block, End, Fault, Function, Line, Step};
-use std::alloc::AllocError;
-use v8_word::Reg;
+use fit_blocks::{Layout, Points, next_register, operands_read, push_step, written};
+use fit_code::{Block, End, Fault, Function, Step};
+use std::alloc::{AllocError, Global};
 
-/// Pushes spilled words by %sp, a double word as two.
-fn push_words(step: &Step, place: i64, out: &mut Vec<Step>) -> Result<(), AllocError> {
-    push_step(out, first_word(step, place))?;
-    if bytes_of(step) == 8 {
-        push_step(out, second_word(step, place.saturating_add(4)))?;
+/// Pushes a step, by %sp where it spills words, a double word as two.
+fn push_spilled(step: &Step, size: u32, out: &mut Vec<Step>) -> Result<(), AllocError> {
+    let Some((access, place)) = word_place(&step.instr, size) else {
+        return push_step(out, *step);
+    };
+    let rd = access.fields.rd;
+    push_step(out, word_step(step, access.stores, place, rd))?;
+    if access.bytes == 8 {
+        let behind = place.saturating_add(4);
+        push_step(
+            out,
+            word_step(step, access.stores, behind, next_register(rd)),
+        )?;
     }
     Ok(())
-}
-
-/// Pushes a step, by %sp where it spills words.
-fn push_spilled(step: &Step, size: u32, out: &mut Vec<Step>) -> Result<(), AllocError> {
-    match word_place(&step.instr, size) {
-        Some(place) => push_words(step, place, out),
-        None => push_step(out, *step),
-    }
 }
 
 /// What one step does with the frame, done with an object in its place.
@@ -39,19 +38,20 @@ fn push_static(
     if !uses_frame(step) {
         return Ok(push_step(out, *step)?);
     }
-    if let Some(place) = place_accessed(step, size) {
-        if !is_inside(place, bytes_of(step), size) {
+    if let Some((access, place)) = place_accessed(&step.instr, size) {
+        let end = place.saturating_add(i64::from(access.bytes));
+        if place < 0 || i64::from(size) < end {
             return Err(points.fault(step.line, "an access to the stack outside of its frame"));
         }
-        return push_access(layout, object, place, step, out);
+        return Ok(push_access(layout, object, place, step, out)?);
     }
-    if let Some(place) = address_made(&step.instr, size) {
-        return push_address(layout, object, place, step, destination(step), out);
+    if let Some((place, rd)) = address_made(&step.instr, size) {
+        return Ok(push_address(layout, object, place, step, rd, out)?);
     }
-    match scratch_place(step, size) {
-        Some(base) => {
+    match by_scratch(step, object, size) {
+        Some((base, moved)) => {
             push_address(layout, object, base, step, scratch(), out)?;
-            Ok(push_step(out, by_scratch(step, object, size))?)
+            Ok(push_step(out, moved)?)
         }
         None => Err(points.fault(
             step.line,
@@ -60,82 +60,81 @@ fn push_static(
     }
 }
 
-/// Whether all that a block does with its frame is to spill words.
-fn spills_alone(block: &Block, size: u32) -> bool {
-    for step in &block.steps {
-        if uses_frame(step) && word_place(&step.instr, size).is_none() {
-            return false;
-        }
-    }
-    true
+/// What functions do with their frames.
+#[derive(Clone, Copy)]
+enum Use {
+    Nothing,
+    /// To spill words, and no more.
+    Spills,
+    More,
 }
 
-fn uses_in(function: &Function) -> bool {
+/// What a function does with its frame of some size.
+fn use_of(function: &Function, size: u32) -> Use {
+    let mut found = Use::Nothing;
     for block in &function.blocks {
         for step in &block.steps {
             if uses_frame(step) {
-                return true;
+                if word_place(&step.instr, size).is_none() {
+                    return Use::More;
+                }
+                found = Use::Spills;
             }
         }
     }
-    false
+    found
 }
 
-/// Whether all that a function does with its frame is to spill words.
-fn only_spills(function: &Function, size: u32) -> bool {
-    for block in &function.blocks {
-        if !spills_alone(block, size) {
-            return false;
-        }
+/// Spilled words by %sp in a block.
+fn spill(block: &mut Block, size: u32, alloc: Global) -> Result<(), AllocError> {
+    let mut steps = Vec::new(alloc);
+    for step in &block.steps {
+        push_spilled(step, size, &mut steps)?;
     }
-    true
-}
-
-/// Spilled words by %sp in all blocks.
-fn spill(function: &mut Function, layout: &Layout) -> Result<(), Fault> {
-    let size = function.frame;
-    for block in function.blocks.iter_mut() {
-        let mut steps = Vec::new(layout.alloc);
-        for step in block.steps.iter() {
-            push_spilled(step, size, &mut steps)?;
-        }
-        block.steps = steps;
-    }
+    block.steps = steps;
     Ok(())
 }
 
-/// All blocks with an object in the place of the frame.
+/// A block with an object in the place of the frame.
 fn make_static(
     points: &Points,
-    function: &mut Function,
+    block: &mut Block,
     layout: &Layout,
     object: usize,
     size: u32,
 ) -> Result<(), Fault> {
-    for block in function.blocks.iter_mut() {
-        let mut steps = Vec::new(layout.alloc);
-        for step in block.steps.iter() {
-            push_static(points, layout, object, size, step, &mut steps)?;
-        }
-        block.steps = steps;
+    let mut steps = Vec::new(layout.alloc);
+    for step in &block.steps {
+        push_static(points, layout, object, size, step, &mut steps)?;
     }
+    block.steps = steps;
     Ok(())
 }
 
+/// Pushes a step, unless it takes room from %sp; gives the most bytes that were taken, with those from before.
+fn push_unless_taking(
+    points: &Points,
+    step: &Step,
+    most: i64,
+    out: &mut Vec<Step>,
+) -> Result<i64, Fault> {
+    if written(&step.instr) & STACK_POINTER == 0 {
+        push_step(out, *step)?;
+        return Ok(most);
+    }
+    match taken_by(step) {
+        Some(bytes) => Ok(most.max(bytes)),
+        None => Err(points.fault(step.line, "an array of a size that isn't constant")),
+    }
+}
+
 /// Takes out the steps by which a function without a window takes room from %sp; gives the bytes.
-fn take_room(points: &Points, function: &mut Function, layout: &Layout) -> Result<u32, Fault> {
+fn take_room(points: &Points, function: &mut Function, alloc: Global) -> Result<u32, Fault> {
     let mut most: i64 = 0;
     for block in function.blocks.iter_mut() {
-        let mut steps = Vec::new(layout.alloc);
-        for step in block.steps.iter() {
-            if written(&step.instr) & bit_of(Reg::SP) == 0 {
-                push_step(&mut steps, *step)?;
-            } else {
-                let Some(bytes) = taken_by(step) else {
-                    return Err(points.fault(step.line, "an array of a size that isn't constant"));
-                };
-                most = most.max(bytes);
-            }
+        let mut steps = Vec::new(alloc);
+        for step in &block.steps {
+            most = push_unless_taking(points, step, most, &mut steps)?;
         }
         block.steps = steps;
     }
@@ -146,28 +145,23 @@ fn take_room(points: &Points, function: &mut Function, layout: &Layout) -> Resul
     })
 }
 
-/// The line of a step that changes %sp or %fp.
-fn changes_stack(function: &Function) -> Option<Line> {
-    for block in function.blocks.iter() {
-        for step in block.steps.iter() {
-            if written(&step.instr) & stack_bits() != 0 {
-                return Some(step.line);
+/// No step changes %sp or %fp, and no return hands on an address in the frame.
+fn check_stack(points: &Points, function: &Function) -> Result<(), Fault> {
+    let mut returns = false;
+    for block in &function.blocks {
+        for step in &block.steps {
+            if written(&step.instr) & STACK != 0 {
+                return Err(points.fault(step.line, "an array of a size that isn't constant"));
             }
         }
-    }
-    None
-}
-
-/// A return that hands on an address in the frame.
-fn returns_frame(function: &Function) -> bool {
-    for block in &function.blocks {
-        if let End::Return(fields) = block.end
-            && operands_read(&fields) & stack_bits() != 0
-        {
-            return true;
+        if let End::Return(fields) = block.end {
+            returns = returns || operands_read(&fields) & STACK != 0;
         }
     }
-    false
+    if returns {
+        return Err(points.fault(points.line, "a return with an address in its frame"));
+    }
+    Ok(())
 }
 
 /// An object in the data in the place of the frame.
@@ -180,9 +174,8 @@ fn move_frame(
     let name = function.name.as_str();
     let name = format!(in layout.alloc; "frame of {name}")?;
     let object = layout.add_zeros(name, size as usize, points.line)?;
-    make_static(points, function, layout, object, size)?;
-    if function.framed {
-        function.frame = SAVE_AREA;
+    for block in function.blocks.iter_mut() {
+        make_static(points, block, layout, object, size)?;
     }
     Ok(())
 }
@@ -197,24 +190,22 @@ pub fn place_frame(
     layout: &mut Layout,
 ) -> Result<(), Fault> {
     let mut size = function.frame;
-    let takes = moves_stack(function);
-    if takes {
-        size = take_room(points, function, layout)?;
+    if moves_stack(function) {
+        size = take_room(points, function, layout.alloc)?;
     }
-    if let Some(line) = changes_stack(function) {
-        return Err(points.fault(line, "an array of a size that isn't constant"));
-    }
-    if returns_frame(function) {
-        return Err(points.fault(points.line, "a return with an address in its frame"));
-    }
-    if !uses_in(function) {
-        if function.framed {
-            function.frame = SAVE_AREA;
+    check_stack(points, function)?;
+    match use_of(function, size) {
+        Use::Nothing => {}
+        Use::Spills if function.framed && size % 8 == 0 => {
+            for block in function.blocks.iter_mut() {
+                spill(block, size, layout.alloc)?;
+            }
+            return Ok(());
         }
-        return Ok(());
+        _ => move_frame(points, function, layout, size)?,
     }
-    if function.framed && size % 8 == 0 && only_spills(function, size) {
-        return spill(function, layout);
+    if function.framed {
+        function.frame = SAVE_AREA;
     }
-    move_frame(points, function, layout, size)
+    Ok(())
 }

@@ -2,6 +2,6 @@
 mod places;
 
 pub use places::{
-    SAVE_AREA, address_made, by_scratch, first_word, is_inside, place_accessed, scratch_place,
-    second_word, stack_bits, taken_by, uses_frame, word_place,
+    SAVE_AREA, STACK, STACK_POINTER, address_made, by_scratch, place_accessed, taken_by,
+    uses_frame, word_place, word_step,
 };

@@ -31,58 +31,54 @@ fn renumber(function: &mut Function, places: &[usize]) {
     for block in function.blocks.iter_mut() {
         for step in block.steps.iter_mut() {
             if let Some(callee) = step.callee {
-                step.callee = Some(places.get(callee).copied().unwrap_or(0));
+                let place = places.get(callee).copied().unwrap_or(0);
+                step.callee = Some(place);
             }
         }
     }
 }
+
+/// The registers that hold frames and the ways back, a bit a register: %sp, %o7, %fp and %i7.
+const HELD: u32 = 1 << 14 | 1 << 15 | 1 << 30 | 1 << 31;
 
 fn is_spill(step: &Step) -> bool {
     match step.instr {
         Instr::Load(fields) | Instr::Store(fields) => {
             fields.rs1 == Reg::SP
                 && matches!(fields.operand2, Operand::Immediate(_))
-                && bit_of(fields.rd) & held() == 0
+                && bit_of(fields.rd) & HELD == 0
         }
         _ => false,
     }
 }
 
-/// The registers that hold frames and the ways back.
-fn held() -> u32 {
-    bit_of(Reg::SP) | bit_of(Reg::FP) | bit_of(Reg::O7) | bit_of(Reg::I7)
-}
-
 fn names_held(step: &Step) -> bool {
     step.callee.is_none()
+        && (read_by(&step.instr) | written(&step.instr)) & HELD != 0
         && !is_spill(step)
-        && (read_by(&step.instr) | written(&step.instr)) & held() != 0
 }
 
-fn returns_held(fields: &Three) -> bool {
-    (operands_read(fields) | bit_of(fields.rd)) & held() != 0
-}
-
-/// The line of a block's first step that names a register that holds a frame or a way back, but to spill words.
+/// The line of a block's first step that names a register that holds a frame or a way back, but to spill words; or of
+/// its end.
 fn line_of_held(block: &Block) -> Option<Line> {
     for step in &block.steps {
         if names_held(step) {
             return Some(step.line);
         }
     }
-    None
+    match block.end {
+        End::Return(fields) if (operands_read(&fields) | bit_of(fields.rd)) & HELD != 0 => {
+            Some(block.line)
+        }
+        _ => None,
+    }
 }
 
 /// No step names a register that holds a frame or a way back, but to spill words.
 fn check_registers(points: &Points, function: &Function) -> Result<(), Fault> {
-    for block in function.blocks.iter() {
+    for block in &function.blocks {
         if let Some(line) = line_of_held(block) {
             return Err(points.fault(line, "a register that holds a frame or the way back"));
-        }
-        if let End::Return(fields) = block.end
-            && returns_held(&fields)
-        {
-            return Err(points.fault(block.line, "a register that holds a frame or the way back"));
         }
     }
     Ok(())
@@ -141,28 +137,54 @@ struct Legal<'l> {
 
 impl Legal<'_> {
     /// Makes one function legal, by its number in the source.
+    fn change(
+        &mut self,
+        number: usize,
+        points: &Points,
+        function: &mut Function,
+    ) -> Result<(), Fault> {
+        let alloc = self.layout.alloc;
+        prune(alloc, function)?;
+        give_one_entry(alloc, function)?;
+        place_arguments(
+            points,
+            number,
+            function,
+            &mut self.arguments,
+            &mut self.layout,
+        )?;
+        place_frame(points, function, &mut self.layout)?;
+        check_registers(points, function)?;
+        put_plainly(alloc, function)?;
+        repeat_compares(alloc, function)
+    }
+
+    /// Adds one function, by its number in the source.
     fn add(&mut self, number: usize, code: &Code, places: &[usize]) -> Result<(), Fault> {
         let alloc = self.layout.alloc;
         let points = points_of(alloc, self.source, self.linked, &self.layout, code)?;
         let mut function = function_of(alloc, &points)?;
-        prune(alloc, &mut function)?;
-        give_one_entry(alloc, &mut function)?;
-        place_arguments(
-            &points,
-            number,
-            &mut function,
-            &mut self.arguments,
-            &mut self.layout,
-        )?;
-        place_frame(&points, &mut function, &mut self.layout)?;
-        check_registers(&points, &function)?;
-        put_plainly(alloc, &mut function)?;
-        repeat_compares(alloc, &mut function)?;
+        self.change(number, &points, &mut function)?;
         renumber(&mut function, places);
         if self.functions.is_empty() {
             end_runs(&mut function)?;
         }
         self.functions.push(function)?;
+        Ok(())
+    }
+
+    /// Adds the functions that a run from the entry can come to.
+    fn add_all(&mut self, entry: &str) -> Result<(), Fault> {
+        let alloc = self.layout.alloc;
+        let source = self.source;
+        let order = order_of_calls(alloc, source, self.linked, entry)?;
+        check_count(source, order.as_slice())?;
+        let places = places_of(alloc, order.as_slice(), source.codes.len())?;
+        for number in &order {
+            if let Some(code) = source.codes.get(*number) {
+                self.add(*number, code, places.as_slice())?;
+            }
+        }
         Ok(())
     }
 }
@@ -199,23 +221,14 @@ fn check_count(source: &Source, order: &[usize]) -> Result<(), Fault> {
 /// stands nowhere; a form that compilers don't write; more functions, or bytes of data, than an image may have.
 pub fn program_of(alloc: Global, source: &Source, entry: &str) -> Result<Program, Fault> {
     let linked = links_of(alloc, source)?;
-    let layout = layout_of(alloc, source, &linked)?;
-    let order = order_of_calls(alloc, source, &linked, entry)?;
-    check_count(source, order.as_slice())?;
-    let places = places_of(alloc, order.as_slice(), source.codes.len())?;
-    let arguments = Arguments::new(alloc, source.codes.len())?;
     let mut legal = Legal {
         source,
         linked: &linked,
-        layout,
-        arguments,
+        layout: layout_of(alloc, source, &linked)?,
+        arguments: Arguments::new(alloc, source.codes.len())?,
         functions: Vec::new(alloc),
     };
-    for number in order.iter() {
-        if let Some(code) = source.codes.get(*number) {
-            legal.add(*number, code, places.as_slice())?;
-        }
-    }
+    legal.add_all(entry)?;
     let regions = legal.layout.regions()?;
     let files = copy_of(alloc, source.files.as_slice())?;
     let layout = legal.layout;
