@@ -1,13 +1,41 @@
 //! Sources whose annotations were worked out by hand.
-use fit_annotate::{Asked, Refusal, annotate};
-use sbx_asm::AsmFault;
-use std::fmt::Write;
-use std::test::Fail;
+use fit_annotate::{Annotated, Asked, Refusal, annotate};
+use std::alloc::{AllocError, Global};
 
-/// The countdown of the examples without its annotations, and with those that stand there.
-#[test]
-fn a_countdown(rt: HostRuntime) -> Result<(), Fail> {
-    let source = b".services exit,put
+/// What is made of a source.
+#[derive(Clone, Copy)]
+enum Wanted<'w> {
+    /// This text, and no note.
+    Text(&'w [u8]),
+    /// A text that begins so, and no note.
+    Begin(&'w [u8]),
+    /// One note, that a loop at this line has no counter.
+    Counter(u32),
+    /// Nothing, since the assembler refuses this line.
+    Refused(usize),
+}
+
+fn is_made(made: &Annotated, wanted: Wanted<'_>) -> bool {
+    match (made.notes.as_slice(), wanted) {
+        ([], Wanted::Text(text)) => made.text.as_slice() == text,
+        ([], Wanted::Begin(text)) => made.text.as_slice().starts_with(text),
+        ([note], Wanted::Counter(line)) => note.line == line
+            && matches!(note.asked, Asked::Counter),
+        _ => false,
+    }
+}
+
+/// Whether this is made of a source.
+fn makes(alloc: Global, source: &[u8], wanted: Wanted<'_>) -> bool {
+    match (annotate(alloc, "t.s", source), wanted) {
+        (Ok(made), wanted) => is_made(&made, wanted),
+        (Err(Refusal::Source(fault)), Wanted::Refused(line)) => fault.line == line,
+        _ => false,
+    }
+}
+
+/// The countdown of the examples without its annotations.
+const COUNTDOWN: &[u8] = b".services exit,put
 .function main,leaf,0,0,0
     mov 57,%o0
 .block loop
@@ -24,7 +52,9 @@ fn a_countdown(rt: HostRuntime) -> Result<(), Fail> {
     mov 0,%o0
     ta 0
 ";
-    let wanted = b".services exit,put
+
+/// The same with those that stand there.
+const ANNOTATED: &[u8] = b".services exit,put
 .function main,leaf,0,0,109
 .fuel 109
     mov 57,%o0
@@ -49,18 +79,15 @@ fn a_countdown(rt: HostRuntime) -> Result<(), Fail> {
     mov 0,%o0
     ta 0
 ";
-    let made = annotate(rt.alloc(), "countdown.s", source)
-        .ok()
-        .ok_or("refused")?;
-    assert!(rt; made.notes.is_empty());
-    assert_eq!(rt; made.text.as_slice(), wanted.as_slice());
-    Ok(())
+
+/// The countdown of the examples without its annotations, and with those that stand there.
+#[test]
+fn a_countdown(rt: HostRuntime) {
+    assert!(rt; makes(rt.alloc(), COUNTDOWN, Wanted::Text(ANNOTATED)));
 }
 
-/// A loop that nothing counts is noted at its line, and a source that means no image is refused at its own.
-#[test]
-fn what_isnt_shown(rt: HostRuntime) -> Result<(), Fail> {
-    let source = b".services exit,put
+/// A loop that nothing counts.
+const ENDLESS: &[u8] = b".services exit,put
 .function main,leaf,0,0,0
     mov 57,%o0
 .block loop
@@ -68,34 +95,31 @@ fn what_isnt_shown(rt: HostRuntime) -> Result<(), Fail> {
     ba loop
     nop
 ";
-    let made = annotate(rt.alloc(), "endless.s", source)
-        .ok()
-        .ok_or("refused")?;
-    let note = made.notes.first().ok_or("no note")?;
-    assert_eq!(rt; made.notes.len(), 1);
-    assert_eq!(rt; note.line, 4);
-    assert!(rt; matches!(note.asked, Asked::Counter));
-    let refused = annotate(rt.alloc(), "none.s", b".services exit\n    nop\n");
-    assert!(rt; matches!(refused, Err(Refusal::Source(AsmFault { line: 2, .. }))));
-    Ok(())
+
+/// A loop that nothing counts is noted at its line, and a source that means no image is refused at its own.
+#[test]
+fn what_isnt_shown(rt: HostRuntime) {
+    assert!(rt; makes(rt.alloc(), ENDLESS, Wanted::Counter(4)));
+    let source = b".services exit\n    nop\n";
+    assert!(rt; makes(rt.alloc(), source, Wanted::Refused(2)));
+}
+
+/// As many blocks as a function may have, each of one word but for the last one.
+fn push_blocks(source: &mut String) -> Result<(), AllocError> {
+    source.push_str(".services exit\n.function main,leaf,0,0,0\n nop\n")?;
+    for number in 1..4_095 {
+        write!(source, ".block b{number}\n nop\n")?;
+    }
+    source.push_str(".block last\n mov 0,%o0\n ta 0\n")
 }
 
 /// As many blocks as a function may have, each of one word but for the last one, which weighs a word and the three
 /// turns of `ta 0`.
 #[test]
-fn many_blocks(rt: HostRuntime) -> Result<(), Fail> {
-    let head = ".services exit\n.function main,leaf,0,0,0\n nop\n";
-    let mut source = String::from_str(rt.alloc(), head)?;
-    for number in 1..4_095 {
-        write!(source, ".block b{number}\n nop\n")?;
-    }
-    source.push_str(".block last\n mov 0,%o0\n ta 0\n")?;
-    let made = annotate(rt.alloc(), "many.s", source.as_bytes())
-        .ok()
-        .ok_or("refused")?;
+fn many_blocks(rt: HostRuntime) {
+    let mut source = String::new(rt.alloc());
+    let is_full = push_blocks(&mut source).is_ok();
     let wanted =
         b".services exit\n.function main,leaf,0,0,4099\n.fuel 4099\n nop\n.block b1\n.fuel 4098\n nop\n.block b2\n";
-    assert!(rt; made.notes.is_empty());
-    assert!(rt; made.text.as_slice().starts_with(wanted));
-    Ok(())
+    assert!(rt; is_full && makes(rt.alloc(), source.as_bytes(), Wanted::Begin(wanted)));
 }

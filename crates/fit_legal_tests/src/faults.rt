@@ -1,6 +1,7 @@
 //! Sources that are refused.
 use crate::told::{are_told, is_shown};
 use fit_code::{Fault, Line, Reason};
+use std::alloc::Global;
 
 /// What stands behind `main:` in the fourth line, and why there is no program.
 static REFUSED: [(&str, &str); 20] = [
@@ -95,34 +96,33 @@ fn sources_are_refused(rt: HostRuntime) {
     are_told(&rt, rt.alloc(), &REFUSED);
 }
 
-/// The fault of a budget of so many turns, most of which the loop in a line may take.
-fn budget_of(turns: u64) -> Fault {
+/// What is told of budgets that are refused, most of which the loop in line 9 may take.
+static BUDGETS: [(u64, &str); 2] = [
+    (
+        1 << 40,
+        "a.c:9: refused: the budget would be 1099511627776, above 2^40 - 1: the loop at a.c:9 may take the most of it\
+         : ask for fewer turns, or let loops have fewer rounds",
+    ),
+    (
+        (1 << 40) + 1,
+        "a.c:9: refused: the budget would be 1099511627777, above 2^40: the loop at a.c:9 may take the most of it\
+         : ask for fewer turns, or let loops have fewer rounds",
+    ),
+];
+
+/// Whether this is told of a budget of so many turns.
+fn is_budget_shown(alloc: Global, turns: u64, wanted: &str) -> bool {
     let reason = Reason::Budget {
         turns,
         is_loop: true,
     };
     let line = Line { file: 0, number: 9 };
-    Fault::new(line, reason)
+    is_shown(alloc, &Fault::new(line, reason), "a.c", wanted)
 }
-
-/// What a budget that is refused is told with, behind the number that it is above.
-const MOST_OF_IT: &str =
-    ": the loop at a.c:9 may take the most of it: ask for fewer turns, or let loops have fewer rounds";
 
 #[test]
 fn budgets_are_refused(rt: HostRuntime) {
-    let alloc = rt.alloc();
-    for (turns, told) in [
-        (1 << 40, "1099511627776, above 2^40 - 1"),
-        ((1 << 40) + 1, "1099511627777, above 2^40"),
-    ] {
-        let wanted = format!(in alloc; "a.c:9: refused: the budget would be {told}{MOST_OF_IT}");
-        let is_told = wanted.is_ok_and(|wanted| is_shown(
-            alloc,
-            &budget_of(turns),
-            "a.c",
-            wanted.as_str(),
-        ));
-        assert!(rt; is_told, "{turns}");
+    for (turns, wanted) in &BUDGETS {
+        assert!(rt; is_budget_shown(rt.alloc(), *turns, wanted), "{turns}");
     }
 }

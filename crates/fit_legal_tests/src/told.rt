@@ -34,30 +34,36 @@ fn push_function(text: &mut String, function: &Function) -> Result<(), AllocErro
     text.push_str("\n")
 }
 
-fn program_told(alloc: Global, program: &Program) -> Result<String, AllocError> {
-    let mut text = String::new(alloc);
+fn push_program(text: &mut String, program: &Program) -> Result<(), AllocError> {
     for function in program.functions.as_slice() {
-        push_function(&mut text, function)?;
+        push_function(text, function)?;
     }
-    Ok(text)
+    Ok(())
 }
 
-fn fault_told(alloc: Global, source: &Source, fault: &Fault) -> Result<String, AllocError> {
-    let shown = fault.shown(source.files.as_slice());
-    format!(in alloc; "{shown}")
+/// The regions of a program: what may be done there, where each begins, and how many bytes it has.
+fn push_regions(text: &mut String, program: &Program) -> Result<(), AllocError> {
+    for region in program.regions.as_slice() {
+        let right = if region.readonly { "ro" } else { "rw" };
+        let (start, length) = (region.start, region.length);
+        writeln!(text, "{right} {start:08X} {length:08X}")?;
+    }
+    Ok(())
+}
+
+fn push_fault(text: &mut String, files: &[String], fault: &Fault) -> Result<(), AllocError> {
+    let shown = fault.shown(files);
+    write!(text, "{shown}")
 }
 
 /// Whether a fault is shown so, where its file has this name.
 pub(crate) fn is_shown(alloc: Global, fault: &Fault, name: &str, wanted: &str) -> bool {
-    let mut source = Source::new(alloc);
-    let is_named = match String::from_str(alloc, name) {
-        Ok(name) => source.files.push(name).is_ok(),
+    let mut text = String::new(alloc);
+    let is_told = match String::from_str(alloc, name) {
+        Ok(name) => push_fault(&mut text, &[name], fault).is_ok(),
         Err(AllocError) => false,
     };
-    match fault_told(alloc, &source, fault) {
-        Ok(told) => is_named && told.as_str() == wanted,
-        Err(AllocError) => false,
-    }
+    is_told && text.as_str() == wanted
 }
 
 /// What each source begins with.
@@ -65,21 +71,9 @@ const HEAD: &str = ".global main\n.type main,#function\n.type f,#function\nmain:
 
 /// The program of one file, which has this behind `main:`.
 fn made(alloc: Global, source: &mut Source, body: &str) -> Result<Program, Fault> {
-    let mut text = String::from_str(alloc, HEAD)?;
-    text.push_str(body)?;
+    let text = format!(in alloc; "{HEAD}{body}")?;
     source.read("t.s", text.as_bytes())?;
     program_of(alloc, source, "main")
-}
-
-/// The regions of a program: what may be done there, where each begins, and how many bytes it has.
-fn regions_told(alloc: Global, program: &Program) -> Result<String, AllocError> {
-    let mut text = String::new(alloc);
-    for region in program.regions.as_slice() {
-        let right = if region.readonly { "ro" } else { "rw" };
-        let (start, length) = (region.start, region.length);
-        writeln!(text, "{right} {start:08X} {length:08X}")?;
-    }
-    Ok(text)
 }
 
 /// What is to be told of a program.
@@ -89,18 +83,26 @@ enum Topic {
     Regions,
 }
 
+/// Adds what is told of a program, or why there is none.
+fn push_told(
+    text: &mut String,
+    source: &mut Source,
+    topic: Topic,
+    body: &str,
+) -> Result<(), AllocError> {
+    match (made(source.alloc, source, body), topic) {
+        (Ok(program), Topic::Code) => push_program(text, &program),
+        (Ok(program), Topic::Regions) => push_regions(text, &program),
+        (Err(fault), _) => push_fault(text, source.files.as_slice(), &fault),
+    }
+}
+
 /// Whether this is told of a program, or is why there is none.
 fn tells(alloc: Global, topic: Topic, body: &str, wanted: &str) -> bool {
     let mut source = Source::new(alloc);
-    let told = match (made(alloc, &mut source, body), topic) {
-        (Ok(program), Topic::Code) => program_told(alloc, &program),
-        (Ok(program), Topic::Regions) => regions_told(alloc, &program),
-        (Err(fault), _) => fault_told(alloc, &source, &fault),
-    };
-    match told {
-        Ok(told) => told.as_str() == wanted,
-        Err(AllocError) => false,
-    }
+    let mut text = String::new(alloc);
+    let is_told = push_told(&mut text, &mut source, topic, body).is_ok();
+    is_told && text.as_str() == wanted
 }
 
 /// Asserts that each row is told.
