@@ -25,7 +25,8 @@ fn with_words(
     first: &[u8],
     second: &[u8],
 ) -> Result<Vec<u8>, AllocError>
-    ensures { first.now ≡ 48 ∷ [] → second.now ≡ 48 ∷ [] → IfOk result (λ made. made.items ≡ with_zeros line.now tokens.0 tokens.1) }
+    ensures { first.now ≡ 48 ∷ [] → second.now ≡ 48 ∷ []
+        → IfOk result (λ made. made.items ≡ with_zeros line.now tokens.0 tokens.1) }
 {
     let (Some(room), Some(budget)) = tokens else {
         return Vec::from_slice(alloc, line);
