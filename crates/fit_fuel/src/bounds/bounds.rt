@@ -111,7 +111,7 @@ fn bound_by(
         Ok(amount) => amount,
     };
     let width = i64::from(cell.range.hi).saturating_sub(i64::from(cell.range.lo));
-    let rounds = width.unsigned_abs() / change.unsigned_abs().max(1);
+    let rounds = width.unsigned_abs() / change.unsigned_abs();
     Ok(Some(Bound {
         location: cell.location,
         change,
