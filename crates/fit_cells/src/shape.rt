@@ -10,8 +10,8 @@ pub struct Shape {
     pub order: Order,
     /// For each place of the order the one behind the last place from which a way leads to it; 0 where none does.
     ends: Vec<usize>,
-    /// The places of the order where a stretch begins: ways lead back within one alone, so that what stands before it is
-    /// looked at once.
+    /// The places of the order where a stretch begins: ways lead back within one alone, so that what stands before it
+    /// is looked at once.
     pub stretches: Vec<usize>,
     /// Of each block, the ways that lead to it, by `way_of`.
     pub sources: Vec<Vec<usize>>,

@@ -43,7 +43,8 @@ fn latches_of(
     Ok(found)
 }
 
-/// For each block whether it is in the loop of a head: whether one comes from it to the loop's latches without the head.
+/// For each block whether it is in the loop of a head: the head, and what one comes from to the loop's latches without
+/// it.
 fn held_by(
     alloc: Global,
     head: usize,

@@ -174,8 +174,8 @@ impl Flow {
         Ok(())
     }
 
-    /// A block is to be visited again: with the loops around it, and what stands behind these as far as what comes there
-    /// changes.
+    /// A block is to be visited again: with the loops around it, and what stands behind these as far as what comes
+    /// there changes.
     pub fn mark(&mut self, block: usize) {
         if let Some(place) = self.shape.order.place(block)
             && let Some(pending) = self.pending.get_mut(place)
@@ -256,8 +256,8 @@ impl Flow {
         }
     }
 
-    /// Takes over the function of a number, of which blocks that are among `changed` are others than before, and at whose
-    /// blocks other locations may be live.
+    /// Takes over the function of a number, of which blocks that are among `changed` are others than before, and at
+    /// whose blocks other locations may be live.
     pub fn renew(
         &mut self,
         alloc: Global,
@@ -404,8 +404,8 @@ impl Flow {
         }
     }
 
-    /// What a block's cells become, where these may come along its ways, and what comes into the loop of a head is joined
-    /// before what only grows by the ways back goes to thresholds.
+    /// What a block's cells become, where these may come along its ways. Before ends go to thresholds, what comes into
+    /// the loop of a head is joined: what only grows by the ways back goes there.
     fn raised_by(
         &self,
         alloc: Global,
