@@ -1,8 +1,6 @@
 //! Lists of cells, by location: what several ways have in common, and how far it may grow.
-ghost use Rattle.std.specs.Prelude.{◌≡◌, ◌≤◌};
-ghost use Rattle.std.specs.Int.{int_max, int_min};
-
 use crate::thresholds::Thresholds;
+use fit_code::hull;
 use sbx_range::{Cell, Range, is_within};
 use std::alloc::{AllocError, Global};
 
@@ -12,19 +10,6 @@ pub fn range_in(cells: &[Cell], location: u16) -> Option<Range> {
     match cells.get(place) {
         Some(cell) if cell.location == location => Some(cell.range),
         _ => None,
-    }
-}
-
-/// The least range that holds the words of both.
-pub fn hull(a: Range, b: Range) -> Range
-    ensures lo { result.lo ≡ int_min a.lo b.lo }
-    ensures hi { result.hi ≡ int_max a.hi b.hi }
-    ensures alignment { (result.alignment ≤ a.alignment) × (result.alignment ≤ b.alignment) }
-{
-    Range {
-        lo: a.lo.min(b.lo),
-        hi: a.hi.max(b.hi),
-        alignment: a.alignment.min(b.alignment),
     }
 }
 

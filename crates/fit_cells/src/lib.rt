@@ -9,7 +9,7 @@ mod run;
 mod shape;
 mod thresholds;
 
-pub use cells::{Growth, are_same, are_within, hull, joined, range_in};
-pub use run::{enter, go_along, opposite, return_from, run_step, run_to_call};
+pub use cells::{Growth, are_same, are_within, joined, range_in};
+pub use run::{enter, go_along, return_from, run_step, run_to_call};
 pub use shape::Shape;
 pub use thresholds::{Thresholds, thresholds_of};

@@ -1,35 +1,7 @@
 //! Blocks in the verifier's domain.
-ghost use Rattle.std.specs.Prelude.{◌≡◌};
-ghost use Rattle.sbx_range.specs.Refining.{opposite};
-
-use fit_code::{Block, End, Function, Step};
+use fit_code::{Block, End, Function, Step, opposite};
 use sbx_domain::State;
 use sbx_range::{Cell, Range};
-use v8_formats::Cond;
-
-/// The condition of a branch's other way.
-pub fn opposite(cond: Cond) -> Cond
-    ensures { result ≡ opposite cond }
-{
-    match cond {
-        Cond::Never => Cond::Always,
-        Cond::Equal => Cond::NotEqual,
-        Cond::LessOrEqual => Cond::Greater,
-        Cond::Less => Cond::GreaterOrEqual,
-        Cond::LessOrEqualUnsigned => Cond::GreaterUnsigned,
-        Cond::CarrySet => Cond::CarryClear,
-        Cond::Negative => Cond::Positive,
-        Cond::OverflowSet => Cond::OverflowClear,
-        Cond::Always => Cond::Never,
-        Cond::NotEqual => Cond::Equal,
-        Cond::Greater => Cond::LessOrEqual,
-        Cond::GreaterOrEqual => Cond::Less,
-        Cond::GreaterUnsigned => Cond::LessOrEqualUnsigned,
-        Cond::CarryClear => Cond::CarrySet,
-        Cond::Positive => Cond::Negative,
-        Cond::OverflowClear => Cond::OverflowSet,
-    }
-}
 
 /// What stands in the place of a param that isn't there.
 const NONE: Range = Range {

@@ -31,24 +31,30 @@ pub enum Naming {
     NoEntry,
 }
 
+/// What stands before the name and what behind it, of each `Naming` in their order.
+const NAMINGS: [(&str, &str); 11] = [
+    ("the name ", " can't be read"),
+    ("the section ", " isn't known"),
+    ("the directive ", " isn't known"),
+    ("the instruction ", " isn't known, or can't be used here"),
+    ("the operands of ", " can't be read"),
+    ("floating point, ", ": use integers, or fixed point"),
+    ("", " is defined twice"),
+    ("", " isn't defined"),
+    (
+        "the address of the function ",
+        " is taken: name it, by a switch",
+    ),
+    ("recursion: ", ""),
+    ("there is no function ", ""),
+];
+
 impl Naming {
     /// What stands before the name, and what behind it.
     fn text(self) -> (&'static str, &'static str) {
-        match self {
-            Naming::Label => ("the name ", " can't be read"),
-            Naming::Section => ("the section ", " isn't known"),
-            Naming::Directive => ("the directive ", " isn't known"),
-            Naming::Instruction => ("the instruction ", " isn't known, or can't be used here"),
-            Naming::Operands => ("the operands of ", " can't be read"),
-            Naming::Floating => ("floating point, ", ": use integers, or fixed point"),
-            Naming::DefinedTwice => ("", " is defined twice"),
-            Naming::NotDefined => ("", " isn't defined"),
-            Naming::AddressOfFunction => (
-                "the address of the function ",
-                " is taken: name it, by a switch",
-            ),
-            Naming::Recursion => ("recursion: ", ""),
-            Naming::NoEntry => ("there is no function ", ""),
+        match NAMINGS.get(self as usize) {
+            Some(texts) => *texts,
+            None => ("", ""),
         }
     }
 }
@@ -58,11 +64,6 @@ const STAYS: u64 = 0x7fff_ffff_ffff_ffff;
 
 /// The least budget that is refused.
 const BOUND: u64 = 1 << 40;
-
-/// What a budget that is refused lies above.
-fn limit_below(turns: u64) -> &'static str {
-    if turns > BOUND { "2^40" } else { "2^40 - 1" }
-}
 
 /// Why a program is refused.
 #[derive(Drop)]
@@ -149,7 +150,7 @@ impl fmt::Display for Reason {
             ),
             Reason::Budget { turns, .. } => {
                 let least = if *turns < STAYS { "" } else { "at least " };
-                let limit = limit_below(*turns);
+                let limit = if *turns > BOUND { "2^40" } else { "2^40 - 1" };
                 write!(f, "the budget would be {least}{turns}, above {limit}")
             }
             Reason::Unreadable(what) => f.write_str(what),
@@ -176,29 +177,31 @@ pub struct Shown<'f> {
 }
 
 impl Shown<'_> {
-    /// The name of the fault's file and the number of its line, where they are known.
-    fn place(&self) -> Option<(&str, u32)> {
+    /// Writes the name of the fault's file and the number of its line between two texts, where they are known.
+    fn write_place<W: Write>(
+        &self,
+        f: &mut Formatter<W>,
+        before: &str,
+        after: &str,
+    ) -> Result<(), Error> {
         let Line { file, number } = self.fault.line;
         match self.files.get(file) {
-            Some(name) if number > 0 => Some((name.as_str(), number)),
-            _ => None,
+            Some(name) if number > 0 => write!(f, "{before}{name}:{number}{after}"),
+            _ => Ok(()),
         }
     }
 }
 
 impl fmt::Display for Shown<'_> {
     fn fmt<W: Write>(&self, f: &mut Formatter<W>) -> Result<(), Error> {
-        let place = self.place();
-        if let Some((name, number)) = place {
-            write!(f, "{name}:{number}: ")?;
-        }
+        self.write_place(f, "", ": ")?;
         let reason = &self.fault.reason;
         write!(f, "refused: {reason}")?;
         let Reason::Budget { is_loop, .. } = reason else {
             return Ok(());
         };
-        if *is_loop && let Some((name, number)) = place {
-            write!(f, ": the loop at {name}:{number} may take the most of it")?;
+        if *is_loop {
+            self.write_place(f, ": the loop at ", " may take the most of it")?;
         }
         f.write_str(": ask for fewer turns, or let loops have fewer rounds")
     }

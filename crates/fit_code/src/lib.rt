@@ -4,7 +4,9 @@
 
 mod code;
 mod fault;
+mod ways;
 
 pub use code::{Block, End, Function, Line, NO_LINE, Object, Program, Region, Step};
 pub use fault::{Fault, Naming, Reason, Shown};
 pub use sbx_parts::Range;
+pub use ways::{hull, opposite};
