@@ -39,15 +39,10 @@ fn asks_for(program: &Program, service: u32) -> bool {
 
 /// The services and the pages of stack.
 fn push_head(out: &mut String, program: &Program, room: u64) -> Result<(), AllocError> {
-    out.push_str(".services exit")?;
-    if asks_for(program, 1) {
-        out.push_str(",get")?;
-    }
-    if asks_for(program, 2) {
-        out.push_str(",put")?;
-    }
+    let get = if asks_for(program, 1) { ",get" } else { "" };
+    let put = if asks_for(program, 2) { ",put" } else { "" };
     let pages = (room.saturating_add(64 + 4095) / 4096).max(1);
-    writeln!(out, "\n.stack {pages}")
+    writeln!(out, ".services exit{get}{put}\n.stack {pages}")
 }
 
 /// What is known where a block begins, and its fuel.
@@ -81,11 +76,6 @@ fn push_step(
     told.push_instr(out, &step.instr, step.line)
 }
 
-/// A line that names a block.
-fn push_named(out: &mut String, what: &str, name: &str, number: usize) -> Result<(), AllocError> {
-    writeln!(out, "{what} {name}.{number}")
-}
-
 /// The end of a block.
 fn push_end(
     out: &mut String,
@@ -112,8 +102,8 @@ fn push_end(
         Some(suffix) => *suffix,
         None => "n",
     };
-    out.push_str("    b")?;
-    push_named(out, suffix, place.name, to)?;
+    let name = place.name;
+    writeln!(out, "    b{suffix} {name}.{to}")?;
     push_slot(out, block.slot)
 }
 
@@ -126,14 +116,19 @@ fn push_block(
     block: &Block,
     notes: Option<&BlockNotes>,
 ) -> Result<(), AllocError> {
-    let frame = place.frame;
-    if place.number > 0 {
-        push_named(out, ".block", place.name, place.number)?;
+    let BlockPlace {
+        name,
+        frame,
+        number,
+        ..
+    } = place;
+    if number > 0 {
+        writeln!(out, ".block {name}.{number}")?;
     }
     if let Some(notes) = notes {
         push_notes(out, notes)?;
     }
-    if place.number == 0 && frame > 0 {
+    if number == 0 && frame > 0 {
         writeln!(out, "    save %sp,-{frame},%sp")?;
     }
     for step in &block.steps {

@@ -16,9 +16,8 @@ fn push_zeros(out: &mut String, count: u64) -> Result<(), AllocError> {
 fn push_line(out: &mut String, bytes: &[u8]) -> Result<(), AllocError> {
     let mut before = "    .byte ";
     for byte in bytes {
-        out.push_str(before)?;
         let byte = *byte;
-        write!(out, "{byte}")?;
+        write!(out, "{before}{byte}")?;
         before = ",";
     }
     out.push_str("\n")

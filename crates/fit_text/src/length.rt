@@ -13,15 +13,6 @@ pub struct Length {
     bytes: usize,
 }
 
-/// How many lines end in some text.
-fn line_ends(text: &[u8]) -> usize {
-    let mut count: usize = 0;
-    for byte in text {
-        count = count.saturating_add(usize::from(*byte == b'\n'));
-    }
-    count
-}
-
 impl Length {
     /// A source of no lines.
     pub fn none() -> Length {
@@ -34,7 +25,9 @@ impl Length {
     /// At that line, where the source has more lines or bytes now than the assembler reads.
     pub fn count(&mut self, source: &str, line: Line) -> Result<(), Fault> {
         let added = source.as_bytes().get(self.bytes..).unwrap_or(&[]);
-        self.lines = self.lines.saturating_add(line_ends(added));
+        for byte in added {
+            self.lines = self.lines.saturating_add(usize::from(*byte == b'\n'));
+        }
         self.bytes = source.len();
         let (what, most) = if self.lines > LINES {
             ("lines in the source that would be made", LINES)

@@ -6,9 +6,6 @@ use std::alloc::AllocError;
 use v8_formats::Instr;
 use v8_forms::print_instr;
 
-/// The column at which a comment begins.
-const COMMENT: usize = 40;
-
 /// The lines of C that instructions come from, as far as they have been told.
 #[derive(Clone, Copy)]
 pub struct Told<'p> {
@@ -24,22 +21,6 @@ impl<'p> Told<'p> {
         }
     }
 
-    /// Ends a line of some length; tells the line of C, unless it was the last one told.
-    fn end(&mut self, out: &mut String, length: usize, line: Line) -> Result<(), AllocError> {
-        if line.number > 0
-            && line != self.last
-            && let Some(file) = self.program.files.get(line.file)
-        {
-            self.last = line;
-            let (file, number) = (commented(file.as_str()), line.number);
-            for _ in length..COMMENT {
-                out.push_str(" ")?;
-            }
-            write!(out, "! {file}:{number}")?;
-        }
-        out.push_str("\n")
-    }
-
     /// The line of an instruction.
     pub fn push_instr(
         &mut self,
@@ -52,15 +33,22 @@ impl<'p> Told<'p> {
         self.push_text(out, text.as_str(), line)
     }
 
-    /// The line of an instruction's text.
+    /// The line of an instruction's text, with the line of C from the 41st column on, unless it was the last one told.
     pub fn push_text(
         &mut self,
         out: &mut String,
         text: &str,
         line: Line,
     ) -> Result<(), AllocError> {
-        write!(out, "    {text}")?;
-        self.end(out, text.len().saturating_add(4), line)
+        if line.number > 0
+            && line != self.last
+            && let Some(file) = self.program.files.get(line.file)
+        {
+            self.last = line;
+            let (file, number) = (commented(file.as_str()), line.number);
+            return writeln!(out, "    {text:<36}! {file}:{number}");
+        }
+        writeln!(out, "    {text}")
     }
 }
 

@@ -64,12 +64,12 @@ pub fn names_of(alloc: Global, program: &Program) -> Result<Vec<String>, AllocEr
     for (number, function) in program.functions.iter().enumerate() {
         let own = function.name.as_str();
         let kept = if may_stand(own) { own } else { "function" };
-        let mut name = String::from_str(alloc, kept)?;
-        let is_own = kept == own && !ends_in_number(own);
-        if !is_own || stands_in(names.as_slice(), own) {
-            write!(name, ".of{number}")?;
-        }
-        names.push(name)?;
+        let is_own = kept == own && !ends_in_number(own) && !stands_in(names.as_slice(), own);
+        names.push(if is_own {
+            String::from_str(alloc, own)?
+        } else {
+            format!(in alloc; "{kept}.of{number}")?
+        })?;
     }
     Ok(names)
 }
