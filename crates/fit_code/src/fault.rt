@@ -52,10 +52,7 @@ const NAMINGS: [(&str, &str); 11] = [
 impl Naming {
     /// What stands before the name, and what behind it.
     fn text(self) -> (&'static str, &'static str) {
-        match NAMINGS.get(self as usize) {
-            Some(texts) => *texts,
-            None => ("", ""),
-        }
+        NAMINGS[self as usize]
     }
 }
 
