@@ -2,7 +2,7 @@
 use crate::annotations::{Annotations, BlockNotes, FunctionNotes};
 use crate::data::push_data;
 use crate::length::Length;
-use crate::lines::{Told, push_slot};
+use crate::lines::{Slot, Told};
 use crate::names::names_of;
 use fit_code::{Block, End, Fault, Function, NO_LINE, Program, Range, Step};
 use sbx_declare::{Bounds, Location};
@@ -48,30 +48,27 @@ fn push_head(out: &mut String, program: &Program, room: u64) -> Result<(), Alloc
 /// What is known where a block begins, and its fuel.
 fn push_notes(out: &mut String, notes: &BlockNotes) -> Result<(), AllocError> {
     for cell in &notes.cells {
-        let (location, range) = (Location(cell.location), Bounds(cell.range));
+        let location = Location(cell.location);
+        let range = Bounds(cell.range);
         writeln!(out, ".cell {location},{range}")?;
     }
     let fuel = notes.fuel;
     writeln!(out, ".fuel {fuel}")?;
     for term in &notes.terms {
-        let (location, coefficient) = (Location(term.location), term.coefficient);
+        let location = Location(term.location);
+        let coefficient = term.coefficient;
         writeln!(out, ".term {location},{coefficient}")?;
     }
     Ok(())
 }
 
 /// The lines of a step; of a call with its slot.
-fn push_step(
-    out: &mut String,
-    told: &mut Told<'_>,
-    names: &[String],
-    step: &Step,
-) -> Result<(), AllocError> {
+fn push_step(out: &mut String, told: &mut Told<'_>, step: &Step) -> Result<(), AllocError> {
     if let Some(number) = step.callee
-        && let Some(callee) = names.get(number)
+        && let Some(callee) = told.names.get(number)
     {
-        writeln!(out, "    call {callee}")?;
-        return push_slot(out, step.slot);
+        let slot = Slot(step.slot);
+        return writeln!(out, "    call {callee}\n    {slot}");
     }
     told.push_instr(out, &step.instr, step.line)
 }
@@ -93,8 +90,9 @@ fn push_end(
             } else {
                 ("retl", block.slot)
             };
+            let slot = Slot(slot);
             told.push_text(out, text, block.line)?;
-            return push_slot(out, slot);
+            return writeln!(out, "    {slot}");
         }
         End::Exit => return told.push_text(out, "ta 0", block.line),
     };
@@ -103,15 +101,14 @@ fn push_end(
         None => "n",
     };
     let name = place.name;
-    writeln!(out, "    b{suffix} {name}.{to}")?;
-    push_slot(out, block.slot)
+    let slot = Slot(block.slot);
+    writeln!(out, "    b{suffix} {name}.{to}\n    {slot}")
 }
 
 /// A block with a number; the first one begins with its function.
 fn push_block(
     out: &mut String,
     told: &mut Told<'_>,
-    names: &[String],
     place: BlockPlace<'_>,
     block: &Block,
     notes: Option<&BlockNotes>,
@@ -132,7 +129,7 @@ fn push_block(
         writeln!(out, "    save %sp,-{frame},%sp")?;
     }
     for step in &block.steps {
-        push_step(out, told, names, step)?;
+        push_step(out, told, step)?;
     }
     push_end(out, told, place, block)
 }
@@ -154,7 +151,13 @@ fn push_function_head(
     notes: &FunctionNotes,
 ) -> Result<(), AllocError> {
     let kind = if function.framed { "framed" } else { "leaf" };
-    let (frame, room, budget, depth) = (function.frame, notes.room, notes.budget, notes.depth);
+    let frame = function.frame;
+    let FunctionNotes {
+        room,
+        budget,
+        depth,
+        ..
+    } = notes;
     writeln!(
         out,
         "\n.function {name},{kind},{frame},{room},{budget}\n.depth {depth}"
@@ -168,7 +171,6 @@ fn push_function(
     out: &mut String,
     length: &mut Length,
     told: &mut Told<'_>,
-    names: &[String],
     name: &str,
     function: &Function,
     notes: &FunctionNotes,
@@ -181,7 +183,7 @@ fn push_function(
             framed: function.framed,
             number,
         };
-        push_block(out, told, names, place, block, notes.blocks.get(number))?;
+        push_block(out, told, place, block, notes.blocks.get(number))?;
         let line = if block.line == NO_LINE {
             function.line
         } else {
@@ -211,14 +213,14 @@ pub fn push_source(
     push_data(out, program)?;
     let names = names_of(alloc, program)?;
     let names = names.as_slice();
-    let mut told = Told::new(program);
+    let mut told = Told::new(program, names);
     let mut length = Length::none();
     for (number, function) in program.functions.iter().enumerate() {
         if let Some(name) = names.get(number)
             && let Some(notes) = annotations.functions.get(number)
         {
             let name = name.as_str();
-            push_function(out, &mut length, &mut told, names, name, function, notes)?;
+            push_function(out, &mut length, &mut told, name, function, notes)?;
         }
     }
     Ok(())

@@ -52,7 +52,8 @@ fn push_bytes(out: &mut String, bytes: &[u8]) -> Result<(), AllocError> {
 fn push_object(out: &mut String, from: u64, object: &Object) -> Result<u64, AllocError> {
     let start = u64::from(object.start);
     push_zeros(out, start.saturating_sub(from))?;
-    let (name, address) = (commented(object.name.as_str()), object.start);
+    let name = commented(object.name.as_str());
+    let address = object.start;
     writeln!(out, "! {name}, at {address:08X}")?;
     push_bytes(out, object.bytes.as_slice())?;
     Ok(start.saturating_add(object.bytes.len() as u64))

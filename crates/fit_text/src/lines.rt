@@ -3,6 +3,7 @@ use crate::names::commented;
 use arrayvec::ArrayString;
 use fit_code::{Line, Program};
 use std::alloc::AllocError;
+use std::fmt::{self, Error, Formatter, Write};
 use v8_formats::Instr;
 use v8_forms::print_instr;
 
@@ -10,13 +11,16 @@ use v8_forms::print_instr;
 #[derive(Clone, Copy)]
 pub struct Told<'p> {
     program: &'p Program,
+    /// The names of the program's functions.
+    pub names: &'p [String],
     last: Line,
 }
 
 impl<'p> Told<'p> {
-    pub fn new(program: &'p Program) -> Self {
+    pub fn new(program: &'p Program, names: &'p [String]) -> Self {
         Told {
             program,
+            names,
             last: fit_code::NO_LINE,
         }
     }
@@ -45,21 +49,25 @@ impl<'p> Told<'p> {
             && let Some(file) = self.program.files.get(line.file)
         {
             self.last = line;
-            let (file, number) = (commented(file.as_str()), line.number);
+            let file = commented(file.as_str());
+            let number = line.number;
             return writeln!(out, "    {text:<36}! {file}:{number}");
         }
         writeln!(out, "    {text}")
     }
 }
 
-/// The line of a delay slot.
-pub fn push_slot(out: &mut String, slot: Option<Instr>) -> Result<(), AllocError> {
-    match slot {
-        Some(instr) => {
-            let mut text: ArrayString<64> = ArrayString::new();
-            print_instr(&instr, &mut text);
-            writeln!(out, "    {text}")
-        }
-        None => out.push_str("    nop\n"),
+/// What stands in a delay slot; nothing is as NOP.
+#[derive(Clone, Copy)]
+pub struct Slot(pub Option<Instr>);
+
+impl fmt::Display for Slot {
+    fn fmt<W: Write>(&self, f: &mut Formatter<W>) -> Result<(), Error> {
+        let Some(instr) = &self.0 else {
+            return f.write_str("nop");
+        };
+        let mut text: ArrayString<64> = ArrayString::new();
+        print_instr(instr, &mut text);
+        f.write_str(text.as_str())
     }
 }

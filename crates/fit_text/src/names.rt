@@ -57,19 +57,27 @@ fn ends_in_number(name: &str) -> bool {
     }
 }
 
-/// The name of each function: its own, with its number behind it where an earlier function has that name, as static
-/// ones of two files may, or a block might; a name that may not stand in a source is left out.
+/// A function's name: its own, with its number behind it where an earlier one has that name, as static ones of two files
+/// may, or a block might; a name that may not stand in a source is left out.
+fn name_of(
+    alloc: Global,
+    names: &[String],
+    number: usize,
+    own: &str,
+) -> Result<String, AllocError> {
+    let kept = if may_stand(own) { own } else { "function" };
+    if kept == own && !ends_in_number(own) && !stands_in(names, own) {
+        return String::from_str(alloc, own);
+    }
+    format!(in alloc; "{kept}.of{number}")
+}
+
+/// The name of each function.
 pub fn names_of(alloc: Global, program: &Program) -> Result<Vec<String>, AllocError> {
     let mut names = Vec::new(alloc);
     for (number, function) in program.functions.iter().enumerate() {
-        let own = function.name.as_str();
-        let kept = if may_stand(own) { own } else { "function" };
-        let is_own = kept == own && !ends_in_number(own) && !stands_in(names.as_slice(), own);
-        names.push(if is_own {
-            String::from_str(alloc, own)?
-        } else {
-            format!(in alloc; "{kept}.of{number}")?
-        })?;
+        let name = name_of(alloc, names.as_slice(), number, function.name.as_str())?;
+        names.push(name)?;
     }
     Ok(names)
 }
