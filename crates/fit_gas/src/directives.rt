@@ -1,7 +1,7 @@
 //! Directives.
 use crate::source::{Section, Source};
 use crate::text::{first_operand, first_word, is_name, number_of, unquoted};
-use fit_code::{Fault, Line, Naming, Reason};
+use fit_code::{Fault, Line, Naming};
 use v8_syntax::beside;
 
 /// The last name of a path.
@@ -106,11 +106,15 @@ impl Source {
         Err(self.named(Naming::Section, name))
     }
 
-    /// `NAME` is the same in all files.
-    fn global(&mut self, text: &[u8]) -> Result<(), Fault> {
-        let symbol = self.symbol(text)?;
+    /// A name is the same in all files, or is a function's.
+    fn mark(&mut self, name: &[u8], is_global: bool) -> Result<(), Fault> {
+        let symbol = self.symbol(name)?;
         if let Some(found) = self.symbols.get_mut(symbol) {
-            found.is_global = true;
+            if is_global {
+                found.is_global = true;
+            } else {
+                found.is_function = true;
+            }
         }
         Ok(())
     }
@@ -119,14 +123,12 @@ impl Source {
     fn type_line(&mut self, text: &[u8]) -> Result<(), Fault> {
         let (name, kind) = first_operand(text);
         if kind.ends_with(b"function") {
-            let symbol = self.symbol(name)?;
-            if let Some(found) = self.symbols.get_mut(symbol) {
-                found.is_function = true;
-            }
-        } else if !is_name(name) {
-            return Err(self.named(Naming::Label, name));
+            self.mark(name, false)
+        } else if is_name(name) {
+            Ok(())
+        } else {
+            Err(self.named(Naming::Label, name))
         }
-        Ok(())
     }
 
     /// `NUMBER "FOLDER" "NAME"`, where the folder may be left out; a name alone is the assembly's own.
@@ -170,10 +172,10 @@ impl Source {
         for _ in 0..text.len() {
             let (first, others) = first_operand(rest);
             match directive {
-                Directive::Values(size) => self.value(size, first)?,
-                Directive::Strings { ends } => self.string(ends, first)?,
-                _ => {}
-            }
+                Directive::Values(size) => self.value(size, first),
+                Directive::Strings { ends } => self.string(ends, first),
+                _ => Ok(()),
+            }?;
             rest = others;
             if rest.is_empty() {
                 break;
@@ -182,20 +184,8 @@ impl Source {
         Ok(())
     }
 
-    /// A directive of data, which has to stand in a section of data; one that aligns may stand among instructions.
-    fn data_line(&mut self, directive: Directive, text: &[u8]) -> Result<(), Fault> {
-        match (self.section, directive) {
-            (Section::Ignored, _) => Ok(()),
-            (Section::Code, Directive::Align | Directive::PowerAlign) => Ok(()),
-            (Section::Code, _) => Err(self.fault(Reason::Unreadable("data among instructions"))),
-            (_, Directive::Align) => self.aligned(text, false),
-            (_, Directive::PowerAlign) => self.aligned(text, true),
-            (_, Directive::Room) => self.room(text),
-            _ => self.data_list(directive, text),
-        }
-    }
-
-    /// A directive, and what stands behind it.
+    /// A directive, and what stands behind it. One of data has to stand in a section of data; one that aligns may stand
+    /// among instructions.
     pub(crate) fn directive(&mut self, name: &[u8], text: &[u8]) -> Result<(), Fault> {
         let Some(directive) = beside(name, &DIRECTIVES) else {
             if matches!(self.section, Section::Ignored) || name.starts_with(b".cfi_") {
@@ -203,22 +193,27 @@ impl Source {
             }
             return Err(self.named(Naming::Directive, name));
         };
-        match directive {
-            Directive::Enter(section) => {
+        match (directive, self.section) {
+            (Directive::Enter(section), _) => {
                 self.enter(section);
                 Ok(())
             }
-            Directive::Section => self.section_line(text),
-            Directive::Common => self.common(text),
-            Directive::Global => self.global(text),
-            Directive::Type => self.type_line(text),
-            Directive::File => self.file_line(text),
-            Directive::Loc => {
+            (Directive::Section, _) => self.section_line(text),
+            (Directive::Common, _) => self.common(text),
+            (Directive::Global, _) => self.mark(text, true),
+            (Directive::Type, _) => self.type_line(text),
+            (Directive::File, _) => self.file_line(text),
+            (Directive::Loc, _) => {
                 self.loc_line(text);
                 Ok(())
             }
-            Directive::Nothing => Ok(()),
-            _ => self.data_line(directive, text),
+            (Directive::Nothing, _) | (_, Section::Ignored) => Ok(()),
+            (Directive::Align | Directive::PowerAlign, Section::Code) => Ok(()),
+            (_, Section::Code) => Err(self.unreadable("data among instructions")),
+            (Directive::Align, _) => self.aligned(text, false),
+            (Directive::PowerAlign, _) => self.aligned(text, true),
+            (Directive::Room, _) => self.room(text),
+            _ => self.data_list(directive, text),
         }
     }
 }

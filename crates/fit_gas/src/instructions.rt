@@ -3,7 +3,6 @@ use crate::source::{Item, Part, Reference, Source};
 use crate::text::{expression_of, first_operand};
 use fit_code::{Fault, Naming, Reason};
 use sbx_text::{TextFault, push_tokens};
-use std::alloc::AllocError;
 use v8_formats::{Instr, encode};
 use v8_syntax::{Symbols, SyntaxFault, bytes_between, is_same, parse_instr};
 
@@ -101,36 +100,21 @@ fn is_branch(word: &[u8]) -> bool {
     word.starts_with(b"b")
 }
 
-/// Appends the text of a statement: its mnemonic, and its operands in pieces.
-fn push_statement(word: &[u8], pieces: &[&[u8]], out: &mut Vec<u8>) -> Result<(), AllocError> {
-    out.extend_from_slice(word)?;
-    out.push(b' ')?;
-    for piece in pieces {
-        out.extend_from_slice(piece)?;
-    }
-    Ok(())
-}
-
 impl Source {
-    /// The fault of a mnemonic or of its operands.
-    fn misread(&self, word: &[u8], fault: SyntaxFault) -> Fault {
-        let naming = match fault {
-            SyntaxFault::UnknownMnemonic => Naming::Instruction,
-            _ => Naming::Operands,
-        };
-        self.named(naming, word)
-    }
-
-    /// Adds instructions, of a reference whose number is a part of theirs.
+    /// Adds instructions, of a reference whose number is a part of theirs; the last one has some bits besides.
     fn add_instructions(
         &mut self,
         instructions: &[Instr],
         reference: Option<Reference>,
+        bits: u32,
     ) -> Result<(), Fault> {
         let line = self.line();
+        let mut left = instructions.len();
         for instr in instructions {
-            self.add_item(&Item::Instr {
-                word: encode(instr),
+            left = left.saturating_sub(1);
+            let word = encode(instr) | if left == 0 { bits } else { 0 };
+            self.add_item(Item {
+                word,
                 line,
                 reference,
             })?;
@@ -138,16 +122,16 @@ impl Source {
         Ok(())
     }
 
-    /// A statement of the source language, which has no name in it, with its operands in pieces; of a reference its
-    /// number is a part.
+    /// A statement of the source language in pieces, which has no name in it; of a reference its number is a part, and
+    /// some bits are put into it.
     fn statement(
         &mut self,
         word: &[u8],
         pieces: &[&[u8]],
         reference: Option<Reference>,
+        bits: u32,
     ) -> Result<(), Fault> {
-        let mut line = Vec::new(self.alloc);
-        push_statement(word, pieces, &mut line)?;
+        let line = pieces.concat(self.alloc)?;
         let mut tokens = Vec::new(self.alloc);
         match push_tokens(line.as_slice(), &mut tokens) {
             Ok(()) => {}
@@ -155,35 +139,26 @@ impl Source {
             Err(_) => return Err(self.named(Naming::Operands, word)),
         }
         match parse_instr(line.as_slice(), tokens.as_slice(), &Nameless) {
-            Ok(found) => self.add_instructions(found.as_slice(), reference),
-            Err(fault) => Err(self.misread(word, fault)),
+            Ok(found) => self.add_instructions(found.as_slice(), reference, bits),
+            Err(SyntaxFault::UnknownMnemonic) => Err(self.named(Naming::Instruction, word)),
+            Err(_) => Err(self.named(Naming::Operands, word)),
         }
     }
 
-    /// The symbol that a branch or a call goes to.
-    fn target(&mut self, word: &[u8], text: &[u8]) -> Result<Reference, Fault> {
+    /// A branch or a call.
+    fn transfer(&mut self, word: &[u8], text: &[u8]) -> Result<(), Fault> {
         let (operand, _) = first_operand(text);
         match expression_of(operand) {
-            Some((name, 0)) if !name.is_empty() => Ok(Reference {
-                part: Part::Target,
-                symbol: self.symbol(name)?,
-                offset: 0,
-            }),
+            Some((name, 0)) if !name.is_empty() => {
+                let reference = Reference {
+                    part: Part::Target,
+                    symbol: self.symbol(name)?,
+                    offset: 0,
+                };
+                self.statement(word, &[word, b" 0"], Some(reference), 0)
+            }
             _ => Err(self.named(Naming::Operands, word)),
         }
-    }
-
-    fn call(&mut self, word: &[u8], text: &[u8]) -> Result<(), Fault> {
-        if text.starts_with(b"%") {
-            return Err(self.fault(Reason::CallThroughPointer));
-        }
-        let reference = self.target(word, text)?;
-        self.add_instructions(&[Instr::Call(0)], Some(reference))
-    }
-
-    fn branch(&mut self, word: &[u8], text: &[u8]) -> Result<(), Fault> {
-        let reference = self.target(word, text)?;
-        self.statement(word, &[b"0"], Some(reference))
     }
 
     /// A statement with `%hi(..)` or `%lo(..)` in it.
@@ -199,24 +174,18 @@ impl Source {
             return Err(self.named(Naming::Operands, word));
         };
         let before = bytes_between(text, 0, start);
-        let pieces = [
-            before,
-            b"0",
-            bytes_between(text, end.saturating_add(1), text.len()),
-        ];
-        if !name.is_empty() {
-            let symbol = self.symbol(name)?;
-            let reference = Reference {
-                part,
-                symbol,
-                offset,
-            };
-            return self.statement(word, &pieces, Some(reference));
+        let behind = bytes_between(text, end.saturating_add(1), text.len());
+        let pieces = [word, b" ", before, b"0", behind];
+        if name.is_empty() {
+            let number = (offset as i128).rem_euclid(0x1_0000_0000) as u32;
+            return self.statement(word, &pieces, None, with_part(0, part, number));
         }
-        self.statement(word, &pieces, None)?;
-        let number = (offset as i128).rem_euclid(0x1_0000_0000) as u32;
-        self.fill_last(part, number);
-        Ok(())
+        let reference = Reference {
+            part,
+            symbol: self.symbol(name)?,
+            offset,
+        };
+        self.statement(word, &pieces, Some(reference), 0)
     }
 
     /// An instruction, and what stands behind its mnemonic.
@@ -227,15 +196,16 @@ impl Source {
         if has_octal(text) {
             return Err(self.named(Naming::Operands, word));
         }
-        if is_same(word, b"call") {
-            return self.call(word, text);
+        let is_call = is_same(word, b"call");
+        if is_call && text.starts_with(b"%") {
+            return Err(self.fault(Reason::CallThroughPointer));
         }
-        if is_branch(word) {
-            return self.branch(word, text);
+        if is_call || is_branch(word) {
+            return self.transfer(word, text);
         }
         match part_in(text) {
             Some(place) => self.relocated(word, text, place),
-            None => self.statement(word, &[text], None),
+            None => self.statement(word, &[word, b" ", text], None, 0),
         }
     }
 }

@@ -1,56 +1,47 @@
 //! What the names of several files stand for.
 use crate::source::{Source, SymbolPlace};
 use fit_code::{Fault, Naming, Reason};
-use std::alloc::Global;
 use std::collections::BTreeMap;
 
-/// For each symbol of a source where it stands, in whichever file.
+/// Where the symbols of a source stand, in whichever file.
 #[derive(Drop)]
-pub struct Linked {
-    places: Vec<SymbolPlace>,
+pub struct Linked<'l> {
+    source: &'l Source,
+    /// The global names that stand somewhere.
+    globals: BTreeMap<&'l str, SymbolPlace>,
 }
 
-impl Linked {
-    /// Where a symbol stands.
+impl Linked<'_> {
+    /// Where a symbol stands: in its own file, else as a global name of another one.
     pub fn place(&self, symbol: usize) -> SymbolPlace {
-        match self.places.get(symbol) {
-            Some(place) => *place,
-            None => SymbolPlace::Nowhere,
+        let Some(found) = self.source.symbols.get(symbol) else {
+            return SymbolPlace::Nowhere;
+        };
+        if let SymbolPlace::Nowhere = found.place
+            && let Some(place) = self.globals.get(found.name.as_str())
+        {
+            return *place;
         }
+        found.place
     }
 }
 
-/// The global names that stand somewhere.
-fn globals(alloc: Global, source: &Source) -> Result<BTreeMap<String, SymbolPlace>, Fault> {
-    let mut found: BTreeMap<String, SymbolPlace> = BTreeMap::new(alloc);
-    for symbol in &source.symbols {
-        if symbol.is_global && !matches!(symbol.place, SymbolPlace::Nowhere) {
-            let name = symbol.name.clone()?;
-            if found.contains_key(name.as_str()) {
-                return Err(Fault::new(symbol.line, Reason::Named(Naming::DefinedTwice, name)));
-            }
-            found.insert(name, symbol.place)?;
-        }
-    }
-    Ok(found)
-}
-
-/// Finds for each symbol where it stands: in its own file, else as a global name of another one.
+/// Finds where global names stand.
 ///
 /// # Errors
 /// A global name that stands at two places. A name that stands nowhere is no fault as long as nothing needs it.
-pub fn links_of(alloc: Global, source: &Source) -> Result<Linked, Fault> {
-    let globals = globals(alloc, source)?;
-    let mut places = Vec::new(alloc);
+pub fn links_of(source: &Source) -> Result<Linked<'_>, Fault> {
+    let mut globals: BTreeMap<&str, SymbolPlace> = BTreeMap::new(source.alloc);
     for symbol in &source.symbols {
-        let place = match symbol.place {
-            SymbolPlace::Nowhere => match globals.get(symbol.name.as_str()) {
-                Some(place) => *place,
-                None => SymbolPlace::Nowhere,
-            },
-            place => place,
-        };
-        places.push(place)?;
+        if symbol.is_global
+            && !matches!(symbol.place, SymbolPlace::Nowhere)
+            && globals
+                .insert(symbol.name.as_str(), symbol.place)?
+                .is_some()
+        {
+            let name = symbol.name.clone()?;
+            return Err(Fault::new(symbol.line, Reason::Named(Naming::DefinedTwice, name)));
+        }
     }
-    Ok(Linked { places })
+    Ok(Linked { source, globals })
 }

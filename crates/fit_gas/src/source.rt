@@ -1,5 +1,4 @@
 //! What is read of assembly, before its names are resolved.
-use crate::instructions::with_part;
 use crate::text::{content, first_label, first_word, is_name, shown};
 use fit_code::{Fault, Line, Naming, Reason};
 use std::alloc::Global;
@@ -30,16 +29,13 @@ pub struct Reference {
     pub offset: i64,
 }
 
-/// A label, by its symbol; or an instruction, whose number is 0 where a reference is to be filled in.
+/// An instruction, whose number is 0 where a reference is to be filled in.
 #[derive(Clone, Copy)]
-pub enum Item {
-    Label(usize),
-    Instr {
-        /// The word of the instruction.
-        word: u32,
-        line: Line,
-        reference: Option<Reference>,
-    },
+pub struct Item {
+    /// The word of the instruction.
+    pub word: u32,
+    pub line: Line,
+    pub reference: Option<Reference>,
 }
 
 /// A function as it stands in the assembly.
@@ -76,8 +72,8 @@ pub enum SymbolPlace {
     Nowhere,
     /// At the start of the function of a number.
     Function(usize),
-    /// Within the function of a number.
-    Label(usize),
+    /// Within the function of a number, at one of its instructions or behind the last one.
+    Label { code: usize, at: usize },
     /// At the start of the object of a number.
     Object(usize),
 }
@@ -112,7 +108,7 @@ pub struct Source {
     pub codes: Vec<Code>,
     pub objects: Vec<Datum>,
     /// How many labels and instructions all functions have.
-    items: usize,
+    pub items: usize,
     /// How many bytes all objects have.
     pub(crate) total: usize,
     /// The symbols of the file that is read.
@@ -164,6 +160,16 @@ impl Source {
         Fault::new(self.line(), reason)
     }
 
+    /// A fault of what can't be read.
+    pub(crate) fn unreadable(&self, what: &'static str) -> Fault {
+        self.fault(Reason::Unreadable(what))
+    }
+
+    /// A fault of more than there may be.
+    pub(crate) fn too_many(&self, what: &'static str, most: u64) -> Fault {
+        self.fault(Reason::TooMany { what, most })
+    }
+
     /// A fault that names what stands in the line.
     pub(crate) fn named(&self, naming: Naming, name: &[u8]) -> Fault {
         match String::from_str(self.alloc, shown(name)) {
@@ -176,10 +182,7 @@ impl Source {
     pub(crate) fn add_file(&mut self, name: &[u8]) -> Result<usize, Fault> {
         let number = self.files.len();
         if number >= NAMES {
-            return Err(self.fault(Reason::TooMany {
-                what: "files",
-                most: 200_000,
-            }));
+            return Err(self.too_many("files", 200_000));
         }
         self.files.push(String::from_str(self.alloc, shown(name))?)?;
         Ok(number)
@@ -196,10 +199,7 @@ impl Source {
         }
         let number = self.symbols.len();
         if number >= NAMES {
-            return Err(self.fault(Reason::TooMany {
-                what: "names",
-                most: 200_000,
-            }));
+            return Err(self.too_many("names", 200_000));
         }
         let line = self.line();
         self.names
@@ -227,68 +227,60 @@ impl Source {
         Ok(())
     }
 
-    /// Adds a label or an instruction to the function that is read, as many as there may be.
-    pub(crate) fn add_item(&mut self, item: &Item) -> Result<(), Fault> {
+    /// Counts a label or an instruction, of which there may be so many.
+    fn count_item(&mut self) -> Result<(), Fault> {
         if self.items >= ITEMS {
-            return Err(self.fault(Reason::TooMany {
-                what: "labels and instructions",
-                most: 400_000,
-            }));
+            return Err(self.too_many("labels and instructions", 400_000));
         }
         self.items = self.items.saturating_add(1);
-        let Some(number) = self.code else {
-            return Err(self.fault(Reason::Unreadable("an instruction outside of a function")));
-        };
-        if let Some(code) = self.codes.get_mut(number) {
-            code.items.push(*item)?;
-        }
         Ok(())
     }
 
-    /// Puts a number into the instruction that was added last.
-    pub(crate) fn fill_last(&mut self, part: Part, number: u32) {
-        if let Some(place) = self.code
-            && let Some(code) = self.codes.get_mut(place)
-            && let Some(last) = code.items.as_mut_slice().last_mut()
-            && let Item::Instr { word, .. } = last
+    /// Adds an instruction to the function that is read.
+    pub(crate) fn add_item(&mut self, item: Item) -> Result<(), Fault> {
+        self.count_item()?;
+        if let Some(number) = self.code
+            && let Some(code) = self.codes.get_mut(number)
         {
-            *word = with_part(*word, part, number);
+            return Ok(code.items.push(item)?);
         }
+        Err(self.unreadable("an instruction outside of a function"))
     }
 
-    /// A label in the code: of a function, which begins there, or within one.
-    fn label_code(&mut self, name: &[u8]) -> Result<(), Fault> {
+    /// A label of the section that is read; in the code of a function, which begins there, or within one.
+    fn label(&mut self, name: &[u8]) -> Result<(), Fault> {
+        if matches!(self.section, Section::Ignored) {
+            return Ok(());
+        }
         let symbol = self.symbol(name)?;
-        let begins = match self.symbols.get(symbol) {
-            Some(found) => found.is_function,
-            None => false,
+        if let Section::Data { readonly } = self.section {
+            return self.label_data(symbol, readonly);
+        }
+        let begins = matches!(self.symbols.get(symbol), Some(found) if found.is_function);
+        let number = self.codes.len();
+        let place = if begins {
+            SymbolPlace::Function(number)
+        } else if let Some(number) = self.code
+            && let Some(code) = self.codes.get(number)
+        {
+            let at = code.items.len();
+            SymbolPlace::Label { code: number, at }
+        } else {
+            return Ok(());
         };
-        if begins {
-            let number = self.codes.len();
-            self.define(symbol, SymbolPlace::Function(number))?;
-            self.origin = None;
-            let line = self.place;
-            let items = Vec::new(self.alloc);
+        self.define(symbol, place)?;
+        if !begins {
+            return self.count_item();
+        }
+        self.origin = None;
+        self.code = Some(number);
+        Ok(
             self.codes.push(Code {
                 symbol,
-                line,
-                items,
-            })?;
-            self.code = Some(number);
-        } else if let Some(number) = self.code {
-            self.define(symbol, SymbolPlace::Label(number))?;
-            self.add_item(&Item::Label(symbol))?;
-        }
-        Ok(())
-    }
-
-    /// A label of the section that is read.
-    fn label(&mut self, name: &[u8]) -> Result<(), Fault> {
-        match self.section {
-            Section::Code => self.label_code(name),
-            Section::Data { readonly } => self.label_data(name, readonly),
-            Section::Ignored => Ok(()),
-        }
+                line: self.place,
+                items: Vec::new(self.alloc),
+            })?,
+        )
     }
 
     /// A line of assembly: labels, and a directive, an instruction or nothing behind them.
@@ -302,16 +294,11 @@ impl Source {
             text = rest;
         }
         let (word, rest) = first_word(text);
-        match word.first() {
-            None => Ok(()),
-            Some(b'.') => self.directive(word, rest),
-            Some(_) => match self.section {
-                Section::Code => self.instruction(word, rest),
-                Section::Data { .. } => {
-                    Err(self.fault(Reason::Unreadable("an instruction among data")))
-                }
-                Section::Ignored => Ok(()),
-            },
+        match (word.first(), self.section) {
+            (Some(b'.'), _) => self.directive(word, rest),
+            (Some(_), Section::Code) => self.instruction(word, rest),
+            (Some(_), Section::Data { .. }) => Err(self.unreadable("an instruction among data")),
+            _ => Ok(()),
         }
     }
 
@@ -321,8 +308,8 @@ impl Source {
     /// The first line that can't be read, or that passes a bound. No more is to be read then.
     pub fn read(&mut self, name: &str, text: &[u8]) -> Result<(), Fault> {
         let file = self.add_file(name.as_bytes())?;
-        self.names = BTreeMap::new(self.alloc);
-        self.numbered = BTreeMap::new(self.alloc);
+        self.names.clear();
+        self.numbered.clear();
         self.section = Section::Code;
         self.object = None;
         self.code = None;

@@ -125,21 +125,16 @@ fn digits_of(digits: &[u8], radix: u8) -> Option<i64> {
 
 /// A number as the assembler reads it, perhaps behind a sign: hexadecimal behind `0x`, octal behind `0`, else decimal.
 pub fn number_of(text: &[u8]) -> Option<i64> {
-    let (natural, is_negative) = match text {
-        [b'-', rest @ ..] => (rest, true),
-        _ => (text, false),
+    let (natural, sign) = match text {
+        [b'-', rest @ ..] => (rest, -1),
+        _ => (text, 1),
     };
     let (digits, radix) = match natural {
         [b'0', b'x', digits @ ..] => (digits, 16),
         [b'0', _, ..] => (natural, 8),
         _ => (natural, 10),
     };
-    let number = digits_of(digits, radix)?;
-    Some(if is_negative {
-        0i64.saturating_sub(number)
-    } else {
-        number
-    })
+    Some(digits_of(digits, radix)?.saturating_mul(sign))
 }
 
 /// The number behind a name: 0 where there is nothing.
@@ -154,16 +149,13 @@ fn offset_of(text: &[u8]) -> Option<i64> {
 
 /// A name, perhaps with a number behind it; or a number, with no name.
 pub fn expression_of(text: &[u8]) -> Option<(&[u8], i64)> {
-    if let Some(number) = number_of(text) {
-        return Some((&[], number));
-    }
     let end = name_length(text);
     let name = bytes_between(text, 0, end);
-    let offset = offset_of(bytes_between(text, end, text.len()).trim_ascii())?;
     if is_name(name) {
-        Some((name, offset))
+        let behind = bytes_between(text, end, text.len()).trim_ascii();
+        Some((name, offset_of(behind)?))
     } else {
-        None
+        Some((&[], number_of(text)?))
     }
 }
 

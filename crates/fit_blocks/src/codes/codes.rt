@@ -1,13 +1,13 @@
 //! Condition codes are set in the block that reads them: a compare whose branch stands in a later block is repeated
 //! there.
-use crate::plain::against_zero;
+use crate::plain::{against_zero, step_of};
 use crate::points::{
     bit_of, fields_of, form_fault, operands_read, reads_codes, sets_codes, written,
 };
-use fit_code::{Block, End, Fault, Function, Step};
+use fit_code::{Block, End, Fault, Function};
 use fit_graph::predecessors_of;
 use std::alloc::{AllocError, Global};
-use v8_formats::{Instr, Operand, Three, encode};
+use v8_formats::{Instr, decode, encode};
 use v8_word::{Cond, Reg};
 
 const REFUSED: &str = "condition codes of several places, or of numbers that changed since";
@@ -24,24 +24,8 @@ fn is_logic(instr: &Instr) -> bool {
     )
 }
 
-/// The same instruction with %g0 as its destination, where it is one that may be repeated.
-fn without_result(instr: &Instr, fields: &Three) -> Option<Instr> {
-    let fields = Three {
-        rd: Reg::G0,
-        ..*fields
-    };
-    match instr {
-        Instr::SubCc(_) => Some(Instr::SubCc(fields)),
-        Instr::AddCc(_) => Some(Instr::AddCc(fields)),
-        Instr::AndCc(_) => Some(Instr::AndCc(fields)),
-        Instr::OrCc(_) => Some(Instr::OrCc(fields)),
-        Instr::XorCc(_) => Some(Instr::XorCc(fields)),
-        Instr::AndnCc(_) => Some(Instr::AndnCc(fields)),
-        Instr::OrnCc(_) => Some(Instr::OrnCc(fields)),
-        Instr::XnorCc(_) => Some(Instr::XnorCc(fields)),
-        _ => None,
-    }
-}
+/// The bits of a word in which its destination stands.
+const DESTINATION: u32 = 0x3e00_0000;
 
 /// An instruction that sets the same codes behind another one. Where carry and overflow aren't asked for, a compare
 /// of the result with 0 does, as it does of a logic instruction, which clears both.
@@ -50,10 +34,11 @@ fn repeated(instr: &Instr, zero_alone: bool) -> Option<Instr> {
     if fields.rd != Reg::G0 && (zero_alone || is_logic(instr)) {
         return Some(against_zero(fields.rd));
     }
-    if bit_of(fields.rd) & operands_read(&fields) != 0 {
+    let may_repeat = is_logic(instr) || matches!(instr, Instr::AddCc(_) | Instr::SubCc(_));
+    if !may_repeat || bit_of(fields.rd) & operands_read(&fields) != 0 {
         return None;
     }
-    without_result(instr, &fields)
+    Some(decode(encode(instr) & !DESTINATION))
 }
 
 /// What sets the codes that a block begins with.
@@ -130,25 +115,6 @@ impl Search {
         self.is_one = self.is_one && !before.is_empty();
         self.enter(before)
     }
-
-    /// Looks at the blocks that are to be looked at, until there is none.
-    fn look_through(
-        &mut self,
-        function: &Function,
-        predecessors: &[Vec<usize>],
-    ) -> Result<(), AllocError> {
-        for _ in 0..predecessors.len() {
-            let Some(from) = self.open.pop() else {
-                break;
-            };
-            if let Some(found) = function.blocks.get(from)
-                && let Some(before) = predecessors.get(from)
-            {
-                self.look(found, before.as_slice())?;
-            }
-        }
-        Ok(())
-    }
 }
 
 /// Whether a block reads codes that it didn't set; and whether zero and sign alone matter of them.
@@ -189,23 +155,22 @@ fn setter_of(
     if let Some(before) = predecessors.get(block) {
         search.enter(before.as_slice())?;
     }
-    search.look_through(function, predecessors)?;
+    // A block is looked at once.
+    for _ in 0..predecessors.len() {
+        if let Some(from) = search.open.pop()
+            && let Some(found) = function.blocks.get(from)
+            && let Some(before) = predecessors.get(from)
+        {
+            search.look(found, before.as_slice())?;
+        }
+    }
     Ok(search.answer())
 }
 
 /// Puts an instruction before a block's steps.
 fn insert_first(function: &mut Function, block: usize, instr: Instr) -> Result<(), AllocError> {
     if let Some(found) = function.blocks.get_mut(block) {
-        found.steps.insert(
-            0,
-            Step {
-                instr,
-                line: found.line,
-                callee: None,
-                object: None,
-                slot: None,
-            },
-        )?;
+        found.steps.insert(0, step_of(instr, found.line))?;
     }
     Ok(())
 }
@@ -214,11 +179,10 @@ fn insert_first(function: &mut Function, block: usize, instr: Instr) -> Result<(
 pub fn repeat_compares(alloc: Global, function: &mut Function) -> Result<(), Fault> {
     let predecessors = predecessors_of(alloc, function)?;
     for block in 0..function.blocks.len() {
-        let (reads, line) = match function.blocks.get(block) {
-            Some(found) => (reads_before(found), found.line),
-            None => (None, function.line),
-        };
-        if let Some(zero_alone) = reads {
+        if let Some(found) = function.blocks.get(block)
+            && let Some(zero_alone) = reads_before(found)
+        {
+            let line = found.line;
             match setter_of(alloc, function, predecessors.as_slice(), block, zero_alone)? {
                 Some(instr) => insert_first(function, block, instr)?,
                 None => return Err(form_fault(&function.name, line, REFUSED)),

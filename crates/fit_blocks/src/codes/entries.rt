@@ -20,10 +20,11 @@ const ENTRIES: usize = 8;
 /// Blocks are copied in functions of so many at most, a quarter of those that an image's may have.
 const BLOCKS: usize = 1024;
 
-/// Which blocks of a loop are copied, and how many steps that are, where each block's end counts as one.
+/// The numbers of the copies of a loop's blocks, behind those of all blocks, and how many steps are copied, where each
+/// block's end counts as one.
 #[derive(Drop)]
 struct Copies {
-    holds: Vec<bool>,
+    numbers: Vec<Option<usize>>,
     steps: usize,
 }
 
@@ -39,98 +40,69 @@ fn copies_beside(
     if let Some(held) = within.get_mut(entry) {
         *held = false;
     }
-    let holds = reached_from(
-        alloc,
-        successors,
-        tangle.entries.as_slice(),
-        within.as_slice(),
-    )?;
+    let entries = tangle.entries.as_slice();
+    let holds = reached_from(alloc, successors, entries, within.as_slice())?;
+    let mut numbers = Vec::new(alloc);
     let mut steps: usize = 0;
+    let mut next = holds.len();
     for (number, held) in holds.iter().enumerate() {
+        let mut copy = None;
         if *held && let Some(block) = function.blocks.get(number) {
             steps = steps.saturating_add(block.steps.len()).saturating_add(1);
+            copy = Some(next);
+            next = next.saturating_add(1);
         }
+        numbers.push(copy)?;
     }
-    Ok(Copies { holds, steps })
+    Ok(Copies { numbers, steps })
 }
 
-/// What is copied where that entry stays by which it is least.
+/// What is copied where that entry stays by which it is least, of so many steps at most.
 fn least_copies(
     alloc: Global,
     function: &Function,
     tangle: &Tangle,
+    room: usize,
 ) -> Result<Option<Copies>, AllocError> {
     let successors = successors_of(alloc, function)?;
-    let mut least: Option<Copies> = None;
-    for entry in tangle
-        .entries
-        .get(..ENTRIES)
-        .unwrap_or(tangle.entries.as_slice())
-    {
+    let mut bound = room.saturating_add(1);
+    let mut least = None;
+    for (place, entry) in tangle.entries.iter().enumerate() {
+        if place == ENTRIES {
+            break;
+        }
         let copies = copies_beside(alloc, function, successors.as_slice(), tangle, *entry)?;
-        let is_less = match &least {
-            Some(found) => copies.steps < found.steps,
-            None => true,
-        };
-        if is_less {
+        if copies.steps < bound {
+            bound = copies.steps;
             least = Some(copies);
         }
     }
     Ok(least)
 }
 
-/// The number of each block's copy, behind those of all blocks, or its own where it has none.
-fn numbers_of(alloc: Global, holds: &[bool]) -> Result<Vec<usize>, AllocError> {
-    let mut numbers = Vec::new(alloc);
-    let mut next = holds.len();
-    for (block, held) in holds.iter().enumerate() {
-        numbers.push(if *held { next } else { block })?;
-        next = next.saturating_add(usize::from(*held));
-    }
-    Ok(numbers)
-}
-
-/// Makes the blocks that aren't of a loop go to copies where there are some.
-fn lead_to_copies(function: &mut Function, tangle: &Tangle, numbers: &[usize]) {
-    for (number, block) in function.blocks.iter_mut().enumerate() {
-        match tangle.holds.get(number) {
-            Some(true) => {}
-            _ => block.end = moved(block.end, numbers),
-        }
-    }
-}
-
-/// Pushes a copy of a block, which goes on to copies where there are some.
-fn push_copy(
-    alloc: Global,
-    function: &mut Function,
-    number: usize,
-    numbers: &[usize],
-) -> Result<(), AllocError> {
-    if let Some(block) = function.blocks.get(number) {
-        let copy = Block {
-            steps: Vec::from_slice(alloc, block.steps.as_slice())?,
-            end: moved(block.end, numbers),
-            slot: block.slot,
-            line: block.line,
-        };
-        function.blocks.push(copy)?;
-    }
-    Ok(())
-}
-
-/// Copies blocks of a loop, to which ways from elsewhere lead from then on.
+/// Copies blocks of a loop, to which ways from elsewhere and those of the copies lead from then on.
 fn copy_blocks(
     alloc: Global,
     function: &mut Function,
     tangle: &Tangle,
-    copied: &[bool],
+    numbers: &[Option<usize>],
 ) -> Result<(), AllocError> {
-    let numbers = numbers_of(alloc, copied)?;
-    lead_to_copies(function, tangle, numbers.as_slice());
-    for (number, held) in copied.iter().enumerate() {
-        if *held {
-            push_copy(alloc, function, number, numbers.as_slice())?;
+    for (number, copy) in numbers.iter().enumerate() {
+        if let Some(block) = function.blocks.get_mut(number)
+            && let Some(held) = tangle.holds.get(number)
+        {
+            let end = moved(block.end, numbers);
+            if copy.is_some() {
+                let copy = Block {
+                    steps: Vec::from_slice(alloc, block.steps.as_slice())?,
+                    end,
+                    slot: block.slot,
+                    line: block.line,
+                };
+                function.blocks.push(copy)?;
+            } else if !*held {
+                block.end = end;
+            }
         }
     }
     Ok(())
@@ -156,14 +128,11 @@ pub fn give_one_entry(alloc: Global, function: &mut Function) -> Result<(), Allo
         let Some(tangle) = tangle_of(alloc, function)? else {
             return Ok(());
         };
-        let Some(copies) = least_copies(alloc, function, &tangle)? else {
+        let Some(copies) = least_copies(alloc, function, &tangle, room)? else {
             return Ok(());
         };
-        if copies.steps > room {
-            return Ok(());
-        }
         room = room.saturating_sub(copies.steps);
-        copy_blocks(alloc, function, &tangle, copies.holds.as_slice())?;
+        copy_blocks(alloc, function, &tangle, copies.numbers.as_slice())?;
     }
     Ok(())
 }

@@ -1,15 +1,16 @@
 //! Blocks that control doesn't come to are left out, and no block goes to the first one.
-use fit_code::{Block, End, Function};
-use fit_graph::{Order, order_of};
-use std::alloc::{AllocError, Global};
+use crate::slots::number_marked;
+use fit_code::{Block, End, Fault, Function};
+use fit_graph::order_of;
+use std::alloc::Global;
 
-/// The other number of a block; 0 where it has none.
-fn number_of(numbers: &[usize], block: usize) -> usize {
-    numbers.get(block).copied().unwrap_or(0)
+/// The other number of a block; its own where it has none.
+fn number_of(numbers: &[Option<usize>], block: usize) -> usize {
+    numbers.get(block).copied().flatten().unwrap_or(block)
 }
 
 /// Where an end goes by other numbers of blocks.
-pub(crate) fn moved(end: End, numbers: &[usize]) -> End {
+pub(crate) fn moved(end: End, numbers: &[Option<usize>]) -> End {
     match end {
         End::Jump(block) => End::Jump(number_of(numbers, block)),
         End::Branch { cond, taken, next } => End::Branch {
@@ -24,38 +25,16 @@ pub(crate) fn moved(end: End, numbers: &[usize]) -> End {
 /// Whether a block goes to the first one.
 fn goes_to_first(function: &Function) -> bool {
     for block in &function.blocks {
-        let goes = match block.end {
-            End::Jump(to) => to == 0,
-            End::Branch { taken, next, .. } => taken == 0 || next == 0,
-            _ => false,
-        };
-        if goes {
+        if let [Some(0), _] | [_, Some(0)] = block.end.ways() {
             return true;
         }
     }
     false
 }
 
-/// New numbers of the blocks that can be reached, in their order, from a number on.
-fn numbers_of(
-    alloc: Global,
-    order: &Order,
-    count: usize,
-    first: usize,
-) -> Result<Vec<usize>, AllocError> {
-    let mut numbers = Vec::new(alloc);
-    let mut next = first;
-    for block in 0..count {
-        numbers.push(next)?;
-        if order.place(block).is_some() {
-            next = next.saturating_add(1);
-        }
-    }
-    Ok(numbers)
-}
-
 /// Leaves out the blocks that can't be reached, and puts an empty block first where a block goes to the first one.
-pub fn prune(alloc: Global, function: &mut Function) -> Result<(), AllocError> {
+pub fn prune(alloc: Global, function: &mut Function) -> Result<(), Fault> {
+    let mut numbers = order_of(alloc, function)?.places;
     let mut blocks = Vec::new(alloc);
     if goes_to_first(function) {
         blocks.push(Block {
@@ -65,11 +44,10 @@ pub fn prune(alloc: Global, function: &mut Function) -> Result<(), AllocError> {
             line: function.line,
         })?;
     }
-    let order = order_of(alloc, function)?;
-    let numbers = numbers_of(alloc, &order, function.blocks.len(), blocks.len())?;
+    let _ = number_marked(numbers.as_mut_slice(), blocks.len());
     let old = std::mem::replace(&mut function.blocks, blocks);
     for (number, mut block) in old.into_iter().enumerate() {
-        if order.place(number).is_some() {
+        if let Some(Some(_)) = numbers.get(number) {
             block.end = moved(block.end, numbers.as_slice());
             function.blocks.push(block)?;
         }

@@ -1,7 +1,7 @@
 //! Instructions in forms of which more is known.
 use crate::plain::steps::push_step;
-use fit_code::{Block, Function, Step};
-use std::alloc::{AllocError, Global};
+use fit_code::{Fault, Function, Step};
+use std::alloc::Global;
 use v8_formats::{Instr, Operand, Three};
 use v8_word::Reg;
 
@@ -34,7 +34,7 @@ fn doubles(fields: &Three) -> bool {
 
 /// Pushes a step in forms of which more is known: `tst r` as `cmp r,0`, `orcc a,0,d` as a move and a compare of `d`
 /// with 0, and a number added to itself as a shift.
-fn push_plain(steps: &mut Vec<Step>, step: &Step) -> Result<(), AllocError> {
+fn push_plain(steps: &mut Vec<Step>, step: &Step) -> Result<(), Fault> {
     let instr = match step.instr {
         Instr::OrCc(fields) => match named_alone(&fields) {
             Some(register) if fields.rd == Reg::G0 => against_zero(register),
@@ -54,20 +54,14 @@ fn push_plain(steps: &mut Vec<Step>, step: &Step) -> Result<(), AllocError> {
     push_step(steps, Step { instr, ..*step })
 }
 
-/// Puts plainer forms into a block.
-fn plain_block(alloc: Global, block: &mut Block) -> Result<(), AllocError> {
-    let mut steps = Vec::new(alloc);
-    for step in block.steps.iter() {
-        push_plain(&mut steps, step)?;
-    }
-    block.steps = steps;
-    Ok(())
-}
-
 /// Puts plainer forms into a function.
-pub fn put_plainly(alloc: Global, function: &mut Function) -> Result<(), AllocError> {
+pub fn put_plainly(alloc: Global, function: &mut Function) -> Result<(), Fault> {
     for block in function.blocks.iter_mut() {
-        plain_block(alloc, block)?;
+        let mut steps = Vec::new(alloc);
+        for step in &block.steps {
+            push_plain(&mut steps, step)?;
+        }
+        block.steps = steps;
     }
     Ok(())
 }

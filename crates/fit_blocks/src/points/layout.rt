@@ -1,8 +1,9 @@
 //! Where the objects of a program lie.
 use crate::points::fields::word_of;
 use fit_code::{Fault, Line, NO_LINE, Naming, Object, Reason, Region};
-use fit_gas::{Datum, Fix, Linked, Source, SymbolPlace};
-use std::alloc::{AllocError, Global};
+use fit_gas::{Fix, Linked, Source, SymbolPlace, links_of};
+use std::alloc::Global;
+use std::collections::BTreeMap;
 
 /// Where the data of an image begin.
 const DATA: u32 = 0x8_0000;
@@ -24,35 +25,22 @@ const PAGE: u32 = 4_096;
 
 /// The least multiple of a number that isn't below another one.
 fn multiple_from(least: u32, number: u32) -> u32 {
-    match least.checked_rem(number) {
-        Some(over) if over > 0 => least.saturating_add(number.saturating_sub(over)),
-        _ => least,
-    }
-}
-
-/// A fault at a line where data would end behind what an image may have.
-fn check_end(end: u32, line: Line) -> Result<(), Fault> {
-    if end.saturating_add(TAIL) > DATA + MOST {
-        return Err(Fault::new(
-            line,
-            Reason::TooMany {
-                what: "bytes of data",
-                most: u64::from(MOST),
-            },
-        ));
-    }
-    Ok(())
+    least.checked_next_multiple_of(number).unwrap_or(u32::MAX)
 }
 
 /// Objects in two regions, each with its address from when it is added: the constants, and what may be written.
 #[derive(Drop)]
-pub struct Layout {
+pub struct Layout<'l> {
     pub alloc: Global,
+    pub source: &'l Source,
+    pub linked: Linked<'l>,
     pub objects: Vec<Object>,
+    /// The regions that ended, by their addresses.
+    pub regions: Vec<Region>,
     /// Of each object of the source its number here.
     numbers: Vec<usize>,
-    /// The region of the constants, where there are some.
-    constants: Option<Region>,
+    /// Of functions of the source the objects of their arguments in memory.
+    arguments: BTreeMap<usize, usize>,
     /// Where the region begins that objects are added to.
     start: u32,
     /// Where the last object ends, and the line that it was added for.
@@ -60,63 +48,83 @@ pub struct Layout {
     line: Line,
 }
 
-impl Layout {
-    /// Room behind the objects, for as many bytes and a line; gives its address.
-    fn take_room(&mut self, align: u32, bytes: usize, line: Line) -> Result<u32, Fault> {
-        let start = multiple_from(self.end.saturating_add(PAD), align);
-        self.end = start.saturating_add(u32::try_from(bytes).unwrap_or(u32::MAX));
-        self.line = line;
-        check_end(self.end, line)?;
-        Ok(start)
+impl Layout<'_> {
+    /// A fault where data end behind what an image may have.
+    fn check_end(&self) -> Result<(), Fault> {
+        if self.end.saturating_add(TAIL) > DATA + MOST {
+            let reason = Reason::TooMany {
+                what: "bytes of data",
+                most: u64::from(MOST),
+            };
+            return Err(Fault::new(self.line, reason));
+        }
+        Ok(())
     }
 
-    /// Adds an object that may be written, of zeros, for a line; gives its number.
+    /// Adds an object of zeros, for a line; gives its number.
     ///
     /// # Errors
     /// At the line, where it would end behind what an image may have.
-    pub fn add_zeros(&mut self, name: String, bytes: usize, line: Line) -> Result<usize, Fault> {
+    pub fn add(
+        &mut self,
+        name: String,
+        readonly: bool,
+        align: u32,
+        bytes: usize,
+        line: Line,
+    ) -> Result<usize, Fault> {
         let number = self.objects.len();
-        let start = self.take_room(8, bytes, line)?;
+        let start = multiple_from(self.end.saturating_add(PAD), align);
+        self.end = start.saturating_add(u32::try_from(bytes).unwrap_or(u32::MAX));
+        self.line = line;
+        self.check_end()?;
         self.objects.push(Object {
             name,
-            readonly: false,
-            align: 8,
+            readonly,
+            align,
             bytes: vec![in self.alloc; 0; bytes]?,
             start,
         })?;
         Ok(number)
     }
 
-    /// Adds an object of the source, for the line where its name stands first; gives its number.
-    fn add_datum(&mut self, datum: &Datum, name: &str, line: Line) -> Result<usize, Fault> {
-        let number = self.objects.len();
-        let align = datum.align.max(8);
-        let start = self.take_room(align, datum.bytes.len(), line)?;
-        self.objects.push(Object {
-            name: String::from_str(self.alloc, name)?,
-            readonly: datum.readonly,
-            align,
-            bytes: datum.bytes.clone()?,
-            start,
-        })?;
-        Ok(number)
-    }
-
-    /// Adds the objects of the source that are constants, or those that aren't.
-    fn add_all(&mut self, source: &Source, readonly: bool) -> Result<(), Fault> {
+    /// Adds the objects of the source that are constants, or those that aren't, each for the line where its name stands
+    /// first.
+    fn add_all(&mut self, readonly: bool) -> Result<(), Fault> {
+        let source = self.source;
         for (place, datum) in source.objects.iter().enumerate() {
-            if datum.readonly == readonly {
-                let (name, line) = match source.symbols.get(datum.symbol) {
-                    Some(symbol) => (symbol.name.as_str(), symbol.line),
-                    None => ("", NO_LINE),
-                };
-                let number = self.add_datum(datum, name, line)?;
+            if datum.readonly == readonly
+                && let Some(symbol) = source.symbols.get(datum.symbol)
+            {
+                let name = symbol.name.clone()?;
+                let align = datum.align.max(8);
+                let number = self.add(name, readonly, align, datum.bytes.len(), symbol.line)?;
+                self.fill(number, 0, datum.bytes.as_slice());
                 if let Some(found) = self.numbers.get_mut(place) {
                     *found = number;
                 }
             }
         }
         Ok(())
+    }
+
+    /// The object of so many bytes for the arguments in memory of a function of the source, which a line asks for.
+    ///
+    /// # Errors
+    /// At the line, where it would end behind what an image may have.
+    pub fn arguments_of(
+        &mut self,
+        function: usize,
+        bytes: usize,
+        line: Line,
+    ) -> Result<usize, Fault> {
+        if let Some(object) = self.arguments.get(&function) {
+            return Ok(*object);
+        }
+        let name = format!(in self.alloc; "arguments of function {function}")?;
+        let object = self.add(name, false, 8, bytes, line)?;
+        self.arguments.insert(function, object)?;
+        Ok(object)
     }
 
     /// The address of an object plus a number, as a word.
@@ -128,36 +136,33 @@ impl Layout {
         word_of(i64::from(start).saturating_add(offset))
     }
 
-    /// The region that objects are added to, as far as they go.
-    fn region(&self, readonly: bool) -> Region {
+    /// The region that objects were added to ends; what is added from here on lies on pages of its own.
+    pub fn end_region(&mut self, readonly: bool) -> Result<(), Fault> {
+        let start = self.start;
         let end = self.end.saturating_add(TAIL);
-        Region {
-            readonly,
-            start: self.start,
-            length: end.saturating_sub(self.start).saturating_add(7) & !7,
-        }
+        let length = end.saturating_sub(start).saturating_add(7) & !7;
+        self.start = multiple_from(start.saturating_add(length), PAGE);
+        self.end = self.start.saturating_add(HEAD);
+        Ok(
+            self.regions.push(Region {
+                readonly,
+                start,
+                length,
+            })?,
+        )
     }
 
-    /// What is added from here on may be written, and lies on pages of its own.
-    fn end_constants(&mut self) -> Result<(), Fault> {
-        if !self.objects.is_empty() {
-            let region = self.region(true);
-            self.start = multiple_from(region.start.saturating_add(region.length), PAGE);
-            self.end = self.start.saturating_add(HEAD);
-            self.constants = Some(region);
+    /// Puts bytes into an object.
+    fn fill(&mut self, number: usize, at: usize, bytes: &[u8]) {
+        if let Some(object) = self.objects.get_mut(number) {
+            let mut place = at;
+            for byte in bytes {
+                if let Some(found) = object.bytes.get_mut(place) {
+                    *found = *byte;
+                }
+                place = place.saturating_add(1);
+            }
         }
-        check_end(self.end, self.line)
-    }
-
-    /// The regions that all objects lie in, by their addresses: that of the constants, where there are some, and the
-    /// one that may be written.
-    pub fn regions(&self) -> Result<Vec<Region>, AllocError> {
-        let mut regions = Vec::new(self.alloc);
-        if let Some(region) = self.constants {
-            regions.push(region)?;
-        }
-        regions.push(self.region(false))?;
-        Ok(regions)
     }
 
     /// The number of an object of the source.
@@ -165,17 +170,41 @@ impl Layout {
         self.numbers.get(datum).copied().unwrap_or(0)
     }
 
-    /// Puts an address into a word of an object.
-    fn fill(&mut self, number: usize, at: usize, word: u32) {
-        if let Some(object) = self.objects.get_mut(number) {
-            let mut place = at;
-            for byte in &word.to_be_bytes() {
-                if let Some(found) = object.bytes.get_mut(place) {
-                    *found = *byte;
-                }
-                place = place.saturating_add(1);
-            }
+    /// The object that a symbol stands for, by its number here.
+    pub fn object_of(&self, symbol: usize, line: Line) -> Result<usize, Fault> {
+        let naming = match self.linked.place(symbol) {
+            SymbolPlace::Object(datum) => return Ok(self.number(datum)),
+            SymbolPlace::Nowhere => Naming::NotDefined,
+            _ => Naming::AddressOfFunction,
+        };
+        Err(fault_of(self.source, line, naming, symbol))
+    }
+
+    /// Fills in the addresses that an object of the source holds.
+    fn fill_all(&mut self, datum: usize, fixes: &[Fix]) -> Result<(), Fault> {
+        let number = self.number(datum);
+        for fix in fixes {
+            let object = self.object_of(fix.symbol, fix.line)?;
+            let word = self.address(object, fix.offset);
+            self.fill(number, fix.at, &word.to_be_bytes());
         }
+        Ok(())
+    }
+
+    /// Adds the objects of the source, the constants first.
+    fn lay_out(&mut self) -> Result<(), Fault> {
+        let source = self.source;
+        self.numbers.resize(source.objects.len(), 0)?;
+        self.add_all(true)?;
+        if !self.objects.is_empty() {
+            self.end_region(true)?;
+            self.check_end()?;
+        }
+        self.add_all(false)?;
+        for (place, datum) in source.objects.iter().enumerate() {
+            self.fill_all(place, datum.fixes.as_slice())?;
+        }
+        Ok(())
     }
 }
 
@@ -191,56 +220,24 @@ pub fn fault_of(source: &Source, line: Line, naming: Naming, symbol: usize) -> F
     }
 }
 
-/// The object that a symbol stands for, by its number in the layout.
-pub fn object_of(
-    source: &Source,
-    linked: &Linked,
-    layout: &Layout,
-    symbol: usize,
-    line: Line,
-) -> Result<usize, Fault> {
-    match linked.place(symbol) {
-        SymbolPlace::Object(datum) => Ok(layout.number(datum)),
-        SymbolPlace::Function(_) | SymbolPlace::Label(_) => {
-            Err(fault_of(source, line, Naming::AddressOfFunction, symbol))
-        }
-        SymbolPlace::Nowhere => Err(fault_of(source, line, Naming::NotDefined, symbol)),
-    }
-}
-
-/// Fills in the addresses that the object of a number holds.
-fn fill_all(
-    source: &Source,
-    linked: &Linked,
-    number: usize,
-    fixes: &[Fix],
-    layout: &mut Layout,
-) -> Result<(), Fault> {
-    for fix in fixes {
-        let object = object_of(source, linked, layout, fix.symbol, fix.line)?;
-        let word = layout.address(object, fix.offset);
-        layout.fill(number, fix.at, word);
-    }
-    Ok(())
-}
-
 /// Lays out the objects of a source: the constants first, on pages that may be read alone.
-pub fn layout_of(alloc: Global, source: &Source, linked: &Linked) -> Result<Layout, Fault> {
+///
+/// # Errors
+/// A global name that stands at two places; an address of what is no object; more bytes than an image may have.
+pub fn layout_of(source: &Source) -> Result<Layout<'_>, Fault> {
+    let alloc = source.alloc;
     let mut layout = Layout {
         alloc,
+        source,
+        linked: links_of(source)?,
         objects: Vec::new(alloc),
-        numbers: vec![in alloc; 0; source.objects.len()]?,
-        constants: None,
+        regions: Vec::new(alloc),
+        numbers: Vec::new(alloc),
+        arguments: BTreeMap::new(alloc),
         start: DATA,
         end: DATA + HEAD,
         line: NO_LINE,
     };
-    layout.add_all(source, true)?;
-    layout.end_constants()?;
-    layout.add_all(source, false)?;
-    for (place, datum) in source.objects.iter().enumerate() {
-        let number = layout.number(place);
-        fill_all(source, linked, number, datum.fixes.as_slice(), &mut layout)?;
-    }
+    layout.lay_out()?;
     Ok(layout)
 }

@@ -1,9 +1,9 @@
 //! The instructions of a function with their numbers filled in, and what each does to the flow of control.
 use crate::points::layout::Layout;
 use fit_code::{Fault, Line, Reason, Step};
-use fit_gas::{Code, Item, Linked, Source};
-use std::alloc::{AllocError, Global};
-use std::collections::BTreeMap;
+use fit_gas::{Code, Item};
+use std::alloc::AllocError;
+use v8_formats::Three;
 use v8_word::Cond;
 
 /// What an instruction does to the flow of control.
@@ -17,7 +17,7 @@ pub enum Flow {
     /// A jump by %i7, as a framed function returns, or by %o7.
     Return { framed: bool },
     Save,
-    Restore,
+    Restore(Three),
     Exit,
     /// The constant behind a call that gives a struct.
     Mark,
@@ -56,74 +56,41 @@ pub fn form_fault(function: &String, line: Line, what: &'static str) -> Fault {
 
 /// What points are made with.
 #[derive(Drop)]
-pub struct Maker<'m> {
-    pub source: &'m Source,
-    pub linked: &'m Linked,
-    pub layout: &'m Layout,
-    /// The places of the function's labels.
-    pub starts: BTreeMap<usize, usize>,
+pub struct Maker<'m, 'l> {
+    pub layout: &'m Layout<'l>,
+    /// The number of the function in the source.
+    pub code: usize,
     pub points: Points,
 }
 
-impl Maker<'_> {
+impl Maker<'_, '_> {
     fn add(&mut self, item: &Item) -> Result<(), Fault> {
-        if let Item::Instr {
-            word,
-            line,
-            reference,
-        } = item
-        {
-            let step = self.step(*word, *line, *reference)?;
-            let flow = self.flow(&step.instr, *line, *reference)?;
-            self.points.list.push(Point { step, flow })?;
-        }
-        Ok(())
-    }
-
-    /// Notes where the labels of a function are: each at the instruction behind it.
-    fn find_starts(&mut self, items: &[Item]) -> Result<(), Fault> {
-        let mut place: usize = 0;
-        for item in items {
-            match item {
-                Item::Label(symbol) => {
-                    self.starts.insert(*symbol, place)?;
-                }
-                Item::Instr { .. } => place = place.saturating_add(1),
-            }
-        }
-        Ok(())
+        let step = self.step(item)?;
+        let flow = self.flow(&step.instr, item.line, item.reference)?;
+        Ok(self.points.list.push(Point { step, flow })?)
     }
 }
 
-/// The instructions of a function.
+/// The instructions of a function, by its number in the source.
 ///
 /// # Errors
 /// An instruction that sandboxed code may not have; a jump that is no return; a branch out of the function; a name
 /// that stands nowhere, or is a function's where an object's is wanted.
-pub fn points_of(
-    alloc: Global,
-    source: &Source,
-    linked: &Linked,
-    layout: &Layout,
-    code: &Code,
-) -> Result<Points, Fault> {
-    let name = match source.symbols.get(code.symbol) {
+pub fn points_of(layout: &Layout, number: usize, code: &Code) -> Result<Points, Fault> {
+    let name = match layout.source.symbols.get(code.symbol) {
         Some(symbol) => symbol.name.clone()?,
-        None => String::new(alloc),
+        None => String::new(layout.alloc),
     };
     let mut maker = Maker {
-        source,
-        linked,
         layout,
-        starts: BTreeMap::new(alloc),
+        code: number,
         points: Points {
             name,
             line: code.line,
-            list: Vec::new(alloc),
+            list: Vec::new(layout.alloc),
         },
     };
-    maker.find_starts(code.items.as_slice())?;
-    for item in code.items.iter() {
+    for item in &code.items {
         maker.add(item)?;
     }
     Ok(maker.points)

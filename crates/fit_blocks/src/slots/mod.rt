@@ -3,5 +3,5 @@
 mod slots;
 mod starts;
 
-pub use slots::{behind_mark, may_go_before, restore_at, slot_of};
-pub use starts::{frame_and_start, mark_leads, number_leads};
+pub use slots::{is_behind_call, may_go_before, slot_of};
+pub use starts::{frame_and_start, mark_leads, number_marked};

@@ -1,7 +1,6 @@
 //! What stands at the places of a function's instructions.
 use crate::points::{Flow, Points, bit_of, fields_of, is_nop, operands_read, sets_codes, written};
 use fit_code::{Fault, Line, Step};
-use v8_formats::{Instr, Three};
 
 /// What stands in the delay slot behind a place, if it does something.
 pub fn slot_of(points: &Points, place: usize, line: Line) -> Result<Option<Step>, Fault> {
@@ -15,24 +14,12 @@ pub fn slot_of(points: &Points, place: usize, line: Line) -> Result<Option<Step>
     }
 }
 
-/// The fields of the RESTORE at a place.
-pub fn restore_at(points: &Points, place: usize) -> Option<Three> {
-    let point = points.list.get(place)?;
-    match point.step.instr {
-        Instr::Restore(fields) => Some(fields),
-        _ => None,
+/// Whether a place is behind a call and its slot, where a constant stands that says a struct is given.
+pub fn is_behind_call(points: &Points, place: usize) -> bool {
+    match points.list.get(place.saturating_sub(2)) {
+        Some(before) => place >= 2 && matches!(before.flow, Flow::Call),
+        None => false,
     }
-}
-
-/// The place behind the constant that stands behind a call which gives a struct: it says nothing here.
-pub fn behind_mark(points: &Points, place: usize, line: Line) -> Result<Option<usize>, Fault> {
-    if place >= 2
-        && let Some(before) = points.list.get(place.saturating_sub(2))
-        && let Flow::Call = before.flow
-    {
-        return Ok(Some(place.saturating_add(1)));
-    }
-    Err(points.fault(line, "UNIMP that isn't behind a call"))
 }
 
 /// Whether the slot of a branch may run before it: it doesn't set the codes, and doesn't write what the last

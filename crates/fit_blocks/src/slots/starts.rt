@@ -25,38 +25,48 @@ pub fn mark_leads(points: &Points, start: usize, leads: &mut [Option<usize>]) {
     }
 }
 
-/// Gives the places that are marked the numbers of blocks, in their order; says how many they are.
-pub fn number_leads(leads: &mut [Option<usize>]) -> usize {
-    let mut count: usize = 0;
-    for found in leads {
+/// Gives what is marked numbers from a first one on, in order; says which comes next.
+pub fn number_marked(marked: &mut [Option<usize>], first: usize) -> usize {
+    let mut next = first;
+    for found in marked {
         if found.is_some() {
-            *found = Some(count);
-            count = count.saturating_add(1);
+            *found = Some(next);
+            next = next.saturating_add(1);
         }
     }
-    count
+    next
 }
 
 /// The number that instructions before SAVE leave in a register, where they do nothing else.
 fn number_before(points: &Points, save: usize, register: Reg) -> Option<u32> {
     let mut known = None;
     for point in points.list.get(..save).unwrap_or(&[]) {
-        match point.step.instr {
-            Instr::Sethi(upper) if upper.rd == register => {
-                known = Some(upper.imm22.wrapping_mul(0x400));
-            }
-            Instr::Or(fields) | Instr::Add(fields) if fields.rd == register => {
-                let Operand::Immediate(number) = fields.operand2 else {
-                    return None;
-                };
-                known = match known {
-                    _ if fields.rs1 == Reg::G0 => Some(number),
-                    Some(before) if fields.rs1 == register => Some(number.wrapping_add(before)),
-                    _ => None,
-                };
-            }
+        let (rd, rs1, number) = match point.step.instr {
+            Instr::Sethi(upper) => (upper.rd, Reg::G0, upper.imm22.wrapping_mul(0x400)),
+            Instr::Or(
+                Three {
+                    rd,
+                    rs1,
+                    operand2: Operand::Immediate(number),
+                },
+            )
+            | Instr::Add(
+                Three {
+                    rd,
+                    rs1,
+                    operand2: Operand::Immediate(number),
+                },
+            ) => (rd, rs1, number),
             _ => return None,
+        };
+        if rd != register {
+            return None;
         }
+        known = match known {
+            _ if rs1 == Reg::G0 => Some(number),
+            Some(before) if rs1 == register => Some(number.wrapping_add(before)),
+            _ => None,
+        };
     }
     known
 }

@@ -1,11 +1,9 @@
 //! Arguments in memory. Nothing recurses, so each function has one place in the data for the arguments that its
 //! callers leave at `%sp + 64` and behind: the address of a struct that is returned, the seventh argument and
 //! further ones.
-use crate::places::STACK_POINTER;
-use fit_blocks::{Layout, Points, access_of, fields_of, push_step, signed, written};
+use fit_blocks::{Access, Layout, access_of, fields_of, form_fault, push_step, signed, step_of};
 use fit_code::{Block, End, Fault, Function, Line, Step};
-use std::alloc::{AllocError, Global};
-use v8_formats::{Instr, Operand, Three, Upper};
+use v8_formats::{Instr, Operand, Three, Upper, decode, encode};
 use v8_word::Reg;
 
 /// Where arguments in memory begin, from the stack pointer on.
@@ -14,6 +12,9 @@ const FIRST: i64 = 64;
 /// How many bytes of arguments a function may have in memory.
 const BYTES: usize = 512;
 
+/// The bits of a word in which the fields rd, rs1 and operand2 stand.
+const FIELDS: u32 = 0x3e07_ffff;
+
 /// The register that holds the address of a place in the data for the instruction behind it.
 pub fn scratch() -> Reg {
     Reg::new(6).unwrap_or(Reg::G0)
@@ -21,131 +22,51 @@ pub fn scratch() -> Reg {
 
 /// A step of the same line.
 pub fn beside(step: &Step, instr: Instr, object: Option<usize>) -> Step {
-    Step {
-        instr,
-        line: step.line,
-        callee: None,
-        object,
-        slot: None,
-    }
+    let mut made = step_of(instr, step.line);
+    made.object = object;
+    made
 }
 
 /// The same access, sum, difference or compare with other fields.
-pub fn with_fields(instr: &Instr, fields: Three) -> Option<Instr> {
-    Some(match instr {
-        Instr::Add(_) => Instr::Add(fields),
-        Instr::Sub(_) => Instr::Sub(fields),
-        Instr::SubCc(_) => Instr::SubCc(fields),
-        Instr::Load(_) => Instr::Load(fields),
-        Instr::LoadUnsignedByte(_) => Instr::LoadUnsignedByte(fields),
-        Instr::LoadUnsignedHalf(_) => Instr::LoadUnsignedHalf(fields),
-        Instr::LoadDouble(_) => Instr::LoadDouble(fields),
-        Instr::LoadSignedByte(_) => Instr::LoadSignedByte(fields),
-        Instr::LoadSignedHalf(_) => Instr::LoadSignedHalf(fields),
-        Instr::Store(_) => Instr::Store(fields),
-        Instr::StoreByte(_) => Instr::StoreByte(fields),
-        Instr::StoreHalf(_) => Instr::StoreHalf(fields),
-        Instr::StoreDouble(_) => Instr::StoreDouble(fields),
-        Instr::Swap(_) => Instr::Swap(fields),
-        Instr::LoadStoreUnsignedByte(_) => Instr::LoadStoreUnsignedByte(fields),
-        _ => return None,
-    })
-}
-
-/// The register that a step leaves its result in.
-fn destination(step: &Step) -> Reg {
-    match fields_of(&step.instr) {
-        Some(fields) => fields.rd,
-        None => Reg::G0,
-    }
+pub fn with_fields(instr: &Instr, fields: Three) -> Instr {
+    decode(encode(instr) & !FIELDS | encode(&Instr::Add(fields)) & FIELDS)
 }
 
 /// The access of a step, by the scratch register and the low bits of an address.
-fn access_at(step: &Step, address: u32) -> Instr {
-    let fields = Three {
-        rd: destination(step),
-        rs1: scratch(),
-        operand2: Operand::Immediate(address & 0x3ff),
+fn access_at(step: &Step, operand2: Operand) -> Instr {
+    let rd = match fields_of(&step.instr) {
+        Some(fields) => fields.rd,
+        None => Reg::G0,
     };
-    match with_fields(&step.instr, fields) {
-        Some(instr) => instr,
-        None => step.instr,
-    }
+    let rs1 = scratch();
+    with_fields(&step.instr, Three { rd, rs1, operand2 })
 }
 
-/// Pushes SETHI of an address that an object has, and an instruction that takes it from there.
-fn push_behind_high(
-    step: &Step,
-    object: usize,
-    high: Upper,
-    instr: Instr,
-    out: &mut Vec<Step>,
-) -> Result<(), AllocError> {
-    push_step(out, beside(step, Instr::Sethi(high), Some(object)))?;
-    push_step(out, beside(step, instr, Some(object)))
-}
-
-/// Pushes an access whose address is a place in an object.
-pub fn push_access(
+/// Pushes the access of a step to a place in an object, behind SETHI of its address; or, where a register is named,
+/// steps that leave that address in it.
+pub fn push_at(
     layout: &Layout,
     object: usize,
     offset: i64,
     step: &Step,
+    made: Option<Reg>,
     out: &mut Vec<Step>,
-) -> Result<(), AllocError> {
+) -> Result<(), Fault> {
     let address = layout.address(object, offset);
-    let high = Upper {
-        rd: scratch(),
+    let operand2 = Operand::Immediate(address & 0x3ff);
+    let (base, instr) = match made {
+        Some(rd) => {
+            let rs1 = rd;
+            (rd, Instr::Or(Three { rd, rs1, operand2 }))
+        }
+        None => (scratch(), access_at(step, operand2)),
+    };
+    let high = Instr::Sethi(Upper {
+        rd: base,
         imm22: address >> 10,
-    };
-    push_behind_high(step, object, high, access_at(step, address), out)
-}
-
-/// Pushes steps that leave the address of a place in an object in a register.
-pub fn push_address(
-    layout: &Layout,
-    object: usize,
-    offset: i64,
-    step: &Step,
-    rd: Reg,
-    out: &mut Vec<Step>,
-) -> Result<(), AllocError> {
-    let address = layout.address(object, offset);
-    let imm22 = address >> 10;
-    let low = Instr::Or(Three {
-        rd,
-        rs1: rd,
-        operand2: Operand::Immediate(address & 0x3ff),
     });
-    push_behind_high(step, object, Upper { rd, imm22 }, low, out)
-}
-
-/// The places of arguments of all functions, by the numbers of the source's functions.
-#[derive(Drop)]
-pub struct Arguments {
-    places: Vec<Option<usize>>,
-}
-
-impl Arguments {
-    /// No place yet, of so many functions.
-    pub fn new(alloc: Global, functions: usize) -> Result<Arguments, Fault> {
-        Ok(Arguments {
-            places: vec![in alloc; None; functions]?,
-        })
-    }
-
-    /// The object of a function's arguments, which a line asks for.
-    fn place(&mut self, layout: &mut Layout, function: usize, line: Line) -> Result<usize, Fault> {
-        if let Some(Some(object)) = self.places.get(function) {
-            return Ok(*object);
-        }
-        let name = format!(in layout.alloc; "arguments of function {function}")?;
-        let object = layout.add_zeros(name, BYTES, line)?;
-        if let Some(place) = self.places.get_mut(function) {
-            *place = Some(object);
-        }
-        Ok(object)
-    }
+    push_step(out, beside(step, high, Some(object)))?;
+    push_step(out, beside(step, instr, Some(object)))
 }
 
 /// The place of so many bytes among the arguments in memory behind a register, where the fields name that register and
@@ -194,7 +115,6 @@ fn next_call(function: &Function, block: usize, place: usize) -> Option<usize> {
 /// A function whose steps are put otherwise, by its number in the source.
 #[derive(Clone, Copy)]
 struct Own<'f> {
-    points: &'f Points,
     function: &'f Function,
     number: usize,
     /// The register from which it reaches its own arguments.
@@ -202,16 +122,14 @@ struct Own<'f> {
 }
 
 impl Own<'_> {
-    /// The number of the function whose arguments a step at a place loads or stores, with the place of these bytes.
+    /// The number of the function whose arguments an access at a place is to, with the place of these bytes.
     fn argument_of(
         &self,
         block: usize,
         place: usize,
-        step: &Step,
+        line: Line,
+        access: &Access,
     ) -> Result<Option<(usize, i64)>, Fault> {
-        let Some(access) = access_of(&step.instr) else {
-            return Ok(None);
-        };
         if let Some(offset) = argument_at(&access.fields, self.base, access.bytes) {
             return Ok(Some((self.number, offset)));
         }
@@ -223,95 +141,72 @@ impl Own<'_> {
         };
         match next_call(self.function, block, place) {
             Some(callee) => Ok(Some((callee, offset))),
-            None => Err(
-                self.points
-                    .fault(step.line, "an argument in memory, and no call behind it"),
-            ),
-        }
-    }
-
-    /// The address of the function's own arguments that a step makes, and the register that it leaves it in.
-    fn address_of(&self, step: &Step) -> Option<(i64, Reg)> {
-        match step.instr {
-            Instr::Add(fields) if fields.rd != Reg::SP => {
-                Some((argument_at(&fields, self.base, 0)?, fields.rd))
+            None => {
+                let what = "an argument in memory, and no call behind it";
+                Err(form_fault(&self.function.name, line, what))
             }
-            _ => None,
         }
     }
 
-    /// Pushes a step at a place, with what it has to do with arguments in memory put otherwise.
+    /// Pushes a step at a place, with what it has to do with arguments in memory put otherwise: an access to them, and a
+    /// sum that is the address of the function's own.
     fn push_placed(
         &self,
         (block, place): (usize, usize),
         step: &Step,
-        arguments: &mut Arguments,
         layout: &mut Layout,
         out: &mut Vec<Step>,
     ) -> Result<(), Fault> {
-        if let Some((callee, offset)) = self.argument_of(block, place, step)? {
-            let object = arguments.place(layout, callee, step.line)?;
-            return Ok(push_access(layout, object, offset, step, out)?);
+        let (access, made) = match step.instr {
+            Instr::Add(fields) if fields.rd != Reg::SP => {
+                let access = Access {
+                    fields,
+                    bytes: 0,
+                    stores: false,
+                };
+                (Some(access), Some(fields.rd))
+            }
+            other => (access_of(&other), None),
+        };
+        if let Some(access) = access
+            && let Some((function, offset)) = self.argument_of(block, place, step.line, &access)?
+        {
+            let object = layout.arguments_of(function, BYTES, step.line)?;
+            return push_at(layout, object, offset, step, made, out);
         }
-        if let Some((offset, rd)) = self.address_of(step) {
-            let object = arguments.place(layout, self.number, step.line)?;
-            return Ok(push_address(layout, object, offset, step, rd, out)?);
-        }
-        Ok(push_step(out, *step)?)
+        push_step(out, *step)
     }
 
     /// The steps of a block with what they have to do with arguments in memory put otherwise.
-    fn placed_steps(
-        &self,
-        block: usize,
-        arguments: &mut Arguments,
-        layout: &mut Layout,
-    ) -> Result<Vec<Step>, Fault> {
+    fn placed_steps(&self, block: usize, layout: &mut Layout) -> Result<Vec<Step>, Fault> {
         let mut steps = Vec::new(layout.alloc);
         if let Some(found) = self.function.blocks.get(block) {
             for (place, step) in found.steps.iter().enumerate() {
-                self.push_placed((block, place), step, arguments, layout, &mut steps)?;
+                self.push_placed((block, place), step, layout, &mut steps)?;
             }
         }
         Ok(steps)
     }
 }
 
-/// Whether a function without a window moves %sp, to have room of its own there.
-pub fn moves_stack(function: &Function) -> bool {
-    for block in &function.blocks {
-        for step in &block.steps {
-            if !function.framed && written(&step.instr) & STACK_POINTER != 0 {
-                return true;
-            }
-        }
-    }
-    false
-}
-
-/// Puts a function's accesses to arguments in memory otherwise. `number` is its number in the source.
+/// Puts a function's accesses to arguments in memory otherwise, where it has no room of its own behind %sp. `number` is
+/// its number in the source.
 ///
 /// # Errors
 /// Where an argument is stored, and a branch comes before the next call.
 pub fn place_arguments(
-    points: &Points,
     number: usize,
     function: &mut Function,
-    arguments: &mut Arguments,
     layout: &mut Layout,
 ) -> Result<(), Fault> {
-    if moves_stack(function) {
-        return Ok(());
-    }
     let base = if function.framed { Reg::FP } else { Reg::SP };
     for block in 0..function.blocks.len() {
         let own = Own {
-            points,
             function,
             number,
             base,
         };
-        let steps = own.placed_steps(block, arguments, layout)?;
+        let steps = own.placed_steps(block, layout)?;
         if let Some(found) = function.blocks.get_mut(block) {
             found.steps = steps;
         }

@@ -2,7 +2,4 @@
 //! arguments that don't fit in registers have a place in the data.
 mod arguments;
 
-pub use arguments::{
-    Arguments, beside, moves_stack, place_arguments, push_access, push_address, scratch,
-    with_fields,
-};
+pub use arguments::{beside, place_arguments, push_at, scratch, with_fields};

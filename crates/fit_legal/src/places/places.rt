@@ -91,32 +91,27 @@ pub fn word_step(step: &Step, stores: bool, place: i64, rd: Reg) -> Step {
     beside(step, moved_word(stores, fields), None)
 }
 
-/// The place of the frame that an OR moves the address of.
-fn place_moved(fields: &Three, size: u32) -> Option<i64> {
-    match fields.operand2 {
-        Operand::Register(second) if fields.rs1 == Reg::G0 => base_of(second, size),
-        Operand::Immediate(number) if number == 0 => base_of(fields.rs1, size),
-        _ => None,
-    }
-}
-
-/// The place of the frame that a difference is the address of.
-fn place_below(fields: &Three, size: u32) -> Option<i64> {
-    let base = base_of(fields.rs1, size)?;
-    match fields.operand2 {
-        Operand::Immediate(number) => Some(base.saturating_sub(signed(number))),
-        Operand::Register(_) => None,
-    }
-}
-
-/// The place in the frame whose address an instruction makes, and the register that it leaves it in.
+/// The place in the frame whose address an instruction makes, a sum, a difference or a move; and the register that it
+/// leaves it in.
 pub fn address_made(instr: &Instr, size: u32) -> Option<(i64, Reg)> {
-    match instr {
-        Instr::Add(fields) => Some((place_of(fields, size)?, fields.rd)),
-        Instr::Or(fields) => Some((place_moved(fields, size)?, fields.rd)),
-        Instr::Sub(fields) => Some((place_below(fields, size)?, fields.rd)),
-        _ => None,
-    }
+    let (fields, sign) = match instr {
+        Instr::Add(fields) => (fields, 1),
+        Instr::Sub(fields) => (fields, -1),
+        Instr::Or(fields) => (fields, 0),
+        _ => return None,
+    };
+    let (register, number) = match fields.operand2 {
+        Operand::Immediate(number) if sign != 0 || number == 0 => (fields.rs1, signed(number)),
+        Operand::Register(second) if sign == 0 && fields.rs1 == Reg::G0 => (second, 0),
+        _ => return None,
+    };
+    let base = base_of(register, size)?;
+    let place = if sign < 0 {
+        base.saturating_sub(number)
+    } else {
+        base.saturating_add(number)
+    };
+    Some((place, fields.rd))
 }
 
 /// A step with the scratch register in the place of %sp or %fp, where one alone of its operands is that; and the offset
@@ -132,18 +127,33 @@ pub fn by_scratch(step: &Step, object: usize, size: u32) -> Option<(i64, Step)> 
         (None, Some(base)) => (base, rs1, Operand::Register(scratch())),
         _ => return None,
     };
-    let instr = with_fields(&step.instr, Three { rd, rs1, operand2 })?;
+    match step.instr {
+        Instr::Add(_) | Instr::Sub(_) | Instr::SubCc(_) => {}
+        other => {
+            let _ = access_of(&other)?;
+        }
+    }
+    let instr = with_fields(&step.instr, Three { rd, rs1, operand2 });
     Some((base, beside(step, instr, Some(object))))
 }
 
 /// How many bytes a step takes from %sp.
 pub fn taken_by(step: &Step) -> Option<i64> {
     match step.instr {
-        Instr::Add(fields) | Instr::Sub(fields) if fields.rd == Reg::SP && fields.rs1 == Reg::SP =>
-            match fields.operand2 {
-                Operand::Immediate(number) => Some(signed(number).saturating_abs()),
-                Operand::Register(_) => None,
+        Instr::Add(
+            Three {
+                rd,
+                rs1,
+                operand2: Operand::Immediate(number),
             },
+        )
+        | Instr::Sub(
+            Three {
+                rd,
+                rs1,
+                operand2: Operand::Immediate(number),
+            },
+        ) if rd == Reg::SP && rs1 == Reg::SP => Some(signed(number).saturating_abs()),
         _ => None,
     }
 }
