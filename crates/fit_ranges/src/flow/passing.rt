@@ -11,18 +11,14 @@ const LOST: u32 = 0xfffe;
 
 /// Adds what is read and written.
 fn add_effects(touched: &mut Locations, effects: &Effects) {
-    touched.insert_registers(effects.reads | effects.writes);
-    for word in &[effects.word_read, effects.word_written] {
-        if let Some(word) = word {
-            touched.insert(*word);
-        }
-    }
+    touched.insert(effects.reads | effects.writes, effects.word_read);
+    touched.insert(0, effects.word_written);
 }
 
 /// Adds what a step reads and writes.
 fn add_step(touched: &mut Locations, frame: u32, step: &Step) {
     match step.callee {
-        Some(_) => touched.insert_registers(LOST),
+        Some(_) => touched.insert(LOST, None),
         None => add_effects(touched, &effects_of(frame, &step.instr)),
     }
     if let Some(slot) = &step.slot {
