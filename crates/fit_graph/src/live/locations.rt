@@ -2,7 +2,7 @@
 use std::alloc::{AllocError, Global};
 
 /// A set of registers and frame words, by their numbers as locations: 1 to 31, and 32 + k for word k of the frame.
-#[derive(Clone, Copy)]
+#[derive(Clone, Copy, PartialEq, Eq)]
 pub struct Locations {
     words: [u64; 17],
 }
@@ -52,12 +52,7 @@ impl Locations {
         for place in 0..17 {
             self.words[place] |= other.words[place];
         }
-        !self.is_same(&before)
-    }
-
-    /// Whether another set has the same locations.
-    pub fn is_same(&self, other: &Locations) -> bool {
-        self.words == other.words
+        *self != before
     }
 
     /// The locations of the set, the least first.

@@ -1,7 +1,7 @@
 //! The ranges of one function: what is known where its blocks begin, found by going along all ways until nothing new
 //! comes.
 use crate::flow::known::{Known, is_at, replace};
-use crate::flow::passing::{are_same_to, touched_by};
+use crate::flow::passing::{are_same_to, touched_in};
 use fit_cells::{
     Growth, Shape, Thresholds, enter, go_along, joined, range_in, return_from, run_step,
     run_to_call, thresholds_of,
@@ -194,12 +194,15 @@ impl Flow {
 
     /// Makes room for a function's blocks, none of which is to be visited.
     fn extend(&mut self, alloc: Global, function: &Function) -> Result<(), AllocError> {
-        for _ in self.visits.len()..function.blocks.len() {
-            self.known.add_block()?;
-            self.visits.push(NO_VISITS)?;
-        }
         self.pending.places = vec![in alloc; false; self.shape.order.blocks.len()]?;
-        self.touched = touched_by(alloc, function)?;
+        self.touched.clear();
+        for (number, block) in function.blocks.iter().enumerate() {
+            self.touched.push(touched_in(function.frame, block))?;
+            if number >= self.visits.len() {
+                self.known.add_block()?;
+                self.visits.push(NO_VISITS)?;
+            }
+        }
         Ok(())
     }
 
@@ -446,6 +449,23 @@ impl Flow {
         }
     }
 
+    /// Puts cells in the place of a block's, those that are said with the ranges that are said. Says whether all that is
+    /// new in them is passed on; nothing where nothing is new.
+    fn take(
+        &mut self,
+        setting: &Setting,
+        block: usize,
+        mut cells: Option<Vec<Cell>>,
+    ) -> Option<bool> {
+        setting.put_said(block, &mut cells);
+        let passes = self.passes_on(block, &cells);
+        if replace(&mut self.known.cells, block, cells) {
+            Some(passes)
+        } else {
+            None
+        }
+    }
+
     /// Visits a block, whose cells grow.
     fn raise(
         &mut self,
@@ -458,18 +478,15 @@ impl Flow {
             Some(visits) => visits.changes,
             None => 0,
         };
-        let mut cells = self.raised(setting.alloc, thresholds, block, changes)?;
-        setting.put_said(block, &mut cells);
-        let passes = self.passes_on(block, &cells);
-        let is_new = match cells {
-            Some(cells) => replace(&mut self.known.cells, block, Some(cells)),
-            None => false,
+        let passes = match self.raised(setting.alloc, thresholds, block, changes)? {
+            Some(cells) => self.take(setting, block, Some(cells)),
+            None => None,
         };
-        if is_new || (block == 0 && changes == 0) {
+        if passes.is_some() || (block == 0 && changes == 0) {
             if let Some(visits) = self.visits.get_mut(block) {
                 visits.changes = visits.changes.saturating_add(1);
             }
-            self.go_on(setting, block, passes, state)?;
+            self.go_on(setting, block, passes == Some(true), state)?;
         }
         Ok(())
     }
@@ -518,12 +535,10 @@ impl Flow {
         if block == 0 {
             return Ok(());
         }
-        let mut cells = self
+        let cells = self
             .known
             .common(setting.alloc, &self.shape, block, usize::MAX)?;
-        setting.put_said(block, &mut cells);
-        let passes = self.passes_on(block, &cells);
-        if replace(&mut self.known.cells, block, cells)
+        if let Some(passes) = self.take(setting, block, cells)
             && let Some(visits) = self.visits.get_mut(block)
         {
             visits.narrowings = visits.narrowings.saturating_add(1);

@@ -1,10 +1,9 @@
 //! What blocks pass on: a location that no step of a block reads or writes has the same range behind the block as
 //! before it, whatever that is, and decides nothing else.
 use fit_cells::range_in;
-use fit_code::{Block, Function, Step};
+use fit_code::{Block, Step};
 use fit_graph::{Effects, Locations, effects_of};
 use sbx_range::Cell;
-use std::alloc::{AllocError, Global};
 
 /// The registers that a call leaves undefined or with its results: globals and outs.
 const LOST: u32 = 0xfffe;
@@ -27,7 +26,7 @@ fn add_step(touched: &mut Locations, frame: u32, step: &Step) {
 }
 
 /// The locations that a block reads or writes. What its branch is taken by is among them, since a compare reads it.
-fn touched_in(frame: u32, block: &Block) -> Locations {
+pub fn touched_in(frame: u32, block: &Block) -> Locations {
     let mut touched = Locations::none();
     for step in &block.steps {
         add_step(&mut touched, frame, step);
@@ -36,15 +35,6 @@ fn touched_in(frame: u32, block: &Block) -> Locations {
         add_effects(&mut touched, &effects_of(frame, slot));
     }
     touched
-}
-
-/// The same of each block of a function.
-pub fn touched_by(alloc: Global, function: &Function) -> Result<Vec<Locations>, AllocError> {
-    let mut touched = Vec::with_capacity(alloc, function.blocks.len())?;
-    for block in &function.blocks {
-        touched.push(touched_in(function.frame, block))?;
-    }
-    Ok(touched)
 }
 
 /// Whether the same locations are known, and those that are touched by the same ranges.

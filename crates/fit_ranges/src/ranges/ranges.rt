@@ -51,17 +51,6 @@ const ZERO: Range = Range {
     alignment: 3,
 };
 
-/// Whether the same locations are live where blocks begin.
-fn are_same(a: &[Locations], b: &[Locations]) -> bool {
-    for (place, set) in a.iter().enumerate() {
-        match b.get(place) {
-            Some(other) if set.is_same(other) => {}
-            _ => return false,
-        }
-    }
-    a.len() == b.len()
-}
-
 /// Whether a block of a function is among some.
 fn has_block(blocks: &[(usize, usize)], function: usize) -> bool {
     for (other, _) in blocks {
@@ -274,7 +263,7 @@ impl Ranges {
     ) -> Result<(), AllocError> {
         for (number, function) in program.functions.iter().enumerate() {
             let live = liveness.of_function(number);
-            let is_same = are_same(self.liveness.of_function(number), live);
+            let is_same = self.liveness.of_function(number) == live;
             if let Some(flow) = self.flows.get_mut(number)
                 && (!is_same || has_block(changed, number))
             {
