@@ -30,14 +30,14 @@ fn grown(growth: Growth, location: u16, old: Range, new: Range) -> Range {
     if both.lo < old.lo {
         both.lo = match growth {
             Growth::Least => both.lo,
-            Growth::ToThresholds(thresholds) => thresholds.lower(location, both.lo),
+            Growth::ToThresholds(thresholds) => thresholds.next(location, both.lo, true),
             Growth::ToAll => i32::MIN,
         };
     }
     if both.hi > old.hi {
         both.hi = match growth {
             Growth::Least => both.hi,
-            Growth::ToThresholds(thresholds) => thresholds.upper(location, both.hi),
+            Growth::ToThresholds(thresholds) => thresholds.next(location, both.hi, false),
             Growth::ToAll => i32::MAX,
         };
     }

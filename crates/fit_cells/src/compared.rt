@@ -37,11 +37,11 @@ impl Held {
     }
 }
 
-/// Two locations that are compared with each other.
+/// A location that is compared with another one, whose numbers it gets.
 #[derive(Clone, Copy)]
 struct Pair {
-    first: u16,
-    second: u16,
+    to: u16,
+    from: u16,
 }
 
 /// What the locations of a function are compared with.
@@ -63,18 +63,13 @@ impl Registers {
     fn begun() -> Registers {
         let mut held = [Held::Number(0); 32];
         for location in 1..32u16 {
-            if let Some(place) = held.get_mut(usize::from(location)) {
-                *place = Held::Begun { location, more: 0 };
-            }
+            held[usize::from(location)] = Held::Begun { location, more: 0 };
         }
         Registers { held }
     }
 
     fn of(&self, register: Reg) -> Held {
-        self.held
-            .get(usize::from(register.number()))
-            .copied()
-            .unwrap_or(Held::Other)
+        self.held[usize::from(register.number())]
     }
 
     fn of_operand(&self, operand: Operand) -> Held {
@@ -85,10 +80,8 @@ impl Registers {
     }
 
     fn put(&mut self, register: Reg, held: Held) {
-        if register != Reg::G0
-            && let Some(place) = self.held.get_mut(usize::from(register.number()))
-        {
-            *place = held;
+        if register != Reg::G0 {
+            self.held[usize::from(register.number())] = held;
         }
     }
 
@@ -110,9 +103,9 @@ impl Registers {
 
     /// Forgets the registers of a mask.
     fn forget(&mut self, mask: u32) {
-        for (number, place) in self.held.iter_mut().enumerate() {
-            if number > 0 && mask >> (number % 32) & 1 == 1 {
-                *place = Held::Other;
+        for number in 1..32 {
+            if mask >> number & 1 == 1 {
+                self.held[number] = Held::Other;
             }
         }
     }
@@ -136,7 +129,7 @@ impl Compared {
         match (first, second) {
             (Held::Begun { location, more }, Held::Number(number))
             | (Held::Number(number), Held::Begun { location, more }) => {
-                self.add(location, number.saturating_sub(more))?;
+                self.add(location, number.saturating_sub(more))
             }
             (
                 Held::Begun {
@@ -147,17 +140,25 @@ impl Compared {
                     location: second,
                     ..
                 },
-            ) => self.pairs.push(Pair { first, second })?,
-            _ => {}
+            ) if first != second => self.pairs.extend_from_slice(&[
+                Pair {
+                    to: first,
+                    from: second,
+                },
+                Pair {
+                    to: second,
+                    from: first,
+                },
+            ]),
+            _ => Ok(()),
         }
-        Ok(())
     }
 
     /// A location gets the numbers of another one, unless they are many.
-    fn take_over(&mut self, alloc: Global, to: u16, from: u16) -> Result<(), AllocError> {
-        let taken = Vec::from_slice(alloc, self.numbers_of(from))?;
+    fn take_over(&mut self, alloc: Global, pair: Pair) -> Result<(), AllocError> {
+        let taken = Vec::from_slice(alloc, self.numbers_of(pair.from))?;
         if taken.len() <= MOST
-            && let Some(numbers) = self.numbers.get_mut(usize::from(to))
+            && let Some(numbers) = self.numbers.get_mut(usize::from(pair.to))
         {
             numbers.extend_from_slice(taken.as_slice())?;
         }
@@ -175,11 +176,8 @@ impl Compared {
     fn join_pairs(&mut self, alloc: Global) -> Result<(), AllocError> {
         self.sort();
         for place in 0..self.pairs.len() {
-            if let Some(pair) = self.pairs.get(place).copied()
-                && pair.first != pair.second
-            {
-                self.take_over(alloc, pair.first, pair.second)?;
-                self.take_over(alloc, pair.second, pair.first)?;
+            if let Some(pair) = self.pairs.get(place).copied() {
+                self.take_over(alloc, pair)?;
             }
         }
         self.sort();
@@ -249,22 +247,14 @@ impl Compared {
         Ok(())
     }
 
-    /// Makes room for all locations, and adds what a function compares.
-    fn fill(&mut self, alloc: Global, function: &Function) -> Result<(), AllocError> {
-        for _ in 0..LOCATIONS {
-            self.numbers.push(Vec::new(alloc))?;
-        }
-        self.add_blocks(function)?;
-        self.join_pairs(alloc)
-    }
-
     /// What a function compares.
     pub fn of(alloc: Global, function: &Function) -> Result<Compared, AllocError> {
         let mut compared = Compared {
-            numbers: Vec::with_capacity(alloc, LOCATIONS)?,
+            numbers: vec![in alloc; Vec::new(alloc); LOCATIONS]?,
             pairs: Vec::new(alloc),
         };
-        compared.fill(alloc, function)?;
+        compared.add_blocks(function)?;
+        compared.join_pairs(alloc)?;
         Ok(compared)
     }
 

@@ -1,46 +1,24 @@
 //! The order in which a function's ranges are looked for: loop by loop.
 use fit_code::Function;
-use fit_graph::{Loop, Order, loops_of, order_of, put_places};
+use fit_graph::{Loop, Order, loops_of, order_of};
 use std::alloc::{AllocError, Global};
 
-/// The place of a block.
-fn place_of(blocks: &[usize], block: usize) -> Option<usize> {
-    for (place, other) in blocks.iter().enumerate() {
-        if *other == block {
-            return Some(place);
+/// Some blocks with those of a loop right behind its head, in their order, and behind them those that stood between
+/// them.
+fn gathered(alloc: Global, blocks: &[usize], within: &Loop) -> Result<Vec<usize>, AllocError> {
+    let mut gathered = Vec::with_capacity(alloc, blocks.len())?;
+    let mut others = Vec::new(alloc);
+    let mut is_behind = false;
+    for block in blocks {
+        is_behind = is_behind || *block == within.head;
+        if is_behind && !within.has(*block) {
+            others.push(*block)?;
+        } else {
+            gathered.push(*block)?;
         }
     }
-    None
-}
-
-/// Those of some blocks that are in a loop, in their order, and behind them the others.
-fn parted(alloc: Global, blocks: &[usize], within: &Loop) -> Result<Vec<usize>, AllocError> {
-    let mut parted = Vec::with_capacity(alloc, blocks.len())?;
-    for is_inside in &[true, false] {
-        for block in blocks {
-            if within.has(*block) == *is_inside {
-                parted.push(*block)?;
-            }
-        }
-    }
-    Ok(parted)
-}
-
-/// Puts a loop's blocks right behind its head, in their order, and behind them those that stood between them.
-fn gather(alloc: Global, blocks: &mut [usize], within: &Loop) -> Result<(), AllocError> {
-    let Some(start) = place_of(blocks, within.head) else {
-        return Ok(());
-    };
-    let Some(behind) = blocks.get_mut(start..) else {
-        return Ok(());
-    };
-    let found = parted(alloc, behind, within)?;
-    for (place, block) in behind.iter_mut().enumerate() {
-        if let Some(other) = found.get(place) {
-            *block = *other;
-        }
-    }
-    Ok(())
+    gathered.extend_from_slice(others.as_slice())?;
+    Ok(gathered)
 }
 
 /// The blocks that can be reached from the first one, each before those that follow it but where a loop goes back, and
@@ -49,8 +27,8 @@ pub fn order_by_loops(alloc: Global, function: &Function) -> Result<Order, Alloc
     let loops = loops_of(alloc, function)?;
     let mut order = order_of(alloc, function)?;
     for within in &loops {
-        gather(alloc, order.blocks.as_mut_slice(), within)?;
+        order.blocks = gathered(alloc, order.blocks.as_slice(), within)?;
     }
-    put_places(order.places.as_mut_slice(), order.blocks.as_slice());
+    order.put_places();
     Ok(order)
 }

@@ -17,10 +17,10 @@ pub fn enter(function: &Function, params: &[Range], state: &mut State) {
         location,
         range: NONE,
     }; 6];
-    for (place, cell) in cells.iter_mut().enumerate() {
-        cell.location = location;
+    for place in 0..6 {
+        cells[place].location = location;
         if let Some(range) = params.get(place) {
-            cell.range = *range;
+            cells[place].range = *range;
         }
         location = location.saturating_add(1);
     }

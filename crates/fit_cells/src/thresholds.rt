@@ -23,11 +23,6 @@ const COMMON: [i32; 15] = [
     i32::MAX,
 ];
 
-/// How many numbers of a list, in which the least stand first, are below another one.
-fn count_below(list: &[i32], number: i64) -> usize {
-    list.partition_point(|threshold| i64::from(*threshold) < number)
-}
-
 /// Numbers with those before and behind them.
 fn around(a: i32, b: i32) -> [i32; 6] {
     [
@@ -119,25 +114,18 @@ impl Thresholds {
         }
     }
 
-    /// The greatest threshold of a location that isn't above a number.
-    pub(crate) fn lower(&self, location: u16, number: i32) -> i32 {
+    /// The next threshold of a location at or beyond a number: above it, or where `is_below` below it.
+    pub(crate) fn next(&self, location: u16, number: i32, is_below: bool) -> i32 {
         for list in &[self.compared.numbers_of(location), self.near(number)] {
-            let above = count_below(list, i64::from(number).saturating_add(1));
-            if let Some(found) = list.get(above.wrapping_sub(1)) {
+            let place = match list.binary_search(&number) {
+                Err(place) if is_below => place.wrapping_sub(1),
+                Ok(place) | Err(place) => place,
+            };
+            if let Some(found) = list.get(place) {
                 return *found;
             }
         }
-        i32::MIN
-    }
-
-    /// The least threshold of a location that isn't below a number.
-    pub(crate) fn upper(&self, location: u16, number: i32) -> i32 {
-        for list in &[self.compared.numbers_of(location), self.near(number)] {
-            if let Some(found) = list.get(count_below(list, i64::from(number))) {
-                return *found;
-            }
-        }
-        i32::MAX
+        if is_below { i32::MIN } else { i32::MAX }
     }
 }
 

@@ -6,7 +6,7 @@ mod graph;
 mod live;
 
 pub use graph::{
-    Loop, Order, Tangle, enters_beside_head, loops_of, order_of, predecessors_of, put_places,
-    reached_from, successors_in, successors_of, tangle_of, way_of, ways_to,
+    Loop, Order, Tangle, enters_beside_head, loops_of, order_of, predecessors_of, reached_from,
+    successors_in, successors_of, tangle_of, way_of, ways_to,
 };
 pub use live::{Effects, Liveness, Locations, effects_of, read_at_end};

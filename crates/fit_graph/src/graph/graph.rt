@@ -16,6 +16,15 @@ impl Order {
     pub fn place(&self, block: usize) -> Option<usize> {
         self.places.get(block).copied().flatten()
     }
+
+    /// Says for each block at which place it stands.
+    pub fn put_places(&mut self) {
+        for (place, block) in self.blocks.iter().enumerate() {
+            if let Some(found) = self.places.get_mut(*block) {
+                *found = Some(place);
+            }
+        }
+    }
 }
 
 /// The blocks that control may go to from a block, where a branch is taken first. None of a number that is no block's.
@@ -32,51 +41,64 @@ pub fn way_of(block: usize, way: usize) -> usize {
     block.saturating_mul(2).saturating_add(way)
 }
 
-/// For each block the ways that lead to it, by `way_of`.
-pub fn ways_to(alloc: Global, function: &Function) -> Result<Vec<Vec<usize>>, AllocError> {
-    let mut found: Vec<Vec<usize>> = Vec::new(alloc);
-    for _ in 0..function.blocks.len() {
-        found.push(Vec::new(alloc))?;
-    }
-    for from in 0..function.blocks.len() {
-        for (way, to) in successors_in(function, from).iter().enumerate() {
-            if let Some(to) = to
-                && let Some(ways) = found.get_mut(*to)
-            {
-                ways.push(way_of(from, way))?;
+/// What is listed for each block: the ways that lead to it, by `way_of`; the blocks that these come from, each as often
+/// as it stands there; or the blocks that it leads to, where a branch is taken first.
+#[derive(Clone, Copy)]
+enum Listed {
+    Ways,
+    Sources,
+    Targets,
+}
+
+fn list(alloc: Global, function: &Function, listed: Listed) -> Result<Vec<Vec<usize>>, AllocError> {
+    let count = function.blocks.len();
+    let mut lists: Vec<Vec<usize>> = vec![in alloc; Vec::new(alloc); count]?;
+    for way in 0..count.saturating_mul(2) {
+        let from = way / 2;
+        if let Some(to) = successors_in(function, from)[way % 2] {
+            let (block, other) = match listed {
+                Listed::Ways => (to, way),
+                Listed::Sources => (to, from),
+                Listed::Targets => (from, to),
+            };
+            if let Some(list) = lists.get_mut(block) {
+                list.push(other)?;
             }
         }
     }
-    Ok(found)
+    Ok(lists)
+}
+
+/// For each block the ways that lead to it, by `way_of`.
+pub fn ways_to(alloc: Global, function: &Function) -> Result<Vec<Vec<usize>>, AllocError> {
+    list(alloc, function, Listed::Ways)
 }
 
 /// For each block those that control comes from, each as often as it does.
 pub fn predecessors_of(alloc: Global, function: &Function) -> Result<Vec<Vec<usize>>, AllocError> {
-    let mut found = ways_to(alloc, function)?;
-    for ways in found.iter_mut() {
-        for way in ways.iter_mut() {
-            *way /= 2;
-        }
-    }
-    Ok(found)
+    list(alloc, function, Listed::Sources)
+}
+
+/// For each block those that control may go to, where a branch is taken first.
+pub fn successors_of(alloc: Global, function: &Function) -> Result<Vec<Vec<usize>>, AllocError> {
+    list(alloc, function, Listed::Targets)
 }
 
 /// A walk in depth: blocks that were entered and not left, each with the number of its next way.
 #[derive(Drop)]
 struct Walk {
-    entered: Vec<bool>,
     open: Vec<(usize, usize)>,
-    /// Those that were left, the first one first.
+    /// Those that were left, the first one first. Each that was entered has some place.
     order: Order,
 }
 
 impl Walk {
     /// Enters a block that wasn't entered.
     fn enter(&mut self, block: usize) -> Result<(), AllocError> {
-        if let Some(entered) = self.entered.get_mut(block)
-            && !*entered
+        if let Some(place) = self.order.places.get_mut(block)
+            && place.is_none()
         {
-            *entered = true;
+            *place = Some(0);
             self.open.push((block, 0))?;
         }
         Ok(())
@@ -91,43 +113,31 @@ impl Walk {
             let Some((block, way)) = self.open.pop() else {
                 break;
             };
-            match successors_in(function, block).get(way) {
-                Some(to) => {
-                    self.open.push((block, way.saturating_add(1)))?;
-                    if let Some(to) = to {
-                        self.enter(*to)?;
-                    }
+            if way < 2 {
+                self.open.push((block, way.saturating_add(1)))?;
+                if let Some(to) = successors_in(function, block)[way] {
+                    self.enter(to)?;
                 }
-                None => self.order.blocks.push(block)?,
+            } else {
+                self.order.blocks.push(block)?;
             }
         }
         Ok(())
     }
 }
 
-/// Says for each of some blocks at which place it stands.
-pub fn put_places(places: &mut [Option<usize>], blocks: &[usize]) {
-    for (place, block) in blocks.iter().enumerate() {
-        if let Some(found) = places.get_mut(*block) {
-            *found = Some(place);
-        }
-    }
-}
-
 /// The order of a function's blocks: reverse postorder, from the first block on.
 pub fn order_of(alloc: Global, function: &Function) -> Result<Order, AllocError> {
-    let count = function.blocks.len();
     let mut walk = Walk {
-        entered: vec![in alloc; false; count]?,
         open: Vec::new(alloc),
         order: Order {
-            places: vec![in alloc; None; count]?,
+            places: vec![in alloc; None; function.blocks.len()]?,
             blocks: Vec::new(alloc),
         },
     };
     walk.go_all(function)?;
     let mut order = walk.order;
     order.blocks.reverse();
-    put_places(order.places.as_mut_slice(), order.blocks.as_slice());
+    order.put_places();
     Ok(order)
 }

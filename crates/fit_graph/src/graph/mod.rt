@@ -6,7 +6,7 @@ mod loops;
 mod reach;
 mod tangles;
 
-pub use graph::{Order, order_of, predecessors_of, put_places, successors_in, way_of, ways_to};
+pub use graph::{Order, order_of, predecessors_of, successors_in, successors_of, way_of, ways_to};
 pub use loops::{Loop, enters_beside_head, loops_of};
 pub use reach::reached_from;
-pub use tangles::{Tangle, successors_of, tangle_of};
+pub use tangles::{Tangle, tangle_of};

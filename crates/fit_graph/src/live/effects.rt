@@ -17,23 +17,12 @@ pub struct Effects {
     pub word_written: Option<u16>,
 }
 
-const NOTHING: Effects = Effects {
-    reads: 0,
-    writes: 0,
-    word_read: None,
-    word_written: None,
-};
-
 /// The bit of %o0.
 const OUT_0: u32 = 1 << 8;
 
 /// A register's bit; %g0 has none.
 pub(crate) fn bit(register: Reg) -> u32 {
-    if register == Reg::G0 {
-        0
-    } else {
-        1 << register.number()
-    }
+    1 << register.number() & !1
 }
 
 pub(crate) fn bit_of(operand: Operand) -> u32 {
@@ -43,35 +32,34 @@ pub(crate) fn bit_of(operand: Operand) -> u32 {
     }
 }
 
-/// The registers that a transfer takes from memory.
-fn loaded(transfer: Transfer, rd: Reg) -> u32 {
+/// The registers that a transfer brings to memory, and those that it takes from there.
+fn moved(transfer: Transfer, rd: Reg) -> (u32, u32) {
     match transfer {
-        Transfer::Load(Loading::Double) => bit(rd) | bit(odd_of(rd)),
-        Transfer::Load(_) | Transfer::Exchange(_) => bit(rd),
-        Transfer::Store(_) => 0,
+        Transfer::Load(Loading::Double) => (0, bit(rd) | bit(odd_of(rd))),
+        Transfer::Load(_) | Transfer::Exchange(Exchange::Ones) => (0, bit(rd)),
+        Transfer::Store(Size::Double) => (bit(rd) | bit(odd_of(rd)), 0),
+        Transfer::Store(_) => (bit(rd), 0),
+        Transfer::Exchange(Exchange::Register) => (bit(rd), bit(rd)),
     }
 }
 
-/// The registers that a transfer brings to memory.
-fn stored(transfer: Transfer, rd: Reg) -> u32 {
-    match transfer {
-        Transfer::Store(Size::Double) => bit(rd) | bit(odd_of(rd)),
-        Transfer::Store(_) | Transfer::Exchange(Exchange::Register) => bit(rd),
-        Transfer::Load(_) | Transfer::Exchange(Exchange::Ones) => 0,
+/// What reads and writes registers alone.
+fn of_registers(reads: u32, writes: u32) -> Effects {
+    Effects {
+        reads,
+        writes,
+        word_read: None,
+        word_written: None,
     }
 }
 
 /// A load, a store or an exchange, of a word of the frame or elsewhere.
 fn of_transfer(frame: u32, transfer: Transfer, operand: &MemoryOperand) -> Effects {
-    let reads = stored(transfer, operand.rd);
-    let writes = loaded(transfer, operand.rd);
+    let (reads, writes) = moved(transfer, operand.rd);
     let word = frame_word_of(frame, operand);
     if word.is_none() {
-        return Effects {
-            reads: reads | bit(operand.rs1) | bit_of(operand.operand2),
-            writes,
-            ..NOTHING
-        };
+        let address = bit(operand.rs1) | bit_of(operand.operand2);
+        return of_registers(reads | address, writes);
     }
     Effects {
         reads,
@@ -90,38 +78,22 @@ fn of_transfer(frame: u32, transfer: Transfer, operand: &MemoryOperand) -> Effec
 /// What an instruction other than CALL, SAVE and RESTORE reads and writes in a frame of so many bytes, 0 in a leaf.
 /// `ta n` that exits or puts reads %o0, one that gets writes it.
 pub fn effects_of(frame: u32, instr: &Instr) -> Effects {
-    match operation_of(instr) {
+    let (reads, writes) = match operation_of(instr) {
         Operation::Compute(_, fields)
         | Operation::Divide(_, fields)
-        | Operation::TaggedTrap(_, fields) => Effects {
-            reads: bit(fields.rs1) | bit_of(fields.operand2),
-            writes: bit(fields.rd),
-            ..NOTHING
-        },
-        Operation::SetHigh(fields) => Effects {
-            writes: bit(fields.rd),
-            ..NOTHING
-        },
-        Operation::ReadY(rd) => Effects {
-            writes: bit(rd),
-            ..NOTHING
-        },
-        Operation::WriteY(fields) => Effects {
-            reads: bit(fields.rs1) | bit_of(fields.operand2),
-            ..NOTHING
-        },
-        Operation::Transfer(transfer, operand) => of_transfer(frame, transfer, &operand),
+        | Operation::TaggedTrap(_, fields) => {
+            (bit(fields.rs1) | bit_of(fields.operand2), bit(fields.rd))
+        }
+        Operation::SetHigh(fields) => (0, bit(fields.rd)),
+        Operation::ReadY(rd) => (0, bit(rd)),
+        Operation::WriteY(fields) => (bit(fields.rs1) | bit_of(fields.operand2), 0),
+        Operation::Transfer(transfer, operand) => return of_transfer(frame, transfer, &operand),
         Operation::TrapOnCondition(trap) => match service_of(&trap) {
-            Some(1) => Effects {
-                writes: OUT_0,
-                ..NOTHING
-            },
-            Some(_) => Effects {
-                reads: OUT_0,
-                ..NOTHING
-            },
-            None => NOTHING,
+            Some(1) => (0, OUT_0),
+            Some(_) => (OUT_0, 0),
+            None => (0, 0),
         },
-        _ => NOTHING,
-    }
+        _ => (0, 0),
+    };
+    of_registers(reads, writes)
 }

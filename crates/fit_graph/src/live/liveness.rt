@@ -18,10 +18,15 @@ pub struct Counts {
 pub struct Liveness {
     /// Of each function.
     pub counts: Vec<Counts>,
-    /// Of each function and each of its blocks what is live where it begins.
-    pub live: Vec<Vec<Locations>>,
-    /// Of each function.
-    orders: Vec<Order>,
+    functions: Vec<FunctionLiveness>,
+}
+
+/// What is live in a function.
+#[derive(Drop)]
+struct FunctionLiveness {
+    order: Order,
+    /// Of each block what is live where it begins.
+    live: Vec<Locations>,
 }
 
 /// As many rounds as liveness may take over one function, and over the program.
@@ -45,14 +50,8 @@ fn last_register(from: u32, registers: u32) -> u8 {
 
 /// Before what reads and writes so.
 fn pass(live: &mut Locations, effects: &Effects) {
-    live.remove_registers(effects.writes);
-    if let Some(word) = effects.word_written {
-        live.remove(word);
-    }
-    live.insert_registers(effects.reads);
-    if let Some(word) = effects.word_read {
-        live.insert(word);
-    }
+    live.remove(effects.writes, effects.word_written);
+    live.insert(effects.reads, effects.word_read);
 }
 
 /// Before a step. The callee of a call is asked for as many results as are live behind it.
@@ -60,8 +59,8 @@ fn pass_step(live: &mut Locations, counts: &mut [Counts], frame: u32, step: &Ste
     if let Some(callee) = step.callee {
         if let Some(counts) = counts.get_mut(callee) {
             counts.results = counts.results.max(last_register(8, live.registers()));
-            live.remove_registers(0xfffe);
-            live.insert_registers(first_registers(8, counts.params));
+            live.remove(0xfffe, None);
+            live.insert(first_registers(8, counts.params), None);
         }
     } else {
         pass(live, &effects_of(frame, &step.instr));
@@ -100,9 +99,10 @@ pub fn read_at_end(function: &Function, results: u8, end: &End) -> u32 {
 /// What is live behind the steps of a block.
 fn live_behind(function: &Function, results: u8, block: &Block, live: &[Locations]) -> Locations {
     let mut behind = Locations::none();
-    for to in &block.end.ways() {
-        if let Some(to) = to
-            && let Some(next) = live.get(*to)
+    let ways = block.end.ways();
+    for way in 0..2 {
+        if let Some(to) = ways[way]
+            && let Some(next) = live.get(to)
         {
             behind.add(next);
         }
@@ -110,7 +110,7 @@ fn live_behind(function: &Function, results: u8, block: &Block, live: &[Location
     if let Some(slot) = &block.slot {
         pass(&mut behind, &effects_of(function.frame, slot));
     }
-    behind.insert_registers(read_at_end(function, results, &block.end));
+    behind.insert(read_at_end(function, results, &block.end), None);
     behind
 }
 
@@ -129,24 +129,20 @@ fn live_before(
     before
 }
 
-/// Goes over the blocks of a function once, the last ones first. Says whether more is live somewhere.
-fn pass_function(
-    function: &Function,
-    results: u8,
-    order: &Order,
-    live: &mut Vec<Locations>,
-    counts: &mut [Counts],
-) -> bool {
-    let mut grew = false;
-    for number in order.blocks.iter().rev() {
-        if let Some(block) = function.blocks.get(*number) {
-            let before = live_before(function, results, block, live.as_slice(), counts);
-            if let Some(known) = live.get_mut(*number) {
-                grew = known.add(&before) || grew;
+impl FunctionLiveness {
+    /// Goes over the blocks of the function once, the last ones first. Says whether more is live somewhere.
+    fn pass(&mut self, function: &Function, results: u8, counts: &mut [Counts]) -> bool {
+        let mut grew = false;
+        for number in self.order.blocks.iter().rev() {
+            if let Some(block) = function.blocks.get(*number) {
+                let before = live_before(function, results, block, self.live.as_slice(), counts);
+                if let Some(known) = self.live.get_mut(*number) {
+                    grew = known.add(&before) || grew;
+                }
             }
         }
+        grew
     }
-    grew
 }
 
 fn unsettled() -> Fault {
@@ -166,39 +162,22 @@ const NONE: Counts = Counts {
 };
 
 impl Liveness {
-    /// Nothing is live yet in a program's functions.
-    fn begin(&mut self, alloc: Global, program: &Program) -> Result<(), AllocError> {
-        for function in &program.functions {
-            self.orders.push(order_of(alloc, function)?)?;
-            let live = vec![in alloc; Locations::none(); function.blocks.len()]?;
-            self.live.push(live)?;
-        }
-        Ok(())
-    }
-
-    /// Counts what a function takes for granted at its entry. The first function of a program is called by nobody.
-    fn count_params(&mut self, number: usize, function: &Function) {
-        let from = if function.framed { 24 } else { 8 };
-        let registers = match self.of_function(number).first() {
-            Some(first) => first.registers(),
-            None => 0,
-        };
-        if number > 0
-            && let Some(counts) = self.counts.get_mut(number)
-        {
-            counts.params = counts.params.max(last_register(from, registers));
-        }
-    }
-
-    /// Goes over a function until no more is live in it.
+    /// Goes over a function until no more is live in it, and counts what it takes for granted at its entry. The first
+    /// function of a program is called by nobody.
     fn settle_function(&mut self, number: usize, function: &Function) -> Result<(), Fault> {
         let results = self.counts_of(number).results;
-        let (Some(order), Some(live)) = (self.orders.get(number), self.live.get_mut(number)) else {
+        let Some(found) = self.functions.get_mut(number) else {
             return Ok(());
         };
         for _ in 0..ROUNDS {
-            if !pass_function(function, results, order, live, self.counts.as_mut_slice()) {
-                self.count_params(number, function);
+            if !found.pass(function, results, self.counts.as_mut_slice()) {
+                if number > 0
+                    && let Some(counts) = self.counts.get_mut(number)
+                    && let Some(first) = found.live.first()
+                {
+                    let from = if function.framed { 24 } else { 8 };
+                    counts.params = counts.params.max(last_register(from, first.registers()));
+                }
                 return Ok(());
             }
         }
@@ -231,10 +210,14 @@ impl Liveness {
     pub fn of(alloc: Global, program: &Program) -> Result<Liveness, Fault> {
         let mut found = Liveness {
             counts: vec![in alloc; NONE; program.functions.len()]?,
-            live: Vec::new(alloc),
-            orders: Vec::new(alloc),
+            functions: Vec::new(alloc),
         };
-        found.begin(alloc, program)?;
+        for function in &program.functions {
+            found.functions.push(FunctionLiveness {
+                order: order_of(alloc, function)?,
+                live: vec![in alloc; Locations::none(); function.blocks.len()]?,
+            })?;
+        }
         found.settle(program)?;
         Ok(found)
     }
@@ -246,8 +229,8 @@ impl Liveness {
 
     /// What is live where each block of a function begins.
     pub fn of_function(&self, function: usize) -> &[Locations] {
-        match self.live.get(function) {
-            Some(live) => live.as_slice(),
+        match self.functions.get(function) {
+            Some(found) => found.live.as_slice(),
             None => &[],
         }
     }

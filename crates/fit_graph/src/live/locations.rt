@@ -2,7 +2,7 @@
 use std::alloc::{AllocError, Global};
 
 /// A set of registers and frame words, by their numbers as locations: 1 to 31, and 32 + k for word k of the frame.
-#[derive(Clone, Copy)]
+#[derive(Clone, Copy, PartialEq, Eq)]
 pub struct Locations {
     words: [u64; 17],
 }
@@ -21,28 +21,24 @@ impl Locations {
         }
     }
 
-    /// Puts a location in.
-    pub fn insert(&mut self, location: u16) {
-        if let Some(word) = self.words.get_mut(usize::from(location / 64)) {
+    /// Puts registers in, each of which has a bit, and a frame word, by its location.
+    pub fn insert(&mut self, registers: u32, frame_word: Option<u16>) {
+        self.words[0] |= u64::from(registers);
+        if let Some(location) = frame_word
+            && let Some(word) = self.words.get_mut(usize::from(location / 64))
+        {
             *word |= 1 << (location % 64);
         }
     }
 
-    /// Takes a location out.
-    pub fn remove(&mut self, location: u16) {
-        if let Some(word) = self.words.get_mut(usize::from(location / 64)) {
+    /// Takes registers and a frame word out.
+    pub fn remove(&mut self, registers: u32, frame_word: Option<u16>) {
+        self.words[0] &= !u64::from(registers);
+        if let Some(location) = frame_word
+            && let Some(word) = self.words.get_mut(usize::from(location / 64))
+        {
             *word &= !(1 << (location % 64));
         }
-    }
-
-    /// Puts registers in, each of which has a bit.
-    pub fn insert_registers(&mut self, registers: u32) {
-        self.words[0] |= u64::from(registers);
-    }
-
-    /// Takes registers out, each of which has a bit.
-    pub fn remove_registers(&mut self, registers: u32) {
-        self.words[0] &= !u64::from(registers);
     }
 
     /// The registers of the set, each of which has a bit.
@@ -52,19 +48,11 @@ impl Locations {
 
     /// Puts another set's locations in. Says whether the set grew.
     pub fn add(&mut self, other: &Locations) -> bool {
-        let mut grew = false;
-        for (place, word) in self.words.iter_mut().enumerate() {
-            if let Some(more) = other.words.get(place) {
-                grew = grew || *more & !*word != 0;
-                *word |= *more;
-            }
+        let before = *self;
+        for place in 0..17 {
+            self.words[place] |= other.words[place];
         }
-        grew
-    }
-
-    /// Whether another set has the same locations.
-    pub fn is_same(&self, other: &Locations) -> bool {
-        self.words == other.words
+        *self != before
     }
 
     /// The locations of the set, the least first.

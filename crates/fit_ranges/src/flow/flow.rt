@@ -1,13 +1,13 @@
 //! The ranges of one function: what is known where its blocks begin, found by going along all ways until nothing new
 //! comes.
 use crate::flow::known::{Known, is_at, replace};
-use crate::flow::passing::{are_same_to, touched_by};
+use crate::flow::passing::{are_same_to, touched_in};
 use fit_cells::{
-    Growth, Shape, Thresholds, enter, go_along, hull, joined, range_in, return_from, run_step,
+    Growth, Shape, Thresholds, enter, go_along, joined, range_in, return_from, run_step,
     run_to_call, thresholds_of,
 };
-use fit_code::{Block, End, Fault, Function, Program, Reason};
-use fit_graph::{Locations, successors_in, way_of};
+use fit_code::{Block, End, Fault, Function, Program, Reason, hull};
+use fit_graph::{Locations, Order, successors_in, way_of};
 use sbx_domain::State;
 use sbx_range::{Cell, Range, all};
 use std::alloc::{AllocError, Global};
@@ -20,13 +20,12 @@ const PATIENCE: u32 = 400;
 /// A block is narrowed at most so often.
 const NARROWINGS: u32 = 6;
 
-/// What a function is analysed by: its program and itself, what it is called with, and what calls give it.
+/// What a function is analysed by: its program and itself, and what calls give it.
 #[derive(Clone, Copy)]
 pub struct Setting<'a> {
     pub alloc: Global,
     pub program: &'a Program,
     pub function: &'a Function,
-    pub params: &'a [Range],
     pub results: &'a [Vec<Range>],
     /// Of each block the cells that are said, by location: their ranges are those and no others. None of blocks that
     /// aren't named here.
@@ -68,20 +67,42 @@ const NO_VISITS: Visits = Visits {
     narrowings: 0,
 };
 
+/// Which blocks are to be visited.
+#[derive(Drop)]
+struct Pending {
+    /// By the places of the order.
+    places: Vec<bool>,
+    /// The places of the stretch that is looked at: its first one, the first one that may be to be visited, and the one
+    /// behind its last one.
+    start: usize,
+    first: usize,
+    end: usize,
+}
+
+impl Pending {
+    /// A block is to be visited.
+    fn mark(&mut self, order: &Order, block: usize) {
+        if let Some(place) = order.place(block)
+            && let Some(pending) = self.places.get_mut(place)
+        {
+            *pending = true;
+            self.first = self.first.min(place);
+        }
+    }
+}
+
 /// What is known of one function.
 #[derive(Drop)]
 pub struct Flow {
     shape: Shape,
     pub known: Known,
+    /// What the function is called with, in %o0, %o1, ..
+    pub params: Vec<Range>,
     /// What each block reads or writes.
     touched: Vec<Locations>,
     /// Of each block.
     visits: Vec<Visits>,
-    /// By the places of the order, the blocks that are to be visited.
-    pending: Vec<bool>,
-    /// The places of the stretch that is looked at, from where on one may be to be visited to behind the last one.
-    first: usize,
-    end: usize,
+    pending: Pending,
     /// Calls to which control comes.
     pub calls: Vec<Call>,
     /// What returns leave in %o0, %o1, ..; nothing where no return is reached.
@@ -142,18 +163,27 @@ struct Exit {
 
 impl Flow {
     /// Nothing is known of a function's blocks, all of which are to be visited.
-    pub fn new(alloc: Global, function: &Function, live: &[Locations]) -> Result<Flow, AllocError> {
+    pub fn new(
+        alloc: Global,
+        function: &Function,
+        live: &[Locations],
+        params: Vec<Range>,
+    ) -> Result<Flow, AllocError> {
         let mut flow = Flow {
             shape: Shape::of(alloc, function, live)?,
             known: Known {
                 cells: Vec::new(alloc),
                 ways: Vec::new(alloc),
             },
+            params,
             touched: Vec::new(alloc),
             visits: Vec::new(alloc),
-            pending: Vec::new(alloc),
-            first: 0,
-            end: 0,
+            pending: Pending {
+                places: Vec::new(alloc),
+                start: 0,
+                first: 0,
+                end: 0,
+            },
             calls: Vec::new(alloc),
             returned: None,
         };
@@ -164,45 +194,42 @@ impl Flow {
 
     /// Makes room for a function's blocks, none of which is to be visited.
     fn extend(&mut self, alloc: Global, function: &Function) -> Result<(), AllocError> {
-        let blocks = function.blocks.len();
-        self.known.extend(blocks)?;
-        for _ in self.visits.len()..blocks {
-            self.visits.push(NO_VISITS)?;
+        self.pending.places = vec![in alloc; false; self.shape.order.blocks.len()]?;
+        self.touched.clear();
+        for (number, block) in function.blocks.iter().enumerate() {
+            self.touched.push(touched_in(function.frame, block))?;
+            if number >= self.visits.len() {
+                self.known.add_block()?;
+                self.visits.push(NO_VISITS)?;
+            }
         }
-        self.pending = vec![in alloc; false; self.shape.order.blocks.len()]?;
-        self.touched = touched_by(alloc, function)?;
         Ok(())
     }
 
     /// A block is to be visited again: with the loops around it, and what stands behind these as far as what comes
     /// there changes.
     pub fn mark(&mut self, block: usize) {
-        if let Some(place) = self.shape.order.place(block)
-            && let Some(pending) = self.pending.get_mut(place)
-        {
-            *pending = true;
-            self.first = self.first.min(place);
-        }
+        self.pending.mark(&self.shape.order, block);
     }
 
     /// The first block of the stretch that is to be visited.
     fn next(&mut self) -> Option<usize> {
-        for place in self.first..self.end {
-            if let Some(pending) = self.pending.get_mut(place)
+        for place in self.pending.first..self.pending.end {
+            if let Some(pending) = self.pending.places.get_mut(place)
                 && *pending
             {
                 *pending = false;
-                self.first = place;
+                self.pending.first = place;
                 return self.shape.order.blocks.get(place).copied();
             }
         }
-        self.first = self.end;
+        self.pending.first = self.pending.end;
         None
     }
 
     /// Whether some block is to be visited.
     pub fn is_pending(&self) -> bool {
-        has_one(self.pending.as_slice())
+        has_one(self.pending.places.as_slice())
     }
 
     /// Forgets what is known of a block.
@@ -218,11 +245,9 @@ impl Flow {
 
     /// The blocks that call a function are to be visited again.
     pub fn mark_calls(&mut self, callee: usize) {
-        for place in 0..self.calls.len() {
-            if let Some(call) = self.calls.get(place).copied()
-                && call.callee == callee
-            {
-                self.mark(call.block);
+        for call in &self.calls {
+            if call.callee == callee {
+                self.pending.mark(&self.shape.order, call.block);
             }
         }
     }
@@ -242,16 +267,9 @@ impl Flow {
 
     /// The blocks from which ways lead to a block are to be visited.
     fn mark_sources(&mut self, block: usize) {
-        let count = match self.shape.sources.get(block) {
-            Some(sources) => sources.len(),
-            None => 0,
-        };
-        for place in 0..count {
-            if let Some(sources) = self.shape.sources.get(block)
-                && let Some(way) = sources.get(place)
-            {
-                let from = *way / 2;
-                self.mark(from);
+        if let Some(sources) = self.shape.sources.get(block) {
+            for way in sources {
+                self.pending.mark(&self.shape.order, *way / 2);
             }
         }
     }
@@ -288,7 +306,7 @@ impl Flow {
     /// Begins a block; says whether control can come there.
     pub fn begin(&self, setting: &Setting, block: usize, state: &mut State) -> bool {
         if block == 0 {
-            enter(setting.function, setting.params, state);
+            enter(setting.function, self.params.as_slice(), state);
             return true;
         }
         match self.known.cells(block) {
@@ -340,27 +358,9 @@ impl Flow {
 
     /// A block is to be visited, if it stands in the stretch that is looked at.
     fn mark_near(&mut self, block: usize) {
-        if matches!(self.shape.order.place(block), Some(place) if place < self.end) {
+        if matches!(self.shape.order.place(block), Some(place) if place < self.pending.end) {
             self.mark(block);
         }
-    }
-
-    /// Goes along each way of a block; where what is known at its end changes, the block there is to be visited.
-    fn leave(
-        &mut self,
-        setting: &Setting,
-        block: usize,
-        state: &mut State,
-    ) -> Result<(), AllocError> {
-        for (way, to) in successors_in(setting.function, block).iter().enumerate() {
-            if let Some(to) = to {
-                let found = self.found_along(setting, block, (way, *to), state)?;
-                if replace(&mut self.known.ways, way_of(block, way), found) {
-                    self.mark_near(*to);
-                }
-            }
-        }
-        Ok(())
     }
 
     /// Whether a block needn't be run for its new cells: all that is new in them it passes on as it comes. Not so where
@@ -375,20 +375,8 @@ impl Flow {
         }
     }
 
-    /// Passes on what a block doesn't touch; where what is known at a way's end changes, the block there is to be
-    /// visited.
-    fn pass_on(&mut self, function: &Function, block: usize) {
-        for (way, to) in successors_in(function, block).iter().enumerate() {
-            if let Some(to) = to
-                && let Some(touched) = self.touched.get(block)
-                && self.known.pass_on(touched, block, way_of(block, way))
-            {
-                self.mark_near(*to);
-            }
-        }
-    }
-
-    /// Goes on from a block whose cells were replaced.
+    /// Goes on from a block whose cells were replaced: along each of its ways, or only with what it doesn't touch.
+    /// Where what is known at a way's end changes, the block there is to be visited.
     fn go_on(
         &mut self,
         setting: &Setting,
@@ -396,12 +384,21 @@ impl Flow {
         passes: bool,
         state: &mut State,
     ) -> Result<(), AllocError> {
-        if passes {
-            self.pass_on(setting.function, block);
-            Ok(())
-        } else {
-            self.leave(setting, block, state)
+        for way in 0..2 {
+            if let Some(to) = successors_in(setting.function, block)[way] {
+                let number = way_of(block, way);
+                let is_new = if passes {
+                    self.known.pass_on(self.touched.get(block), block, number)
+                } else {
+                    let found = self.found_along(setting, block, (way, to), state)?;
+                    replace(&mut self.known.ways, number, found)
+                };
+                if is_new {
+                    self.mark_near(to);
+                }
+            }
         }
+        Ok(())
     }
 
     /// What a block's cells become, where these may come along its ways. Before ends go to thresholds, what comes into
@@ -452,6 +449,23 @@ impl Flow {
         }
     }
 
+    /// Puts cells in the place of a block's, those that are said with the ranges that are said. Says whether all that is
+    /// new in them is passed on; nothing where nothing is new.
+    fn take(
+        &mut self,
+        setting: &Setting,
+        block: usize,
+        mut cells: Option<Vec<Cell>>,
+    ) -> Option<bool> {
+        setting.put_said(block, &mut cells);
+        let passes = self.passes_on(block, &cells);
+        if replace(&mut self.known.cells, block, cells) {
+            Some(passes)
+        } else {
+            None
+        }
+    }
+
     /// Visits a block, whose cells grow.
     fn raise(
         &mut self,
@@ -464,18 +478,15 @@ impl Flow {
             Some(visits) => visits.changes,
             None => 0,
         };
-        let mut cells = self.raised(setting.alloc, thresholds, block, changes)?;
-        setting.put_said(block, &mut cells);
-        let passes = self.passes_on(block, &cells);
-        let is_new = match cells {
-            Some(cells) => replace(&mut self.known.cells, block, Some(cells)),
-            None => false,
+        let passes = match self.raised(setting.alloc, thresholds, block, changes)? {
+            Some(cells) => self.take(setting, block, Some(cells)),
+            None => None,
         };
-        if is_new || (block == 0 && changes == 0) {
+        if passes.is_some() || (block == 0 && changes == 0) {
             if let Some(visits) = self.visits.get_mut(block) {
                 visits.changes = visits.changes.saturating_add(1);
             }
-            self.go_on(setting, block, passes, state)?;
+            self.go_on(setting, block, passes == Some(true), state)?;
         }
         Ok(())
     }
@@ -487,7 +498,7 @@ impl Flow {
         thresholds: &Thresholds,
         state: &mut State,
     ) -> Result<(), Fault> {
-        let most = self.end.saturating_add(1).saturating_mul(2_000);
+        let most = self.pending.end.saturating_add(1).saturating_mul(2_000);
         for _ in 0..most {
             let Some(block) = self.next() else {
                 return Ok(());
@@ -503,10 +514,9 @@ impl Flow {
         ))
     }
 
-    /// Each block of the stretch from a place on is to be visited, or each whose cells don't hold all that comes along
-    /// its ways.
-    fn mark_stretch(&mut self, start: usize, only_broken: bool) {
-        for place in start..self.end {
+    /// Each block of the stretch is to be visited, or each whose cells don't hold all that comes along its ways.
+    fn mark_stretch(&mut self, only_broken: bool) {
+        for place in self.pending.start..self.pending.end {
             if let Some(block) = self.shape.order.blocks.get(place).copied()
                 && !(only_broken && self.known.holds(&self.shape, block))
             {
@@ -525,12 +535,10 @@ impl Flow {
         if block == 0 {
             return Ok(());
         }
-        let mut cells = self
+        let cells = self
             .known
             .common(setting.alloc, &self.shape, block, usize::MAX)?;
-        setting.put_said(block, &mut cells);
-        let passes = self.passes_on(block, &cells);
-        if replace(&mut self.known.cells, block, cells)
+        if let Some(passes) = self.take(setting, block, cells)
             && let Some(visits) = self.visits.get_mut(block)
         {
             visits.narrowings = visits.narrowings.saturating_add(1);
@@ -541,15 +549,10 @@ impl Flow {
         Ok(())
     }
 
-    /// Visits each block of the stretch from a place on a few times more, where cells get narrower.
-    fn descend(
-        &mut self,
-        setting: &Setting,
-        start: usize,
-        state: &mut State,
-    ) -> Result<(), AllocError> {
-        self.mark_stretch(start, false);
-        let most = self.end.saturating_mul(16);
+    /// Visits each block of the stretch a few times more, where cells get narrower.
+    fn descend(&mut self, setting: &Setting, state: &mut State) -> Result<(), AllocError> {
+        self.mark_stretch(false);
+        let most = self.pending.end.saturating_mul(16);
         for _ in 0..most {
             let Some(block) = self.next() else {
                 return Ok(());
@@ -563,12 +566,9 @@ impl Flow {
     fn find_calls(
         &mut self,
         setting: &Setting,
-        block: usize,
+        (block, code): (usize, &Block),
         state: &mut State,
     ) -> Result<(), AllocError> {
-        let Some(code) = setting.function.blocks.get(block) else {
-            return Ok(());
-        };
         let frame = setting.function.frame;
         for step in &code.steps {
             run_to_call(frame, step, state);
@@ -604,7 +604,7 @@ impl Flow {
         self.returned = None;
         for (block, code) in setting.function.blocks.iter().enumerate() {
             if is_asked(code) && self.begin(setting, block, state) {
-                self.find_calls(setting, block, state)?;
+                self.find_calls(setting, (block, code), state)?;
             }
         }
         Ok(())
@@ -617,32 +617,28 @@ impl Flow {
         block: usize,
         exits: &mut Vec<Exit>,
     ) -> Result<(), AllocError> {
-        for (number, to) in successors_in(function, block).iter().enumerate() {
-            if let Some(to) = to
-                && let Some(place) = self.shape.order.place(*to)
-                && place >= self.end
+        for way in 0..2 {
+            if let Some(to) = successors_in(function, block)[way]
+                && let Some(place) = self.shape.order.place(to)
+                && place >= self.pending.end
             {
-                let way = way_of(block, number);
+                let way = way_of(block, way);
                 let cells = match self.known.ways.get_mut(way) {
                     Some(slot) => slot.take(),
                     None => None,
                 };
-                exits.push(Exit {
-                    way,
-                    to: *to,
-                    cells,
-                })?;
+                exits.push(Exit { way, to, cells })?;
             }
         }
         Ok(())
     }
 
-    /// Forgets what is known of the blocks of the stretch from a place on, all of which are to be visited; gives the
-    /// ways out of it.
-    fn begin_stretch(&mut self, setting: &Setting, start: usize) -> Result<Vec<Exit>, AllocError> {
+    /// Forgets what is known of the blocks of the stretch, all of which are to be visited; gives the ways out of it.
+    fn begin_stretch(&mut self, setting: &Setting) -> Result<Vec<Exit>, AllocError> {
         let mut exits = Vec::new(setting.alloc);
-        for place in start..self.end {
-            if let Some(block) = self.shape.order.blocks.get(place).copied() {
+        for place in self.pending.start..self.pending.end {
+            if let Some(block) = self.shape.order.blocks.get(place) {
+                let block = *block;
                 self.add_exits(setting.function, block, &mut exits)?;
                 self.forget_block(block);
             }
@@ -650,21 +646,21 @@ impl Flow {
         Ok(exits)
     }
 
-    /// Finds the ranges of the stretch from a place on, by what comes into it.
+    /// Finds the ranges of the stretch, by what comes into it.
     fn find(
         &mut self,
         setting: &Setting,
         thresholds: &Thresholds,
-        start: usize,
         state: &mut State,
     ) -> Result<(), Fault> {
         self.ascend(setting, thresholds, state)?;
-        self.descend(setting, start, state)?;
-        self.mark_stretch(start, true);
+        self.descend(setting, state)?;
+        self.mark_stretch(true);
         self.ascend(setting, thresholds, state)
     }
 
-    /// Finds the ranges of a stretch anew; where something else comes out of it than before, that is to be visited.
+    /// Finds the ranges of a stretch anew, from its first place to behind its last one; where something else comes out
+    /// of it than before, that is to be visited.
     fn settle_stretch(
         &mut self,
         setting: &Setting,
@@ -672,10 +668,11 @@ impl Flow {
         (start, end): (usize, usize),
         state: &mut State,
     ) -> Result<(), Fault> {
-        self.first = start;
-        self.end = end;
-        let exits = self.begin_stretch(setting, start)?;
-        self.find(setting, thresholds, start, state)?;
+        self.pending.start = start;
+        self.pending.first = start;
+        self.pending.end = end;
+        let exits = self.begin_stretch(setting)?;
+        self.find(setting, thresholds, state)?;
         for exit in &exits {
             if !is_at(self.known.ways.as_slice(), exit.way, &exit.cells) {
                 self.mark(exit.to);
@@ -686,16 +683,17 @@ impl Flow {
 
     /// Where the stretch of a number begins, and where it ends; nothing if nothing of it is to be visited.
     fn pending_stretch(&self, number: usize) -> Option<(usize, usize)> {
-        let start = self.shape.stretches.get(number).copied()?;
+        let Some(start) = self.shape.stretches.get(number) else {
+            return None;
+        };
+        let start = *start;
         let end = match self.shape.stretches.get(number.saturating_add(1)) {
             Some(next) => *next,
-            None => self.pending.len(),
+            None => self.pending.places.len(),
         };
-        let pending = self.pending.get(start..end)?;
-        if has_one(pending) {
-            Some((start, end))
-        } else {
-            None
+        match self.pending.places.get(start..end) {
+            Some(pending) if has_one(pending) => Some((start, end)),
+            _ => None,
         }
     }
 
@@ -705,7 +703,7 @@ impl Flow {
             setting.alloc,
             setting.program,
             setting.function,
-            setting.params,
+            self.params.as_slice(),
         )?;
         for number in 0..self.shape.stretches.len() {
             if let Some(stretch) = self.pending_stretch(number) {

@@ -14,14 +14,6 @@ pub struct Known {
     pub ways: Vec<Option<Vec<Cell>>>,
 }
 
-/// More lists with nothing in them, until there are so many.
-fn extend(list: &mut Vec<Option<Vec<Cell>>>, count: usize) -> Result<(), AllocError> {
-    for _ in list.len()..count {
-        list.push(None)?;
-    }
-    Ok(())
-}
-
 /// What stands at a place of a list.
 fn at(list: &[Option<Vec<Cell>>], place: usize) -> Option<&[Cell]> {
     match list.get(place) {
@@ -48,20 +40,13 @@ pub fn replace(list: &mut Vec<Option<Vec<Cell>>>, place: usize, new: Option<Vec<
     !is_same
 }
 
-/// Leaves what some cells have in common with more; these, where there are none yet.
-fn join(alloc: Global, found: &mut Option<Vec<Cell>>, cells: &[Cell]) -> Result<(), AllocError> {
-    *found = Some(match found {
-        Some(other) => joined(alloc, Growth::Least, other.as_slice(), cells)?,
-        None => Vec::from_slice(alloc, cells)?,
-    });
-    Ok(())
-}
-
 impl Known {
-    /// Makes room for so many blocks.
-    pub fn extend(&mut self, blocks: usize) -> Result<(), AllocError> {
-        extend(&mut self.cells, blocks)?;
-        extend(&mut self.ways, blocks.saturating_mul(2))
+    /// Makes room for a block more, and its ways.
+    pub fn add_block(&mut self) -> Result<(), AllocError> {
+        self.cells.push(None)?;
+        self.ways.push(None)?;
+        self.ways.push(None)?;
+        Ok(())
     }
 
     /// What is known where a block begins.
@@ -76,7 +61,10 @@ impl Known {
 
     /// What a block doesn't touch is known where one of its ways ends as it is where the block begins, if the way can
     /// be gone. Says whether it wasn't before.
-    pub fn pass_on(&mut self, touched: &Locations, block: usize, way: usize) -> bool {
+    pub fn pass_on(&mut self, touched: Option<&Locations>, block: usize, way: usize) -> bool {
+        let Some(touched) = touched else {
+            return false;
+        };
         match (self.cells.get(block), self.ways.get_mut(way)) {
             (Some(Some(cells)), Some(Some(end))) => take_over(touched, cells.as_slice(), end),
             _ => false,
@@ -99,7 +87,10 @@ impl Known {
                     && place < before
                     && let Some(cells) = at(self.ways.as_slice(), *way)
                 {
-                    join(alloc, &mut found, cells)?;
+                    found = Some(match &found {
+                        Some(other) => joined(alloc, Growth::Least, other.as_slice(), cells)?,
+                        None => Vec::from_slice(alloc, cells)?,
+                    });
                 }
             }
         }

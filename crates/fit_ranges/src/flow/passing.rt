@@ -1,28 +1,23 @@
 //! What blocks pass on: a location that no step of a block reads or writes has the same range behind the block as
 //! before it, whatever that is, and decides nothing else.
 use fit_cells::range_in;
-use fit_code::{Block, Function, Step};
+use fit_code::{Block, Step};
 use fit_graph::{Effects, Locations, effects_of};
 use sbx_range::Cell;
-use std::alloc::{AllocError, Global};
 
 /// The registers that a call leaves undefined or with its results: globals and outs.
 const LOST: u32 = 0xfffe;
 
 /// Adds what is read and written.
 fn add_effects(touched: &mut Locations, effects: &Effects) {
-    touched.insert_registers(effects.reads | effects.writes);
-    for word in &[effects.word_read, effects.word_written] {
-        if let Some(word) = word {
-            touched.insert(*word);
-        }
-    }
+    touched.insert(effects.reads | effects.writes, effects.word_read);
+    touched.insert(0, effects.word_written);
 }
 
 /// Adds what a step reads and writes.
 fn add_step(touched: &mut Locations, frame: u32, step: &Step) {
     match step.callee {
-        Some(_) => touched.insert_registers(LOST),
+        Some(_) => touched.insert(LOST, None),
         None => add_effects(touched, &effects_of(frame, &step.instr)),
     }
     if let Some(slot) = &step.slot {
@@ -31,7 +26,7 @@ fn add_step(touched: &mut Locations, frame: u32, step: &Step) {
 }
 
 /// The locations that a block reads or writes. What its branch is taken by is among them, since a compare reads it.
-fn touched_in(frame: u32, block: &Block) -> Locations {
+pub fn touched_in(frame: u32, block: &Block) -> Locations {
     let mut touched = Locations::none();
     for step in &block.steps {
         add_step(&mut touched, frame, step);
@@ -40,15 +35,6 @@ fn touched_in(frame: u32, block: &Block) -> Locations {
         add_effects(&mut touched, &effects_of(frame, slot));
     }
     touched
-}
-
-/// The same of each block of a function.
-pub fn touched_by(alloc: Global, function: &Function) -> Result<Vec<Locations>, AllocError> {
-    let mut touched = Vec::with_capacity(alloc, function.blocks.len())?;
-    for block in &function.blocks {
-        touched.push(touched_in(function.frame, block))?;
-    }
-    Ok(touched)
 }
 
 /// Whether the same locations are known, and those that are touched by the same ranges.

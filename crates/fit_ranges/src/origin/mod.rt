@@ -4,6 +4,6 @@ mod objects;
 mod origin;
 mod trace;
 
-pub use objects::{Bounds, bounds_in_constants, bounds_of, end_of, named_object, object_at};
+pub use objects::{Bounds, bounds_in_constants, bounds_of, end_of, named_object};
 pub use origin::{Origin, origin_of};
-pub use trace::{Operands, Trace, operand_range, operands_of, register_range, trace_of};
+pub use trace::{Trace, operands_of, trace_of};

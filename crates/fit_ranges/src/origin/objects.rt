@@ -74,13 +74,17 @@ fn address_with(origin: &Origin, word: i32) -> i64 {
 /// The object that the least address of an origin lies in, where no other one begins up to the greatest one: else the
 /// register may as well point into that.
 fn least_object(program: &Program, origin: &Origin) -> Option<usize> {
-    let range = origin.range?;
+    let Some(range) = origin.range else {
+        return None;
+    };
     let least = address_with(origin, range.lo);
     let greatest = address_with(origin, range.hi);
     if !is_in_data(program.regions.as_slice(), least) {
         return None;
     }
-    let number = object_at(program.objects.as_slice(), least)?;
+    let Some(number) = object_at(program.objects.as_slice(), least) else {
+        return None;
+    };
     match program.objects.get(number.saturating_add(1)) {
         Some(next) if i64::from(next.start) <= greatest => None,
         _ => Some(number),
@@ -142,10 +146,11 @@ pub fn bounds_of(program: &Program, origin: &Origin, size: i64) -> Bounds {
 
 /// The same of a load from the constants; nothing where the program has none.
 pub fn bounds_in_constants(program: &Program, origin: &Origin, size: i64) -> Option<Bounds> {
-    let region = program.regions.first()?;
-    if !region.readonly {
-        return None;
+    match program.regions.first() {
+        Some(region) if region.readonly => {
+            let addresses = window(Some(region), origin.constant);
+            Some(bounds_between(origin, size, addresses, None))
+        }
+        _ => None,
     }
-    let addresses = window(Some(region), origin.constant);
-    Some(bounds_between(origin, size, addresses, None))
 }

@@ -31,11 +31,19 @@ struct Term {
     range: Option<Range>,
 }
 
+/// No term.
+const NONE: Term = Term {
+    register: 0,
+    times: 0,
+    range: None,
+};
+
 /// A sum of a constant and at most three terms.
 #[derive(Clone, Copy)]
 struct Sum {
     constant: i64,
-    terms: [Option<Term>; 3],
+    /// A term that stands no times is none.
+    terms: [Term; 3],
     /// Whether there was no room for a term, or a number went out of bounds.
     is_lost: bool,
     /// Registers whose words are part of the constant, each of which has a bit.
@@ -71,11 +79,12 @@ impl Sum {
     /// The place of the term of a register, or the first one where none stands.
     fn place_for(&self, register: u8) -> Option<usize> {
         let mut free = None;
-        for (place, slot) in self.terms.iter().enumerate() {
-            match slot {
-                Some(term) if term.register == register => return Some(place),
-                None if free.is_none() => free = Some(place),
-                _ => {}
+        for place in 0..3 {
+            let term = self.terms[place];
+            if term.times == 0 {
+                free = free.or(Some(place));
+            } else if term.register == register {
+                return Some(place);
             }
         }
         free
@@ -87,21 +96,13 @@ impl Sum {
             self.is_lost = true;
             return;
         };
-        if let Some(slot) = self.terms.get_mut(place) {
-            let before = match slot {
-                Some(term) => term.times,
-                None => 0,
-            };
-            let times = before.saturating_add(times);
+        if let Some(term) = self.terms.get_mut(place) {
+            let times = term.times.saturating_add(times);
             self.is_lost = self.is_lost || times.saturating_abs() > GREAT;
-            *slot = if times == 0 {
-                None
-            } else {
-                Some(Term {
-                    register,
-                    times,
-                    range,
-                })
+            *term = Term {
+                register,
+                times,
+                range,
             };
         }
     }
@@ -119,12 +120,11 @@ impl Sum {
     /// there.
     fn take(&mut self, registers: u32) -> Option<i64> {
         let mut taken = None;
-        for slot in &mut self.terms {
-            if let Some(term) = slot
-                && registers >> (term.register % 32) & 1 == 1
-            {
+        for place in 0..3 {
+            let term = self.terms[place];
+            if term.times != 0 && registers >> (term.register % 32) & 1 == 1 {
                 taken = Some(term.times);
-                *slot = None;
+                self.terms[place] = NONE;
             }
         }
         taken
@@ -133,12 +133,13 @@ impl Sum {
     /// The only term, if there is one alone.
     fn only(&self) -> Option<Term> {
         let mut only = None;
-        for slot in &self.terms {
-            if let Some(term) = slot {
-                if self.is_lost || term.times <= 0 || only.is_some() {
+        for place in 0..3 {
+            let term = self.terms[place];
+            if term.times != 0 {
+                if self.is_lost || term.times < 0 || only.is_some() {
                     return None;
                 }
-                only = Some(*term);
+                only = Some(term);
             }
         }
         only
@@ -153,8 +154,9 @@ impl Sum {
     /// The registers of the terms, each of which has a bit.
     fn registers(&self) -> u32 {
         let mut registers = 0;
-        for slot in &self.terms {
-            if let Some(term) = slot {
+        for place in 0..3 {
+            let term = self.terms[place];
+            if term.times != 0 {
                 registers |= 1 << (term.register % 32);
             }
         }
@@ -198,7 +200,9 @@ fn is_zero(range: &Option<Range>) -> bool {
 
 /// A sum that has one term as an origin whose word stands before the step of a place.
 fn candidate(sum: &Sum, last: usize) -> Option<Origin> {
-    let term = sum.only()?;
+    let Some(term) = sum.only() else {
+        return None;
+    };
     let constant = (sum.constant.cast_unsigned() & 0xffff_ffff) as u32;
     Some(Origin {
         register: term.register,
@@ -214,12 +218,16 @@ fn candidate(sum: &Sum, last: usize) -> Option<Origin> {
 /// What the address of the access at a place of a block is worked out from, as far back as one register stands for
 /// it. Nothing where it is worked out from several, or is a number.
 pub fn origin_of(frame: u32, block: &Block, trace: &Trace, place: usize) -> Option<Origin> {
-    let access = block.steps.get(place)?;
-    let (first, second) = operands_of(frame, &access.instr)?;
+    let Some(access) = block.steps.get(place) else {
+        return None;
+    };
+    let Some((first, second)) = operands_of(frame, &access.instr) else {
+        return None;
+    };
     let operands = trace.at(place);
     let mut sum = Sum {
         constant: 0,
-        terms: [None; 3],
+        terms: [NONE; 3],
         is_lost: false,
         folded: 0,
         object: access.object,

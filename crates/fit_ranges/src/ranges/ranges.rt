@@ -21,8 +21,6 @@ pub struct Ranges {
     alloc: Global,
     liveness: Liveness,
     flows: Vec<Flow>,
-    /// What each function is called with, in %o0, %o1, ..
-    params: Vec<Vec<Range>>,
     /// What each function gives back, in %o0, %o1, ..
     results: Vec<Vec<Range>>,
     /// Of each function and each of its blocks the cells that are said, by location. None of those that aren't named
@@ -53,17 +51,6 @@ const ZERO: Range = Range {
     alignment: 3,
 };
 
-/// Whether the same locations are live where blocks begin.
-fn are_same(a: &[Locations], b: &[Locations]) -> bool {
-    for (place, set) in a.iter().enumerate() {
-        match b.get(place) {
-            Some(other) if set.is_same(other) => {}
-            _ => return false,
-        }
-    }
-    a.len() == b.len()
-}
-
 /// Whether a block of a function is among some.
 fn has_block(blocks: &[(usize, usize)], function: usize) -> bool {
     for (other, _) in blocks {
@@ -85,26 +72,11 @@ fn put_said(ranges: &mut Vec<Range>, said: &[Range]) -> Result<(), AllocError> {
     Ok(())
 }
 
-/// The cells that are said of a function's blocks.
-fn said_of(said: &[Vec<Vec<Cell>>], function: usize) -> &[Vec<Cell>] {
-    match said.get(function) {
-        Some(cells) => cells.as_slice(),
-        None => &[],
-    }
-}
-
-/// The ranges at a place of a list.
-fn at(lists: &[Vec<Range>], place: usize) -> &[Range] {
+/// The list at a place of others.
+fn at<T>(lists: &[Vec<T>], place: usize) -> &[T] {
     match lists.get(place) {
         Some(list) => list.as_slice(),
         None => &[],
-    }
-}
-
-/// Puts ranges at a place of a list, if there is such a place.
-fn put(lists: &mut Vec<Vec<Range>>, place: usize, list: Vec<Range>) {
-    if let Some(slot) = lists.get_mut(place) {
-        *slot = list;
     }
 }
 
@@ -127,7 +99,6 @@ impl Ranges {
             alloc,
             liveness,
             flows: Vec::new(alloc),
-            params: Vec::new(alloc),
             results: Vec::new(alloc),
             said,
         };
@@ -141,9 +112,10 @@ impl Ranges {
     /// Nothing is known of the next function.
     fn begin(&mut self, number: usize, function: &Function) -> Result<(), AllocError> {
         let counts = self.liveness.counts_of(number);
-        let flow = Flow::new(self.alloc, function, self.liveness.of_function(number))?;
-        self.flows.push(flow)?;
-        self.params.push(any_words(self.alloc, counts.params)?)?;
+        let params = any_words(self.alloc, counts.params)?;
+        let live = self.liveness.of_function(number);
+        self.flows
+            .push(Flow::new(self.alloc, function, live, params)?)?;
         self.results.push(any_words(self.alloc, counts.results)?)?;
         Ok(())
     }
@@ -167,11 +139,10 @@ impl Ranges {
     fn take_params(&mut self, number: usize, function: &Function) -> Result<(), AllocError> {
         let mut given = self.given(number)?;
         put_said(&mut given, function.params.as_slice())?;
-        if at(self.params.as_slice(), number) == given.as_slice() {
-            return Ok(());
-        }
-        put(&mut self.params, number, given);
-        if let Some(flow) = self.flows.get_mut(number) {
+        if let Some(flow) = self.flows.get_mut(number)
+            && flow.params != given
+        {
+            flow.params = given;
             flow.mark(0);
         }
         Ok(())
@@ -181,20 +152,16 @@ impl Ranges {
     fn settle_function(
         &mut self,
         program: &Program,
-        number: usize,
+        (number, function): (usize, &Function),
         state: &mut State,
     ) -> Result<(), Fault> {
-        let Some(function) = program.functions.get(number) else {
-            return Ok(());
-        };
         self.take_params(number, function)?;
         let setting = Setting {
             alloc: self.alloc,
             program,
             function,
-            params: at(self.params.as_slice(), number),
             results: self.results.as_slice(),
-            said: said_of(self.said.as_slice(), number),
+            said: at(self.said.as_slice(), number),
         };
         match self.flows.get_mut(number) {
             Some(flow) if flow.is_pending() => flow.settle(&setting, state),
@@ -218,14 +185,12 @@ impl Ranges {
     /// rounds, and wider in all. Says whether it is.
     fn take_results(
         &mut self,
-        program: &Program,
         number: usize,
+        function: &Function,
         round: u32,
     ) -> Result<bool, AllocError> {
         let mut found = self.returned(number)?;
-        if let Some(function) = program.functions.get(number) {
-            put_said(&mut found, function.results.as_slice())?;
-        }
+        put_said(&mut found, function.results.as_slice())?;
         let known = at(self.results.as_slice(), number);
         let is_new = if round < NARROWINGS {
             known != found.as_slice()
@@ -233,27 +198,24 @@ impl Ranges {
             !lie_within(found.as_slice(), known)
         };
         if is_new {
-            put(&mut self.results, number, found);
-            self.revisit_calls(number);
+            if let Some(slot) = self.results.get_mut(number) {
+                *slot = found;
+            }
+            for flow in self.flows.iter_mut() {
+                flow.mark_calls(number);
+            }
         }
         Ok(is_new)
     }
 
-    /// The blocks that call a function are to be looked at again.
-    fn revisit_calls(&mut self, callee: usize) {
-        for flow in self.flows.iter_mut() {
-            flow.mark_calls(callee);
-        }
-    }
-
     /// Goes over the program once. Says whether something is to be looked at again.
     fn pass(&mut self, program: &Program, round: u32, state: &mut State) -> Result<bool, Fault> {
-        for number in 0..program.functions.len() {
-            self.settle_function(program, number, state)?;
+        for (number, function) in program.functions.iter().enumerate() {
+            self.settle_function(program, (number, function), state)?;
         }
         let mut is_new = false;
-        for number in 0..program.functions.len() {
-            is_new = self.take_results(program, number, round)? || is_new;
+        for (number, function) in program.functions.iter().enumerate() {
+            is_new = self.take_results(number, function, round)? || is_new;
         }
         Ok(is_new)
     }
@@ -301,7 +263,7 @@ impl Ranges {
     ) -> Result<(), AllocError> {
         for (number, function) in program.functions.iter().enumerate() {
             let live = liveness.of_function(number);
-            let is_same = are_same(self.liveness.of_function(number), live);
+            let is_same = self.liveness.of_function(number) == live;
             if let Some(flow) = self.flows.get_mut(number)
                 && (!is_same || has_block(changed, number))
             {
@@ -313,7 +275,10 @@ impl Ranges {
 
     /// What a function is called with.
     pub fn params(&self, function: usize) -> &[Range] {
-        at(self.params.as_slice(), function)
+        match self.flows.get(function) {
+            Some(flow) => flow.params.as_slice(),
+            None => &[],
+        }
     }
 
     /// What each function gives back.
@@ -348,15 +313,17 @@ impl Ranges {
         self.liveness.of_function(function)
     }
 
-    fn setting<'a>(&'a self, program: &'a Program, function: usize) -> Option<Setting<'a>> {
-        Some(Setting {
-            alloc: self.alloc,
-            program,
-            function: program.functions.get(function)?,
-            params: at(self.params.as_slice(), function),
-            results: self.results.as_slice(),
-            said: said_of(self.said.as_slice(), function),
-        })
+    fn setting<'a>(&'a self, program: &'a Program, number: usize) -> Option<Setting<'a>> {
+        match program.functions.get(number) {
+            Some(function) => Some(Setting {
+                alloc: self.alloc,
+                program,
+                function,
+                results: self.results.as_slice(),
+                said: at(self.said.as_slice(), number),
+            }),
+            None => None,
+        }
     }
 
     /// Begins a block in the verifier's domain, behind SAVE where it is a framed function's first one. Says whether
