@@ -3,13 +3,14 @@
 #![tactic(auto)]
 
 mod bounds;
-mod cells;
 mod declaring;
 mod meter;
+mod task;
 mod totals;
 mod ways;
 
-pub use bounds::{Bounds, bounded_heads, bounds_of};
-pub use declaring::{Task, declare, declare_function};
-pub use meter::{Meter, put_number, put_step, step_of};
+pub use bounds::{Bounds, bounds_of};
+pub use declaring::{declare, declare_function, refused};
+pub use meter::{Meter, counting, number_in};
+pub use task::Task;
 pub use totals::{Total, total_of};

@@ -1,11 +1,13 @@
 //! The counters of loops.
-use crate::bounds::changes::{Candidate, Setting, add_ways, candidates_of};
-use crate::bounds::rounds::{course_of, least_of_round};
-use crate::cells::range_of;
+use crate::bounds::changes::{Candidate, add_ways, candidates_of};
+use crate::bounds::rounds::least_of_round;
+use crate::task::{Setting, Task};
+use fit_cells::range_in;
 use fit_code::{Function, Program};
 use fit_graph::{Loop, enters_beside_head, loops_of};
 use fit_ranges::Ranges;
 use sbx_domain::State;
+use sbx_parts::Cell;
 use std::alloc::{AllocError, Global};
 
 /// A counter of a loop.
@@ -36,15 +38,23 @@ impl Bounds {
         }
     }
 
+    /// No loops.
+    pub(crate) fn none(alloc: Global) -> Bounds {
+        Bounds {
+            loops: Vec::new(alloc),
+            bounds: Vec::new(alloc),
+        }
+    }
+
     /// Finds the loops of a function and their bounds.
-    fn find(
+    pub(crate) fn find(
         &mut self,
         setting: &Setting<'_>,
         function: &Function,
         state: &mut State,
     ) -> Result<(), AllocError> {
-        let is_plain = enters_beside_head(setting.alloc, function)?.is_none();
-        self.loops = loops_of(setting.alloc, function)?;
+        let is_plain = enters_beside_head(setting.task.alloc, function)?.is_none();
+        self.loops = loops_of(setting.task.alloc, function)?;
         for within in self.loops.as_slice() {
             self.bounds.push(if is_plain {
                 bound_of(setting, function, within, state)?
@@ -55,25 +65,33 @@ impl Bounds {
         Ok(())
     }
 
-    /// Adds the heads of the loops that have a steady bound of at most so many rounds, and only such loops in them.
-    fn add_heads(&mut self, most: u64, heads: &mut Vec<usize>) -> Result<(), AllocError> {
+    /// Leaves the bounds of those loops alone that have a steady one of at most so many rounds, and only such loops in
+    /// them.
+    pub fn limit(&mut self, most: u64) {
         // an inner loop stands behind those around it, which are as unbounded as it is
         for place in (0..self.loops.len()).rev() {
-            let Some(within) = self.loops.get(place) else {
-                continue;
-            };
-            match self.at(place) {
-                Some(bound) if bound.is_steady && bound.rounds <= most => heads.push(within.head)?,
-                _ => {
-                    if let Some(parent) = within.parent
-                        && let Some(around) = self.bounds.get_mut(parent)
-                    {
-                        *around = None;
-                    }
-                }
+            match self.bounds.get_mut(place) {
+                Some(Some(bound)) if bound.is_steady && bound.rounds <= most => continue,
+                Some(bound) => *bound = None,
+                None => {}
+            }
+            if let Some(within) = self.loops.get(place)
+                && let Some(parent) = within.parent
+                && let Some(around) = self.bounds.get_mut(parent)
+            {
+                *around = None;
             }
         }
-        Ok(())
+    }
+
+    /// Whether a block is the head of a loop that has a bound.
+    pub fn has_head(&self, block: usize) -> bool {
+        for (place, within) in self.loops.iter().enumerate() {
+            if within.head == block {
+                return self.at(place).is_some();
+            }
+        }
+        false
     }
 }
 
@@ -81,8 +99,8 @@ impl Bounds {
 fn is_known_throughout(setting: &Setting<'_>, within: &Loop, location: u16) -> bool {
     for (block, is_in) in within.holds.iter().enumerate() {
         if *is_in
-            && let Some(cells) = setting.ranges.cells(setting.number, block)
-            && range_of(cells, location).is_none()
+            && let Some(cells) = setting.task.ranges.cells(setting.task.number, block)
+            && range_in(cells, location).is_none()
         {
             return false;
         }
@@ -96,27 +114,26 @@ fn bound_by(
     within: &Loop,
     candidate: &Candidate,
 ) -> Result<Option<Bound>, AllocError> {
-    let Candidate { cell, passages } = candidate;
-    let Some(course) = course_of(passages.as_slice()) else {
-        return Ok(None);
-    };
-    if !(course.falls || course.rises) || !is_known_throughout(setting, within, cell.location) {
+    let Cell { location, range } = candidate.cell;
+    let is_one_way = candidate.falls || candidate.rises;
+    if !is_one_way || !is_known_throughout(setting, within, location) {
         return Ok(None);
     }
+    let passages = candidate.passages.as_slice();
     let blocks = within.holds.len();
-    let least = least_of_round(setting.alloc, passages.as_slice(), within.head, blocks)?;
+    let least = least_of_round(setting.task.alloc, passages, within.head, blocks)?;
     let change = match i64::try_from(least) {
         Ok(0) | Err(_) => return Ok(None),
-        Ok(amount) if course.falls => amount.saturating_neg(),
+        Ok(amount) if candidate.falls => amount.saturating_neg(),
         Ok(amount) => amount,
     };
-    let width = i64::from(cell.range.hi).saturating_sub(i64::from(cell.range.lo));
+    let width = i64::from(range.hi).saturating_sub(i64::from(range.lo));
     let rounds = width.unsigned_abs() / change.unsigned_abs();
     Ok(Some(Bound {
-        location: cell.location,
+        location,
         change,
         rounds: rounds.saturating_add(1),
-        is_steady: course.is_steady,
+        is_steady: candidate.is_steady,
     }))
 }
 
@@ -141,10 +158,11 @@ fn bound_of(
     within: &Loop,
     state: &mut State,
 ) -> Result<Option<Bound>, AllocError> {
-    let Some(cells) = setting.ranges.cells(setting.number, within.head) else {
+    let task = setting.task;
+    let Some(cells) = task.ranges.cells(task.number, within.head) else {
         return Ok(None);
     };
-    let mut candidates = candidates_of(setting.alloc, cells)?;
+    let mut candidates = candidates_of(task.alloc, cells)?;
     add_ways(setting, function, within, candidates.as_mut_slice(), state)?;
     let mut found = None;
     for candidate in candidates.as_slice() {
@@ -164,33 +182,21 @@ pub fn bounds_of(
     number: usize,
     state: &mut State,
 ) -> Result<Bounds, AllocError> {
-    let mut found = Bounds {
-        loops: Vec::new(alloc),
-        bounds: Vec::new(alloc),
-    };
+    let mut found = Bounds::none(alloc);
     if let Some(function) = program.functions.get(number) {
-        let setting = Setting {
+        let task = Task {
             alloc,
-            program,
             ranges,
             number,
+            meter: None,
+            known: &[],
+            spared: &[],
+        };
+        let setting = Setting {
+            program,
+            task: &task,
         };
         found.find(&setting, function, state)?;
     }
     Ok(found)
-}
-
-/// The heads of a function's loops that have a steady bound of at most so many rounds, and only such loops in them.
-pub fn bounded_heads(
-    alloc: Global,
-    program: &Program,
-    ranges: &Ranges,
-    number: usize,
-    most: u64,
-    state: &mut State,
-) -> Result<Vec<usize>, AllocError> {
-    let mut found = bounds_of(alloc, program, ranges, number, state)?;
-    let mut heads = Vec::new(alloc);
-    found.add_heads(most, &mut heads)?;
-    Ok(heads)
 }

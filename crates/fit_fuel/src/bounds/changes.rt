@@ -1,9 +1,9 @@
 //! By how much locations change along the ways of a loop.
-use crate::cells::range_of;
+use crate::task::Setting;
 use arrayvec::ArrayVec;
-use fit_code::{Function, Program};
+use fit_cells::range_in;
+use fit_code::Function;
 use fit_graph::{Loop, successors_in};
-use fit_ranges::Ranges;
 use sbx_domain::State;
 use sbx_form::FormTerm;
 use sbx_parts::Cell;
@@ -11,34 +11,31 @@ use std::alloc::{AllocError, Global};
 
 /// By how much a location changes: from the least number to the greatest.
 #[derive(Clone, Copy)]
-pub struct Change {
-    pub least: i64,
-    pub most: i64,
+struct Change {
+    least: i64,
+    most: i64,
 }
 
-/// A way from a block of a loop to another one, with the change of a location; nothing where it isn't known.
+/// A way from a block of a loop to another one, and how much a location changes there at least, whichever way it goes.
 #[derive(Clone, Copy)]
 pub struct Passage {
     pub from: usize,
     pub to: usize,
-    pub change: Option<Change>,
+    pub amount: u64,
 }
 
-/// A location that may count the rounds of a loop: what the head knows of it, and its changes on the ways that stay in
-/// the loop.
+/// A location that may count the rounds of a loop: what the head knows of it, and how it changes along the ways that
+/// stay in the loop.
 #[derive(Drop)]
 pub struct Candidate {
     pub cell: Cell,
+    /// Whether no way raises it, or may.
+    pub falls: bool,
+    /// Whether no way lowers it, or may.
+    pub rises: bool,
+    /// Whether it changes by one number on each way.
+    pub is_steady: bool,
     pub passages: Vec<Passage>,
-}
-
-/// A function whose loops are looked at.
-#[derive(Clone, Copy)]
-pub struct Setting<'s> {
-    pub alloc: Global,
-    pub program: &'s Program,
-    pub ranges: &'s Ranges,
-    pub number: usize,
 }
 
 /// By how much a form of these terms is more than the number that the location began with, where its other terms lie
@@ -54,9 +51,7 @@ fn change_of(constant: i64, terms: &[FormTerm], location: u16, cells: &[Cell]) -
             is_found = times == 1;
             continue;
         }
-        let Some(range) = range_of(cells, term.location) else {
-            return None;
-        };
+        let range = range_in(cells, term.location)?;
         let low = times.saturating_mul(i64::from(range.lo));
         let high = times.saturating_mul(i64::from(range.hi));
         least = least.saturating_add(low.min(high));
@@ -69,25 +64,15 @@ fn change_of(constant: i64, terms: &[FormTerm], location: u16, cells: &[Cell]) -
     }
 }
 
-/// Adds to each candidate a way of a block, where it stays in the loop and can be gone.
-fn add_way(
-    setting: &Setting<'_>,
-    within: &Loop,
-    candidates: &mut [Candidate],
-    (from, way): (usize, usize),
-    to: Option<usize>,
-    state: &mut State,
-) -> Result<(), AllocError> {
-    let Some(to) = to else {
-        return Ok(());
-    };
-    let (program, number) = (setting.program, setting.number);
-    if !within.has(to) || !setting.ranges.run_block(program, number, from, way, state) {
-        return Ok(());
-    }
-    let cells = setting.ranges.cells(number, from).unwrap_or(&[]);
-    for candidate in candidates.iter_mut() {
-        let location = candidate.cell.location;
+impl Candidate {
+    /// Adds a way, behind which the state is this.
+    fn add(
+        &mut self,
+        (from, to): (usize, usize),
+        cells: &[Cell],
+        state: &State,
+    ) -> Result<(), AllocError> {
+        let location = self.cell.location;
         let change = match state.form(location) {
             Some(form) => {
                 let terms: ArrayVec<FormTerm, 8> = form.terms();
@@ -95,7 +80,34 @@ fn add_way(
             }
             None => None,
         };
-        candidate.passages.push(Passage { from, to, change })?;
+        let Some(Change { least, most }) = change else {
+            (self.falls, self.rises) = (false, false);
+            return Ok(());
+        };
+        self.falls &= most <= 0;
+        self.rises &= least >= 0;
+        self.is_steady &= least == most;
+        let amount = least.unsigned_abs().min(most.unsigned_abs());
+        self.passages.push(Passage { from, to, amount })?;
+        Ok(())
+    }
+}
+
+/// Adds to each candidate a way of a block, where it can be gone.
+fn add_way(
+    setting: &Setting<'_>,
+    candidates: &mut [Candidate],
+    (from, way): (usize, usize),
+    to: usize,
+    state: &mut State,
+) -> Result<(), AllocError> {
+    let (ranges, number) = (setting.task.ranges, setting.task.number);
+    if !ranges.run_block(setting.program, number, from, way, state) {
+        return Ok(());
+    }
+    let cells = ranges.cells(number, from).unwrap_or(&[]);
+    for candidate in candidates.iter_mut() {
+        candidate.add((from, to), cells, state)?;
     }
     Ok(())
 }
@@ -108,11 +120,14 @@ pub fn add_ways(
     candidates: &mut [Candidate],
     state: &mut State,
 ) -> Result<(), AllocError> {
-    for block in 0..within.holds.len() {
-        if within.has(block) {
-            let [first, second] = successors_in(function, block);
-            add_way(setting, within, candidates, (block, 0), first, state)?;
-            add_way(setting, within, candidates, (block, 1), second, state)?;
+    // a block has two ways at most
+    for place in 0..within.holds.len().saturating_mul(2) {
+        let (block, way) = (place / 2, place % 2);
+        if within.has(block)
+            && let Some(to) = successors_in(function, block)[way]
+            && within.has(to)
+        {
+            add_way(setting, candidates, (block, way), to, state)?;
         }
     }
     Ok(())
@@ -124,6 +139,9 @@ pub fn candidates_of(alloc: Global, cells: &[Cell]) -> Result<Vec<Candidate>, Al
     for cell in cells {
         candidates.push(Candidate {
             cell: *cell,
+            falls: true,
+            rises: true,
+            is_steady: true,
             passages: Vec::new(alloc),
         })?;
     }

@@ -4,4 +4,4 @@ mod bounds;
 mod changes;
 mod rounds;
 
-pub use bounds::{Bound, Bounds, bounded_heads, bounds_of};
+pub use bounds::{Bound, Bounds, bounds_of};

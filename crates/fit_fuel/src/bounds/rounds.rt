@@ -2,35 +2,6 @@
 use crate::bounds::changes::Passage;
 use std::alloc::{AllocError, Global};
 
-/// How a location changes along the ways of a loop.
-#[derive(Clone, Copy)]
-pub struct Course {
-    /// Whether no way raises it.
-    pub falls: bool,
-    /// Whether no way lowers it.
-    pub rises: bool,
-    /// Whether it changes by one number on each way.
-    pub is_steady: bool,
-}
-
-/// How a location changes along these ways; none where it isn't known on each.
-pub fn course_of(passages: &[Passage]) -> Option<Course> {
-    let mut course = Course {
-        falls: true,
-        rises: true,
-        is_steady: true,
-    };
-    for passage in passages {
-        let Some(change) = passage.change else {
-            return None;
-        };
-        course.falls &= change.most <= 0;
-        course.rises &= change.least >= 0;
-        course.is_steady &= change.least == change.most;
-    }
-    Some(course)
-}
-
 /// Lowers what is known of the least changes by the ways, once; says whether one was lowered. Where a round ends at the
 /// head, its change is the last one.
 fn lower(least: &mut [Option<u64>], passages: &[Passage], head: usize, last: usize) -> bool {
@@ -39,12 +10,7 @@ fn lower(least: &mut [Option<u64>], passages: &[Passage], head: usize, last: usi
         let Some(Some(before)) = least.get(passage.from) else {
             continue;
         };
-        // what the way adds at least, whichever way the location goes
-        let amount = match passage.change {
-            Some(change) => change.least.unsigned_abs().min(change.most.unsigned_abs()),
-            None => 0,
-        };
-        let reached = before.saturating_add(amount);
+        let reached = before.saturating_add(passage.amount);
         let to = if passage.to == head { last } else { passage.to };
         if let Some(place) = least.get_mut(to) {
             let is_less = match *place {
@@ -77,8 +43,8 @@ pub fn least_of_round(
             break;
         }
     }
-    Ok(match least.get(blocks) {
-        Some(Some(found)) => *found,
-        _ => 0,
-    })
+    match least.get(blocks) {
+        Some(Some(found)) => Ok(*found),
+        _ => Ok(0),
+    }
 }

@@ -3,8 +3,7 @@ use crate::declaring::terms::has_place;
 use crate::meter::Meter;
 use crate::ways::{Fuel, constant_at};
 use fit_code::{Function, Line};
-use fit_graph::{Loop, loops_of};
-use std::alloc::{AllocError, Global};
+use fit_graph::Loop;
 
 /// What a loop's counter has to pay for: what is asked for on the dearest way into it, without what the ways out of it
 /// ask for.
@@ -42,25 +41,24 @@ fn line_of(function: &Function, within: &Loop) -> Option<Line> {
     Some(block.line)
 }
 
-/// The loop that may take the most turns, the first and outermost of those: its turns, and its line. None in a function
-/// without loops.
+/// The line of that of a function's loops that may take the most turns, the first and outermost of those. None in a
+/// function without loops.
 pub fn dearest_loop(
-    alloc: Global,
     function: &Function,
+    loops: &[Loop],
     fuel: &Fuel,
     meter: Option<&Meter>,
-) -> Result<Option<(i64, Line)>, AllocError> {
-    let loops = loops_of(alloc, function)?;
-    let mut found: Option<(i64, Line)> = None;
-    for within in loops.as_slice() {
+) -> Option<Line> {
+    let mut found = None;
+    let mut most = i64::MIN;
+    for within in loops {
         let turns = turns_of(fuel, meter, within);
-        let is_more = match found {
-            Some((most, _)) => turns > most,
-            None => true,
-        };
-        if is_more && let Some(line) = line_of(function, within) {
-            found = Some((turns, line));
+        if (found.is_none() || turns > most)
+            && let Some(line) = line_of(function, within)
+        {
+            found = Some(line);
+            most = turns;
         }
     }
-    Ok(found)
+    found
 }

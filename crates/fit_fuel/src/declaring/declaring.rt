@@ -1,12 +1,13 @@
 //! What a fitted program declares.
-use crate::bounds::{Bounds, bounds_of};
+use crate::bounds::Bounds;
 use crate::declaring::dearest::dearest_loop;
 use crate::declaring::limits::check_limits;
 use crate::declaring::metering::set_weights;
 use crate::declaring::terms::find_fuel;
 use crate::meter::Meter;
+use crate::task::{Setting, Task};
 use crate::totals::{Total, total_of};
-use crate::ways::{Fuel, Setting, constant_at};
+use crate::ways::{Fuel, constant_at};
 use fit_code::{Fault, Function, Line, NO_LINE, Program, Reason};
 use fit_ranges::Ranges;
 use fit_text::{Annotations, FunctionNotes};
@@ -27,105 +28,74 @@ pub fn refused(function: &Function, line: Line, what: &'static str) -> Fault {
     }
 }
 
-/// The function of a number.
-fn function_of(program: &Program, number: usize) -> Result<&Function, Fault> {
-    match program.functions.get(number) {
-        Some(function) => Ok(function),
-        None => Err(Fault::new(NO_LINE, Reason::Unreadable("no function"))),
-    }
-}
-
-/// A function that is to declare something.
-#[derive(Clone, Copy)]
-pub struct Task<'t> {
-    pub alloc: Global,
-    pub ranges: &'t Ranges,
-    /// Its number.
-    pub number: usize,
-    pub meter: Option<&'t Meter>,
-    /// What those take that it calls.
-    pub known: &'t [Option<Total>],
-    /// The turns that its blocks weigh less than their steps and their ends.
-    pub spared: &'t [u64],
-}
-
-/// Finds the fuel of a function with these bounds, whose meter takes as much as has to be paid for.
+/// Finds the fuel of a function with these bounds, whose meter takes as much as has to be paid for; says whether there
+/// is some. Which bounds its loops have doesn't depend on what the meter takes.
 fn settle(
     program: &mut Program,
     task: &Task<'_>,
     bounds: &Bounds,
     fuel: &mut Fuel,
     state: &mut State,
-) -> Result<(), Fault> {
+) -> Result<bool, Fault> {
     for _ in 0..ROUNDS {
-        let setting = Setting {
-            alloc: task.alloc,
-            program,
-            ranges: task.ranges,
-            number: task.number,
-            known: task.known,
-            spared: task.spared,
-        };
-        if !find_fuel(&setting, task.meter, bounds, fuel, state)? {
-            break;
+        if !find_fuel(&Setting { program, task }, bounds, fuel, state)? {
+            return Ok(false);
         }
         let is_more = match (task.meter, program.functions.get_mut(task.number)) {
-            (Some(meter), Some(function)) => set_weights(function, meter, fuel)?,
+            (Some(meter), Some(function)) => {
+                let (ways, constants) = (fuel.ways.as_slice(), fuel.constants.as_slice());
+                set_weights(function, meter, ways, constants, fuel.places.as_mut_slice())?
+            }
             _ => false,
         };
         if !is_more {
-            return Ok(());
+            return Ok(true);
         }
     }
-    let function = function_of(program, task.number)?;
-    Err(refused(function, function.line, "no fuel was found for its loops"))
-}
-
-/// Finds the fuel of a function: which bounds its loops have doesn't depend on what the meter takes.
-fn find(
-    program: &mut Program,
-    task: &Task<'_>,
-    fuel: &mut Fuel,
-    state: &mut State,
-) -> Result<(), Fault> {
-    let function = function_of(program, task.number)?;
-    fuel.take_blocks(task.alloc, function, task.meter)?;
-    let bounds = bounds_of(task.alloc, program, task.ranges, task.number, state)?;
-    settle(program, task, &bounds, fuel, state)
+    Ok(false)
 }
 
 /// A budget that is too great, told at the loop that takes the most of it, or at the function if it has none.
 fn too_great(
-    alloc: Global,
     function: &Function,
+    bounds: &Bounds,
     fuel: &Fuel,
     meter: Option<&Meter>,
-    budget: u64,
-) -> Result<Fault, AllocError> {
-    let (line, is_loop) = match dearest_loop(alloc, function, fuel, meter)? {
-        Some((_, line)) => (line, true),
-        None => (function.line, false),
-    };
-    let reason = Reason::Budget {
-        turns: budget,
-        is_loop,
-    };
-    Ok(Fault::new(line, reason))
+    turns: u64,
+) -> Fault {
+    let dearest = dearest_loop(function, bounds.loops.as_slice(), fuel, meter);
+    let is_loop = dearest.is_some();
+    let line = dearest.unwrap_or(function.line);
+    Fault::new(line, Reason::Budget { turns, is_loop })
 }
 
 /// Finds the fuel of a function, and what a call takes.
 fn find_total(
     program: &mut Program,
     task: &Task<'_>,
+    bounds: &mut Bounds,
     fuel: &mut Fuel,
     state: &mut State,
 ) -> Result<(u64, Total), Fault> {
-    find(program, task, fuel, state)?;
+    if let Some(function) = program.functions.get(task.number) {
+        fuel.take_blocks(task.alloc, function, task.meter)?;
+        let setting = Setting {
+            program,
+            task: &*task,
+        };
+        bounds.find(&setting, function, state)?;
+    }
+    let is_found = settle(program, task, bounds, fuel, state)?;
+    let Some(function) = program.functions.get(task.number) else {
+        return Err(Fault::new(NO_LINE, Reason::Unreadable("no function")));
+    };
+    if !is_found {
+        return Err(refused(function, function.line, "no fuel was found for its loops"));
+    }
     let first = constant_at(fuel.constants.as_slice(), 0).unwrap_or(0);
     let budget = u64::try_from(first).unwrap_or(0);
-    let function = function_of(program, task.number)?;
     if budget >= BOUND {
-        return Err(too_great(task.alloc, function, fuel, task.meter, budget)?);
+        return Err(too_great(function, bounds, fuel, task.meter, budget));
     }
     fuel.fill(task.ranges, task.number)?;
     Ok((budget, total_of(function, Some(budget), task.known)))
@@ -138,8 +108,9 @@ pub fn declare_function(
     task: &Task<'_>,
     state: &mut State,
 ) -> Result<FunctionNotes, Fault> {
+    let mut bounds = Bounds::none(task.alloc);
     let mut fuel = Fuel::none(task.alloc);
-    let (budget, total) = find_total(program, task, &mut fuel, state)?;
+    let (budget, total) = find_total(program, task, &mut bounds, &mut fuel, state)?;
     Ok(FunctionNotes {
         budget,
         room: total.room,

@@ -42,8 +42,7 @@ fn check_function(function: &Function, notes: &FunctionNotes) -> Result<u64, Fau
     let mut words: u64 = 1;
     for (number, block) in function.blocks.iter().enumerate() {
         if let Some(notes) = notes.blocks.get(number) {
-            let (cells, terms) = (notes.cells.len() as u64, notes.terms.len() as u64);
-            check(block.line, "what is known where a block begins", cells, 64)?;
+            let terms = notes.terms.len() as u64;
             check(block.line, "the loops around a block", terms, 8)?;
             words = words.saturating_add(words_of(block));
         }

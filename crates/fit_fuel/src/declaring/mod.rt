@@ -5,4 +5,4 @@ mod limits;
 mod metering;
 mod terms;
 
-pub use declaring::{Task, declare, declare_function};
+pub use declaring::{declare, declare_function, refused};

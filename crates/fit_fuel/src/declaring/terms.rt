@@ -1,8 +1,8 @@
 //! The terms of blocks: what is left in the meter, and so many turns for each round that is left to a counter.
 use crate::bounds::{Bound, Bounds};
-use crate::cells::range_of;
-use crate::meter::Meter;
-use crate::ways::{Fuel, Setting, cells_at, constant_at};
+use crate::task::{Setting, Task};
+use crate::ways::{Fuel, constant_at};
+use fit_cells::range_in;
 use fit_graph::Loop;
 use fit_text::BlockNotes;
 use sbx_domain::State;
@@ -34,18 +34,16 @@ fn add_term(terms: &mut Vec<Term>, location: u16, coefficient: i32) -> Result<()
 }
 
 /// Begins with the terms of the meter, in each block that knows it.
-fn begin(
-    setting: &Setting<'_>,
-    meter: Option<&Meter>,
-    blocks: &mut [BlockNotes],
-) -> Result<(), AllocError> {
+fn begin(task: &Task<'_>, blocks: &mut [BlockNotes]) -> Result<(), AllocError> {
     for (block, notes) in blocks.iter_mut().enumerate() {
         notes.terms.clear();
-        if let Some(meter) = meter
-            && range_of(cells_at(setting, block), meter.location()).is_some()
+        if let Some(meter) = task.meter
+            && let location = meter.location()
+            && let Some(cells) = task.ranges.cells(task.number, block)
+            && range_in(cells, location).is_some()
         {
             notes.terms.push(Term {
-                location: meter.location(),
+                location,
                 coefficient: i32::try_from(meter.unit).unwrap_or(i32::MAX),
             })?;
         }
@@ -68,9 +66,9 @@ fn coefficient_of(bound: &Bound, weight: i64) -> Option<i32> {
 }
 
 /// Whether a place of the meter stands in a loop.
-pub(crate) fn has_place(within: &Loop, places: &[bool]) -> bool {
-    for (block, is_place) in places.iter().enumerate() {
-        if *is_place && within.has(block) {
+pub(crate) fn has_place(within: &Loop, places: &[Option<u32>]) -> bool {
+    for (block, taken) in places.iter().enumerate() {
+        if taken.is_some() && within.has(block) {
             return true;
         }
     }
@@ -110,12 +108,11 @@ fn add_rounds(
 /// are some: none where a loop has neither a place of the meter nor a bound, or where a round of ways gains.
 pub fn find_fuel(
     setting: &Setting<'_>,
-    meter: Option<&Meter>,
     bounds: &Bounds,
     fuel: &mut Fuel,
     state: &mut State,
 ) -> Result<bool, AllocError> {
-    begin(setting, meter, fuel.blocks.as_mut_slice())?;
+    begin(setting.task, fuel.blocks.as_mut_slice())?;
     // an inner loop stands behind those around it
     for place in (0..bounds.loops.len()).rev() {
         if let Some(within) = bounds.loops.get(place)

@@ -1,8 +1,8 @@
 //! The fuel of a function's blocks while it is looked for.
-use crate::meter::{Meter, is_place};
-use crate::ways::costs::{Setting, Way, cost_of_way};
+use crate::meter::{Meter, taken_by};
+use crate::task::Setting;
+use crate::ways::costs::{Way, cost_of_way};
 use crate::ways::longest::{constant_at, settle};
-use crate::ways::weights::weight_of_block;
 use fit_code::Function;
 use fit_graph::{Loop, successors_in};
 use fit_ranges::Ranges;
@@ -13,14 +13,33 @@ use std::alloc::{AllocError, Global};
 /// Constants and terms of the blocks of a function, and the ways that they pay for.
 #[derive(Drop)]
 pub struct Fuel {
-    /// Which blocks are places of the meter.
-    pub places: Vec<bool>,
+    /// What those blocks take that are places of the meter.
+    pub places: Vec<Option<u32>>,
     /// What is said of each block: cells and terms, and at the end its constant.
     pub blocks: Vec<BlockNotes>,
     /// The ways that are looked at: those of a loop, or all.
     pub ways: Vec<Way>,
     /// The least constants that pay for these ways; none of a block from which no way on is known.
     pub constants: Vec<Option<i64>>,
+}
+
+/// Where a way out of a block goes; nothing where it isn't looked at: of a loop's block where it leaves the loop, and
+/// of one at which the function or the run ends the second.
+fn way_of(
+    setting: &Setting<'_>,
+    within: Option<&Loop>,
+    from: usize,
+    way: usize,
+) -> Option<Option<usize>> {
+    let function = setting.program.functions.get(setting.task.number)?;
+    let [first, second] = successors_in(function, from);
+    let to = if way == 0 { first } else { second };
+    let is_asked = match (within, to) {
+        (Some(within), Some(to)) => within.has(from) && within.has(to),
+        (Some(_), None) => false,
+        (None, _) => to.is_some() || way == 0,
+    };
+    if is_asked { Some(to) } else { None }
 }
 
 impl Fuel {
@@ -43,8 +62,8 @@ impl Fuel {
     ) -> Result<(), AllocError> {
         for block in function.blocks.as_slice() {
             self.places.push(match meter {
-                Some(meter) => is_place(meter, block),
-                None => false,
+                Some(meter) => taken_by(meter, block),
+                None => None,
             })?;
             self.blocks.push(BlockNotes {
                 cells: Vec::new(alloc),
@@ -55,62 +74,8 @@ impl Fuel {
         Ok(())
     }
 
-    /// Adds a way out of a block of this weight. Of a way out of a loop's block only where it stays in the loop, and
-    /// nothing is behind the head, where a round ends.
-    fn add_way(
-        &mut self,
-        setting: &Setting<'_>,
-        within: Option<&Loop>,
-        weight: i64,
-        (from, way): (usize, usize),
-        to: Option<usize>,
-        state: &mut State,
-    ) -> Result<(), AllocError> {
-        let (is_asked, behind) = match (within, to) {
-            (Some(within), Some(to)) if to == within.head => (true, None),
-            (Some(within), Some(block)) => (within.has(block), to),
-            (Some(_), None) => (false, None),
-            (None, Some(_)) => (true, to),
-            // the first way of a block at which the function or the run ends
-            (None, None) => (way == 0, None),
-        };
-        let blocks = self.blocks.as_slice();
-        if is_asked
-            && let Some(cost) = cost_of_way(setting, blocks, from, way, to, weight, state)?
-        {
-            let is_metered = way == 1 && matches!(self.places.get(from), Some(true));
-            self.ways.push(Way {
-                from,
-                to: behind,
-                is_metered,
-                cost,
-            })?;
-        }
-        Ok(())
-    }
-
-    /// Adds the ways out of a block, or those of them that stay in a loop.
-    fn add_ways(
-        &mut self,
-        setting: &Setting<'_>,
-        within: Option<&Loop>,
-        from: usize,
-        state: &mut State,
-    ) -> Result<(), AllocError> {
-        let Some(function) = setting.program.functions.get(setting.number) else {
-            return Ok(());
-        };
-        let Some(block) = function.blocks.get(from) else {
-            return Ok(());
-        };
-        let weight = weight_of_block(setting, function, from, block);
-        let [first, second] = successors_in(function, from);
-        self.add_way(setting, within, weight, (from, 0), first, state)?;
-        self.add_way(setting, within, weight, (from, 1), second, state)
-    }
-
     /// Finds what the ways in a loop cost, or all ways of the function, and the least constants that pay for them; says
-    /// whether there are some, and no round gains.
+    /// whether there are some, and no round gains. Nothing is behind the head of the loop, where a round ends.
     pub fn pay(
         &mut self,
         setting: &Setting<'_>,
@@ -118,13 +83,21 @@ impl Fuel {
         state: &mut State,
     ) -> Result<bool, AllocError> {
         self.ways.clear();
-        for block in 0..self.blocks.len() {
-            let is_in = match within {
-                Some(within) => within.has(block),
-                None => true,
-            };
-            if is_in {
-                self.add_ways(setting, within, block, state)?;
+        // a block has two ways at most
+        for place in 0..self.blocks.len().saturating_mul(2) {
+            let (from, way) = (place / 2, place % 2);
+            if let Some(to) = way_of(setting, within, from, way)
+                && let Some(cost) = cost_of_way(setting, &self.blocks, (from, way), to, state)?
+            {
+                self.ways.push(Way {
+                    from,
+                    to: match within {
+                        Some(within) if to == Some(within.head) => None,
+                        _ => to,
+                    },
+                    is_metered: way == 1 && matches!(self.places.get(from), Some(Some(_))),
+                    cost,
+                })?;
             }
         }
         self.constants.clear();

@@ -5,6 +5,6 @@ mod longest;
 mod sums;
 mod weights;
 
-pub use costs::{Setting, Way, cells_at};
+pub use costs::Way;
 pub use fuel::Fuel;
 pub use longest::constant_at;

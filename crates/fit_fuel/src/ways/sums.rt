@@ -1,7 +1,7 @@
 //! Sums of multiples of locations, and the greatest value that they can have. A sum past the greatest number stays
 //! there, and is refused as a budget.
-use crate::cells::range_of;
 use arrayvec::ArrayVec;
+use fit_cells::range_in;
 use sbx_domain::State;
 use sbx_form::FormTerm;
 use sbx_parts::{Cell, Range, Term};
@@ -88,7 +88,7 @@ impl Sum {
     pub fn greatest(&self, cells: &[Cell]) -> i64 {
         let mut greatest = self.constant;
         for multiple in self.multiples.as_slice() {
-            let range = range_of(cells, multiple.location).unwrap_or(Range {
+            let range = range_in(cells, multiple.location).unwrap_or(Range {
                 lo: i32::MIN,
                 hi: i32::MAX,
                 alignment: 0,

@@ -2,31 +2,32 @@
 //! counter bounds. A loop so bounded that stands behind such a block, and in no loop, has one all the same: else each
 //! round of the loop before would pay for it, since the run may go on there.
 use fit_code::Function;
-use fit_graph::{Loop, Order, order_of, successors_in};
+use fit_fuel::Bounds;
+use fit_graph::{Order, order_of, successors_in};
 use std::alloc::{AllocError, Global};
 
-/// The blocks that control goes back to, as an order of the blocks has it, but for the heads of bounded loops: each
-/// round of another loop comes through one of them.
-fn unbounded_heads(
-    alloc: Global,
+/// Adds the blocks that control goes back to, as an order of the blocks has it, but for the heads of loops with bounds:
+/// each round of another loop comes through one of them.
+fn add_unbounded(
     function: &Function,
     order: &Order,
-    bounded: &[usize],
-) -> Result<Vec<usize>, AllocError> {
-    let mut heads: Vec<usize> = Vec::new(alloc);
-    for (place, block) in order.blocks.iter().enumerate() {
-        for to in &successors_in(function, *block) {
-            if let Some(to) = to
-                && let Some(earlier) = order.place(*to)
-                && earlier <= place
-                && !bounded.contains(to)
-                && !heads.contains(to)
-            {
-                heads.push(*to)?;
-            }
+    bounds: &Bounds,
+    heads: &mut Vec<usize>,
+) -> Result<(), AllocError> {
+    // a block has two ways at most
+    for way in 0..order.blocks.len().saturating_mul(2) {
+        let place = way / 2;
+        if let Some(block) = order.blocks.get(place)
+            && let Some(to) = successors_in(function, *block)[way % 2]
+            && let Some(earlier) = order.place(to)
+            && earlier <= place
+            && !bounds.has_head(to)
+            && !heads.contains(&to)
+        {
+            heads.push(to)?;
         }
     }
-    Ok(heads)
+    Ok(())
 }
 
 /// Whether a block stands behind one of some others in the order.
@@ -44,23 +45,23 @@ fn is_behind(order: &Order, block: usize, others: &[usize]) -> bool {
     false
 }
 
-/// The blocks before which places stand, of a function with these loops, where those with the heads `bounded` go
-/// without the meter as far as they can.
-pub fn heads_of(
+/// Adds the blocks before which places stand, of a function with these loops, where those with bounds go without the
+/// meter as far as they can.
+pub fn add_heads(
     alloc: Global,
     function: &Function,
-    loops: &[Loop],
-    bounded: &[usize],
-) -> Result<Vec<usize>, AllocError> {
+    bounds: &Bounds,
+    heads: &mut Vec<usize>,
+) -> Result<(), AllocError> {
     let order = order_of(alloc, function)?;
-    let mut heads = unbounded_heads(alloc, function, &order, bounded)?;
-    for within in loops {
+    add_unbounded(function, &order, bounds, heads)?;
+    for within in &bounds.loops {
         if within.parent.is_none()
-            && bounded.contains(&within.head)
+            && bounds.has_head(within.head)
             && is_behind(&order, within.head, heads.as_slice())
         {
             heads.push(within.head)?;
         }
     }
-    Ok(heads)
+    Ok(())
 }

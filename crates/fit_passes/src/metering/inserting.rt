@@ -1,9 +1,10 @@
 //! Putting the meter into a function.
-use crate::metering::heads::heads_of;
+use crate::metering::heads::add_heads;
 use crate::metering::registers::free_register;
-use fit_code::{Block, End, Fault, Function, Line, NO_LINE, Reason, Step};
-use fit_fuel::{Meter, put_number, put_step, step_of};
-use fit_graph::{Loop, loops_of};
+use fit_code::{End, Fault, Function, Line, NO_LINE};
+use fit_fuel::{Bounds, Meter, counting, number_in, refused};
+use fit_graph::Loop;
+use fit_tests::{insert_instr, push_block, push_instrs, register};
 use std::alloc::{AllocError, Global};
 use v8_formats::{Cond, Instr, Operand, Reg, Three};
 
@@ -12,11 +13,6 @@ const EMPTY: u32 = 4 << 16;
 
 /// The greatest number that a meter may begin with.
 const GREATEST: u64 = 0x7fff_ffff;
-
-/// The register of a number below 32.
-fn scratch(number: u8) -> Reg {
-    Reg::new(number).unwrap_or(Reg::G0)
-}
 
 /// The instruction that moves the meter's word: from the frame or, with `stores`, to it.
 fn word_move(register: Reg, distance: u32, stores: bool) -> Instr {
@@ -36,14 +32,8 @@ fn word_move(register: Reg, distance: u32, stores: bool) -> Instr {
 fn new_word(function: &mut Function) -> Result<u32, Fault> {
     let distance = function.frame;
     if !function.framed || distance > 4096 - 8 {
-        let name = function.name.clone()?;
-        return Err(Fault::new(
-            function.line,
-            Reason::Form {
-                function: name,
-                what: "no register is left to count its turns in",
-            },
-        ));
+        let what = "no register is left to count its turns in";
+        return Err(refused(function, function.line, what));
     }
     function.frame = distance.saturating_add(8);
     Ok(distance)
@@ -53,14 +43,14 @@ fn new_word(function: &mut Function) -> Result<u32, Fault> {
 fn meter_for(function: &mut Function, turns: u64) -> Result<Meter, Fault> {
     let unit = turns / GREATEST + 1;
     let count = (turns / unit).clamp(1, GREATEST);
-    let (register, word) = match free_register(function) {
-        Some(register) => (register, None),
-        None => (scratch(7), Some(new_word(function)?)),
+    let (counter, word) = match free_register(function) {
+        Some(free) => (free, None),
+        None => (register(7), Some(new_word(function)?)),
     };
     Ok(Meter {
-        register,
+        register: counter,
         word,
-        scratch: scratch(5),
+        scratch: register(5),
         count: u32::try_from(count).unwrap_or(1),
         unit: u32::try_from(unit).unwrap_or(1),
     })
@@ -77,22 +67,6 @@ fn line_of(function: &Function, block: usize) -> Line {
     }
 }
 
-/// A new block without steps, behind the others.
-fn add_block(
-    alloc: Global,
-    function: &mut Function,
-    end: End,
-    line: Line,
-) -> Result<&mut Block, AllocError> {
-    let block = function.blocks.push_mut(Block {
-        steps: Vec::new(alloc),
-        end,
-        slot: None,
-        line,
-    })?;
-    Ok(block)
-}
-
 /// A place of the meter before a block, and the block where the run ends because the meter is empty; gives the place's
 /// number.
 fn add_place(
@@ -103,28 +77,22 @@ fn add_place(
 ) -> Result<usize, AllocError> {
     let line = line_of(function, before);
     let empty = function.blocks.len();
-    let block = add_block(alloc, function, End::Exit, line)?;
     let word = EMPTY | line.number.min(0xffff);
-    put_number(&mut block.steps, 0, scratch(8), word, line)?;
-    let place = function.blocks.len();
+    let block = push_block(alloc, function, End::Exit, line)?;
+    push_instrs(&mut block.steps, &number_in(register(8), word), line)?;
     let end = End::Branch {
         cond: Cond::Negative,
         taken: empty,
         next: before,
     };
-    let block = add_block(alloc, function, end, line)?;
+    let block = push_block(alloc, function, end, line)?;
     if let Some(distance) = meter.word {
         block.slot = Some(word_move(meter.register, distance, true));
-        let load = step_of(word_move(meter.register, distance, false), line);
-        block.steps.push(load)?;
+        let load = word_move(meter.register, distance, false);
+        push_instrs(&mut block.steps, &[Some(load)], line)?;
     }
-    let fields = Three {
-        rd: meter.register,
-        rs1: meter.register,
-        operand2: Operand::Immediate(1),
-    };
-    block.steps.push(step_of(Instr::SubCc(fields), line))?;
-    Ok(place)
+    push_instrs(&mut block.steps, &counting(meter, 1), line)?;
+    Ok(empty.saturating_add(1))
 }
 
 /// The end with another block in the place of one.
@@ -191,13 +159,16 @@ fn put_entries(
 
 /// What the meter begins with is set where the function begins.
 fn put_start(function: &mut Function, meter: &Meter) -> Result<(), AllocError> {
-    let line = NO_LINE;
-    if let Some(first) = function.blocks.first_mut() {
-        if let Some(distance) = meter.word {
-            let move_out = step_of(word_move(meter.register, distance, true), line);
-            put_step(&mut first.steps, 0, move_out)?;
+    let [high, low] = number_in(meter.register, meter.count);
+    let store = match meter.word {
+        Some(distance) => Some(word_move(meter.register, distance, true)),
+        None => None,
+    };
+    // the last of them first, since each stands before those that are there
+    for instr in &[store, low, high] {
+        if let Some(instr) = *instr {
+            insert_instr(function, 0, 0, instr, NO_LINE)?;
         }
-        put_number(&mut first.steps, 0, meter.register, meter.count, line)?;
     }
     Ok(())
 }
@@ -219,19 +190,19 @@ fn put_meter(
     Ok(meter)
 }
 
-/// Gives a function a meter of so many turns: one place for each block that control goes back to but those of
-/// `bounded`, of which some have one all the same. None of a function that has no other loops.
+/// Gives a function a meter of so many turns: one place for each block that control goes back to but those of loops
+/// with bounds, of which some have one all the same. None of a function that has no other loops.
 pub fn insert_meter(
     alloc: Global,
     function: &mut Function,
     turns: u64,
-    bounded: &[usize],
+    bounds: &Bounds,
 ) -> Result<Option<Meter>, Fault> {
-    let loops = loops_of(alloc, function)?;
-    let heads = heads_of(alloc, function, loops.as_slice(), bounded)?;
+    let mut heads = Vec::new(alloc);
+    add_heads(alloc, function, bounds, &mut heads)?;
     if heads.is_empty() {
         return Ok(None);
     }
-    let meter = put_meter(alloc, function, turns, loops.as_slice(), heads.as_slice())?;
-    Ok(Some(meter))
+    let loops = bounds.loops.as_slice();
+    Ok(Some(put_meter(alloc, function, turns, loops, heads.as_slice())?))
 }

@@ -1,29 +1,13 @@
 //! A register that a function has no use for.
 use fit_code::{Block, End, Function};
 use fit_graph::effects_of;
-use v8_formats::{Operand, Reg, Three};
+use v8_formats::{Instr, Reg};
 
-/// The bit of a register's number; %g0 has none.
-fn one(register: Reg) -> u32 {
-    match register.number() {
-        0 => 0,
-        number => 1 << number,
-    }
-}
-
-/// What RESTORE reads, and the registers of results that it may leave alone.
-fn of_return(fields: &Three) -> u32 {
-    let second = match fields.operand2 {
-        Operand::Register(register) => one(register),
-        Operand::Immediate(_) => 0,
-    };
-    one(fields.rs1) | second
-}
-
-/// The registers that a block names. A call leaves nothing in outs and globals.
+/// The registers that a block names, each of which has a bit. A call leaves nothing in outs and globals.
 fn named_in(frame: u32, block: &Block) -> u32 {
     let mut named = match block.end {
-        End::Return(fields) => of_return(&fields),
+        // RESTORE reads what ADD does
+        End::Return(fields) => effects_of(frame, &Instr::Add(fields)).reads,
         _ => 0,
     };
     for step in block.steps.as_slice() {
@@ -57,10 +41,8 @@ pub fn free_register(function: &Function) -> Option<Reg> {
     let (framed, leaf): (&[u8], &[u8]) = (&FRAMED, &LEAF);
     let candidates = if function.framed { framed } else { leaf };
     for number in candidates {
-        if let Some(register) = Reg::new(*number)
-            && named & one(register) == 0
-        {
-            return Some(register);
+        if named >> (number % 32) & 1 == 0 {
+            return Reg::new(*number);
         }
     }
     None

@@ -3,9 +3,9 @@ use crate::metering::insert_meter;
 use crate::passes::unreached::end_unreached;
 use crate::placing::{fill, place};
 use fit_code::{Block, Fault, Function, NO_LINE, Program, Reason};
-use fit_fuel::{Meter, bounded_heads, declare};
+use fit_fuel::{Meter, bounds_of, declare};
 use fit_ranges::Ranges;
-use fit_tests::{Options, Test, Tests};
+use fit_tests::{Options, Test, add_tests};
 use fit_text::push_source;
 use sbx_domain::State;
 use std::alloc::{AllocError, Global};
@@ -63,20 +63,8 @@ fn share_out(shares: &mut [u64], function: &Function, turns: u64) {
     }
 }
 
-/// The turns that the loops of each function may take in a call. Functions call those of larger numbers alone.
-fn shares_of(alloc: Global, program: &Program, turns: u64) -> Result<Vec<u64>, AllocError> {
-    let mut shares = vec![in alloc; turns; program.functions.len()]?;
-    for (number, function) in program.functions.iter().enumerate() {
-        let share = match shares.get(number) {
-            Some(share) => *share,
-            None => turns,
-        };
-        share_out(shares.as_mut_slice(), function, share);
-    }
-    Ok(shares)
-}
-
-/// Gives each function with loops that have no bound a meter, by the ranges of the program without meters.
+/// Gives each function with loops that have no bound a meter, by the ranges of the program without meters. Its turns
+/// are those that the loops of the function may take in a call; functions call those of larger numbers alone.
 fn insert_meters(
     alloc: Global,
     program: &mut Program,
@@ -85,16 +73,21 @@ fn insert_meters(
     meters: &mut Vec<Option<Meter>>,
     state: &mut State,
 ) -> Result<(), Fault> {
-    let shares = shares_of(alloc, program, plan.turns)?;
-    for (number, turns) in shares.iter().enumerate() {
+    let mut shares = vec![in alloc; plan.turns; program.functions.len()]?;
+    for number in 0..shares.len() {
         let most = match (plan.has_bounds, number) {
             (false, _) => 0,
             (true, 0) => FEW,
             (true, _) => SOME,
         };
-        let bounded = bounded_heads(alloc, program, ranges, number, most, state)?;
-        if let Some(function) = program.functions.get_mut(number) {
-            meters.push(insert_meter(alloc, function, *turns, bounded.as_slice())?)?;
+        let mut bounds = bounds_of(alloc, program, ranges, number, state)?;
+        bounds.limit(most);
+        if let Some(function) = program.functions.get_mut(number)
+            && let Some(share) = shares.get(number)
+        {
+            let turns = *share;
+            share_out(shares.as_mut_slice(), function, turns);
+            meters.push(insert_meter(alloc, function, turns, &bounds)?)?;
         }
     }
     Ok(())
@@ -106,15 +99,6 @@ fn place_all(alloc: Global, program: &mut Program) -> Result<(), AllocError> {
         place(alloc, function)?;
     }
     Ok(())
-}
-
-/// How many blocks a program has.
-fn block_count(program: &Program) -> usize {
-    let mut count: usize = 0;
-    for function in program.functions.as_slice() {
-        count = count.saturating_add(function.blocks.len());
-    }
-    count
 }
 
 /// Places blocks, and adds the tests that are asked for then, until none is; the ranges are found anew. Tests know
@@ -129,10 +113,8 @@ fn settle_places(
 ) -> Result<(), Fault> {
     for _ in 0..PLACINGS {
         place_all(alloc, program)?;
-        let before = block_count(program);
         *ranges = Ranges::of(alloc, program, state)?;
-        Tests::none(alloc, options).settle(program, ranges, state)?;
-        if block_count(program) == before {
+        if add_tests(alloc, options, program, ranges, state)?.is_empty() {
             return Ok(());
         }
     }
@@ -145,80 +127,52 @@ fn settle_places(
     ))
 }
 
-/// What is put into a program, and its ranges.
-#[derive(Drop)]
-struct Fitted {
-    tests: Tests,
-    meters: Vec<Option<Meter>>,
-    ranges: Ranges,
-}
-
-/// Puts tests and meters into a program, and its blocks into their places.
-fn fit(
+/// Fills the slots of a program whose blocks stand in their places, and writes its annotated source. What a step leaves
+/// known in its place it leaves known in a slot, so that the ranges stay.
+fn write_source(
     alloc: Global,
-    program: &mut Program,
-    plan: Plan,
-    fitted: &mut Fitted,
+    made: &mut Made,
+    ranges: &Ranges,
+    meters: &[Option<Meter>],
     state: &mut State,
 ) -> Result<(), Fault> {
-    fitted.tests.settle(program, &mut fitted.ranges, state)?;
-    insert_meters(
-        alloc,
-        program,
-        plan,
-        &fitted.ranges,
-        &mut fitted.meters,
-        state,
-    )?;
-    let kept = Options {
-        by_object: plan.by_object,
-        drops: false,
-    };
-    settle_places(alloc, program, kept, &mut fitted.ranges, state)?;
-    end_unreached(program, &fitted.ranges)?;
-    fitted.ranges.store(program)?;
+    let program = &mut made.program;
+    end_unreached(program, ranges)?;
+    ranges.store(program)?;
+    fill(program);
+    let notes = declare(alloc, program, ranges, meters, state)?;
+    push_source(alloc, &mut made.text, program, &notes)?;
+    if let Some(notes) = notes.functions.first() {
+        made.budget = notes.budget;
+    }
     Ok(())
 }
 
-/// Writes the annotated source of a fitted program; gives the most turns of a run.
-fn write_source(
-    alloc: Global,
-    text: &mut String,
-    program: &mut Program,
-    fitted: &Fitted,
-    state: &mut State,
-) -> Result<u64, Fault> {
-    let meters = fitted.meters.as_slice();
-    let notes = declare(alloc, program, &fitted.ranges, meters, state)?;
-    push_source(alloc, text, program, &notes)?;
-    Ok(match notes.functions.first() {
-        Some(notes) => notes.budget,
-        None => 0,
-    })
-}
-
-/// Makes an annotated source of a program. What a step leaves known in its place it leaves known in a slot, so that
-/// the ranges stay.
-pub fn make(alloc: Global, program: Program, plan: Plan) -> Result<Made, Fault> {
-    let options = Options {
+/// Puts tests and meters into a program, and its blocks into their places, and writes its source.
+fn fit(alloc: Global, made: &mut Made, plan: Plan, state: &mut State) -> Result<(), Fault> {
+    let mut options = Options {
         by_object: plan.by_object,
         drops: true,
     };
-    let mut program = program;
-    let mut state = State::new(alloc)?;
-    let mut fitted = Fitted {
-        ranges: Ranges::of(alloc, &program, &mut state)?,
-        tests: Tests::none(alloc, options),
-        meters: Vec::new(alloc),
-    };
-    fit(alloc, &mut program, plan, &mut fitted, &mut state)?;
-    fill(&mut program);
-    let mut text = String::new(alloc);
-    let budget = write_source(alloc, &mut text, &mut program, &fitted, &mut state)?;
-    Ok(Made {
+    let program = &mut made.program;
+    let mut ranges = Ranges::of(alloc, program, state)?;
+    made.tests = add_tests(alloc, options, program, &mut ranges, state)?;
+    let mut meters = Vec::new(alloc);
+    insert_meters(alloc, program, plan, &ranges, &mut meters, state)?;
+    options.drops = false;
+    settle_places(alloc, program, options, &mut ranges, state)?;
+    write_source(alloc, made, &ranges, meters.as_slice(), state)
+}
+
+/// Makes an annotated source of a program.
+pub fn make(alloc: Global, program: Program, plan: Plan) -> Result<Made, Fault> {
+    let mut made = Made {
         program,
-        tests: fitted.tests.list,
-        text,
-        budget,
-    })
+        tests: Vec::new(alloc),
+        text: String::new(alloc),
+        budget: 0,
+    };
+    let mut state = State::new(alloc)?;
+    fit(alloc, &mut made, plan, &mut state)?;
+    Ok(made)
 }

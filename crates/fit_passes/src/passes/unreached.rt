@@ -1,32 +1,28 @@
 //! Blocks that control doesn't come to, as ends of the run.
-use fit_code::{Block, End, Function, Program};
+use fit_code::{End, Function, Program};
 use fit_ranges::Ranges;
-use fit_tests::{Kind, push_number};
+use fit_tests::{Kind, number_in, push_instrs};
 use std::alloc::AllocError;
 
 /// The register of the exit word, %o0.
 const EXIT_WORD: u8 = 8;
 
-/// Makes a block an end of the run, with the exit word of its line as where a test of an index fails.
-fn end_block(block: &mut Block) -> Result<(), AllocError> {
-    let line = block.line;
-    let kind = Kind::Index.number().saturating_mul(65_536);
-    let word = kind.saturating_add(line.number.min(0xffff).cast_signed());
-    block.steps.clear();
-    block.end = End::Exit;
-    block.slot = None;
-    push_number(&mut block.steps, EXIT_WORD, word, line)
-}
-
-/// Makes the blocks of a function, by its number, to which control doesn't come ends of the run.
+/// Makes the blocks of a function, by its number, to which control doesn't come ends of the run, with the exit word of
+/// their lines as where a test of an index fails.
 fn end_unreached_of(
     function: &mut Function,
     ranges: &Ranges,
     number: usize,
 ) -> Result<(), AllocError> {
+    let kind = Kind::Index.number().saturating_mul(65_536);
     for (place, block) in function.blocks.iter_mut().enumerate() {
         if !ranges.reaches(number, place) {
-            end_block(block)?;
+            let line = block.line;
+            let word = kind.saturating_add(line.number.min(0xffff).cast_signed());
+            block.steps.clear();
+            block.end = End::Exit;
+            block.slot = None;
+            push_instrs(&mut block.steps, &number_in(EXIT_WORD, word), line)?;
         }
     }
     Ok(())

@@ -1,51 +1,27 @@
 //! An order of a function's blocks in which control mostly goes on to the next one.
-use fit_code::{Block, End, Function, Step};
+use fit_cells::opposite;
+use fit_code::{Block, End, Function};
 use fit_graph::order_of;
+use fit_tests::{push_block, push_instrs};
 use std::alloc::{AllocError, Global};
 use std::mem;
 use v8_formats::{Instr, Upper};
-use v8_word::{Cond, Reg};
-
-/// The condition that holds where this one doesn't.
-fn opposite(cond: Cond) -> Cond {
-    match cond {
-        Cond::Never => Cond::Always,
-        Cond::Equal => Cond::NotEqual,
-        Cond::LessOrEqual => Cond::Greater,
-        Cond::Less => Cond::GreaterOrEqual,
-        Cond::LessOrEqualUnsigned => Cond::GreaterUnsigned,
-        Cond::CarrySet => Cond::CarryClear,
-        Cond::Negative => Cond::Positive,
-        Cond::OverflowSet => Cond::OverflowClear,
-        Cond::Always => Cond::Never,
-        Cond::NotEqual => Cond::Equal,
-        Cond::Greater => Cond::LessOrEqual,
-        Cond::GreaterOrEqual => Cond::Less,
-        Cond::GreaterUnsigned => Cond::LessOrEqualUnsigned,
-        Cond::CarryClear => Cond::CarrySet,
-        Cond::Positive => Cond::Negative,
-        Cond::OverflowClear => Cond::OverflowSet,
-    }
-}
-
-/// Where a block goes that does nothing but go on; none of another one.
-fn beyond(block: &Block) -> Option<usize> {
-    match block.end {
-        End::Jump(to) if block.steps.is_empty() && block.slot.is_none() => Some(to),
-        _ => None,
-    }
-}
+use v8_word::Reg;
 
 /// Where control comes to from a block's beginning, past blocks that do nothing.
 fn through(blocks: &[Block], block: usize) -> usize {
     let mut at = block;
     for _ in 0..blocks.len() {
-        let Some(found) = blocks.get(at) else {
-            return at;
-        };
-        match beyond(found) {
-            Some(to) => at = to,
-            None => return at,
+        match blocks.get(at) {
+            Some(
+                Block {
+                    steps,
+                    end: End::Jump(to),
+                    slot: None,
+                    ..
+                },
+            ) if steps.is_empty() => at = *to,
+            _ => return at,
         }
     }
     // blocks that go round and do nothing
@@ -100,38 +76,6 @@ impl Chain {
             _ => 0,
         }
     }
-
-    /// Puts a block behind the others.
-    fn put(&mut self, block: usize) -> Result<(), AllocError> {
-        if let Some(number) = self.numbers.get_mut(block) {
-            *number = Some(self.blocks.len());
-        }
-        self.blocks.push(block)?;
-        Ok(())
-    }
-}
-
-/// A new block that goes on to another one, in the place of a branch's next one; gives its number.
-fn add_jump(
-    alloc: Global,
-    function: &mut Function,
-    chain: &mut Chain,
-    to: usize,
-    like: usize,
-) -> Result<usize, AllocError> {
-    let line = match function.blocks.get(like) {
-        Some(block) => block.line,
-        None => function.line,
-    };
-    let number = function.blocks.len();
-    function.blocks.push(Block {
-        steps: Vec::new(alloc),
-        end: End::Jump(to),
-        slot: None,
-        line,
-    })?;
-    chain.numbers.push(None)?;
-    Ok(number)
 }
 
 /// What has to stand behind a placed block; none where anything may. A branch whose next block stands elsewhere is
@@ -142,6 +86,7 @@ fn follower(
     chain: &mut Chain,
     block: usize,
 ) -> Result<Option<usize>, AllocError> {
+    let count = function.blocks.len();
     let Some(placed) = function.blocks.get_mut(block) else {
         return Ok(None);
     };
@@ -161,11 +106,15 @@ fn follower(
         };
         return Ok(Some(taken));
     }
-    let next = add_jump(alloc, function, chain, next, block)?;
-    if let Some(placed) = function.blocks.get_mut(block) {
-        placed.end = End::Branch { cond, taken, next };
-    }
-    Ok(Some(next))
+    placed.end = End::Branch {
+        cond,
+        taken,
+        next: count,
+    };
+    let line = placed.line;
+    push_block(alloc, function, End::Jump(next), line)?;
+    chain.numbers.push(None)?;
+    Ok(Some(count))
 }
 
 /// Places a block, and behind it what follows.
@@ -178,7 +127,10 @@ fn follow(
     let mut block = first;
     // Each turn places one block; each old one may bring a new one.
     for _ in 0..function.blocks.len().saturating_mul(2) {
-        chain.put(block)?;
+        if let Some(number) = chain.numbers.get_mut(block) {
+            *number = Some(chain.blocks.len());
+        }
+        chain.blocks.push(block)?;
         match follower(alloc, function, chain, block)? {
             Some(next) => block = next,
             None => break,
@@ -225,16 +177,11 @@ fn fill_first(function: &mut Function) -> Result<(), AllocError> {
         && !framed
         && first.steps.is_empty()
     {
-        first.steps.push(Step {
-            instr: Instr::Sethi(Upper {
-                rd: Reg::G0,
-                imm22: 0,
-            }),
-            line,
-            callee: None,
-            object: None,
-            slot: None,
-        })?;
+        let nothing = Instr::Sethi(Upper {
+            rd: Reg::G0,
+            imm22: 0,
+        });
+        push_instrs(&mut first.steps, &[Some(nothing)], line)?;
     }
     Ok(())
 }

@@ -1,7 +1,7 @@
 //! What isn't shown of a function's steps.
 use fit_cells::{return_from, run_to_call};
-use fit_code::{Block, Function, Line, Program, Region, Step};
-use fit_graph::{Effects, effects_of, read_at_end};
+use fit_code::{Block, Function, Line, Program, Region};
+use fit_graph::{effects_of, read_at_end};
 use fit_ranges::{Origin, Ranges, Trace, end_of, named_object, origin_of, trace_of};
 use sbx_domain::State;
 use sbx_range::{Range, excludes_zero, range_of_address};
@@ -30,8 +30,8 @@ pub enum Lack {
     Given(u16),
     /// That an access lies where it has to, at a multiple of its size.
     Placed(Access),
-    /// That a divisor isn't 0, by its register, of which there is none where it is a number, and what is known of it.
-    Divisible(Option<u8>, Range),
+    /// That a divisor isn't 0, and what is known of it.
+    Divisible(Operand, Range),
 }
 
 /// What isn't shown of a step, by its place in its block; the end of the block stands behind the last step.
@@ -76,14 +76,6 @@ fn undefined_register(reads: u32, state: &State) -> Option<u16> {
     None
 }
 
-/// The first location that is read and isn't defined.
-fn undefined_location(effects: &Effects, state: &State) -> Option<u16> {
-    match effects.word_read {
-        Some(word) if state.range(word).is_none() => Some(word),
-        _ => undefined_register(effects.reads, state),
-    }
-}
-
 /// How many low bits of an address of so many bytes are 0.
 pub fn needed_alignment(size: u32) -> u8 {
     match size {
@@ -94,27 +86,16 @@ pub fn needed_alignment(size: u32) -> u8 {
     }
 }
 
-/// The number of the register that an operand is.
-fn number_of(operand: Operand) -> Option<u8> {
-    match operand {
-        Operand::Register(register) => Some(register.number()),
-        Operand::Immediate(_) => None,
-    }
-}
-
-impl<'a> Asking<'a> {
+impl Asking<'_> {
     /// Whether an access lies outside of the object that its base names.
     fn is_outside(&self, origin: Option<Origin>, from: i64, to: i64) -> bool {
-        let Some(origin) = origin else {
-            return false;
-        };
-        match named_object(self.program, &origin) {
-            Some(number) => match self.program.objects.get(number) {
-                Some(object) => from < i64::from(object.start) || to > end_of(object),
-                None => false,
-            },
-            None => false,
+        if let Some(origin) = origin
+            && let Some(number) = named_object(self.program, &origin)
+            && let Some(object) = self.program.objects.get(number)
+        {
+            return from < i64::from(object.start) || to > end_of(object);
         }
+        false
     }
 
     /// What isn't shown of an access.
@@ -133,15 +114,14 @@ impl<'a> Asking<'a> {
             && is_in_region(regions, from, to, writes)
             && !(self.by_object && self.is_outside(origin, from, to));
         if is_shown {
-            None
-        } else {
-            Some(Lack::Placed(Access {
-                range,
-                size,
-                writes,
-                origin,
-            }))
+            return None;
         }
+        Some(Lack::Placed(Access {
+            range,
+            size,
+            writes,
+            origin,
+        }))
     }
 
     /// The first param of a callee that isn't defined.
@@ -166,7 +146,11 @@ impl<'a> Asking<'a> {
     ) -> Option<Lack> {
         let step = block.steps.get(place)?;
         let effects = effects_of(function.frame, &step.instr);
-        if let Some(location) = undefined_location(&effects, state) {
+        let undefined = match effects.word_read {
+            Some(word) if state.range(word).is_none() => Some(word),
+            _ => undefined_register(effects.reads, state),
+        };
+        if let Some(location) = undefined {
             return Some(Lack::Defined(location));
         }
         let operands = trace.at(place);
@@ -176,7 +160,7 @@ impl<'a> Asking<'a> {
                 if excludes_zero(divisor) {
                     return None;
                 }
-                Some(Lack::Divisible(number_of(fields.operand2), divisor))
+                Some(Lack::Divisible(fields.operand2, divisor))
             }
             Operation::Transfer(transfer, _) => {
                 let range = range_of_address(operands[0]?, operands[1]?);
@@ -190,9 +174,8 @@ impl<'a> Asking<'a> {
     /// Asks the steps of a block one after the other. Of a call its slot is run before it is asked.
     fn ask_steps(
         &self,
-        function: &Function,
-        number: usize,
-        block: &Block,
+        code: &Function,
+        (number, block): (usize, &Block),
         trace: &Trace,
         state: &mut State,
         asks: &mut Vec<Ask>,
@@ -200,10 +183,16 @@ impl<'a> Asking<'a> {
         for (place, step) in block.steps.iter().enumerate() {
             let lack = match step.callee {
                 Some(callee) => {
-                    run_to_call(function.frame, step, state);
-                    self.lack_of_call(callee, state)
+                    run_to_call(code.frame, step, state);
+                    let lack = self.lack_of_call(callee, state);
+                    return_from(self.ranges.results(), callee, state);
+                    lack
                 }
-                None => self.lack_of(function, block, trace, place, state),
+                None => {
+                    let lack = self.lack_of(code, block, trace, place, state);
+                    state.transfer(code.frame, &step.instr);
+                    lack
+                }
             };
             if let Some(lack) = lack {
                 asks.push(Ask {
@@ -213,33 +202,31 @@ impl<'a> Asking<'a> {
                     lack,
                 })?;
             }
-            match step.callee {
-                Some(callee) => return_from(self.ranges.results(), callee, state),
-                None => state.transfer(function.frame, &step.instr),
-            }
         }
         Ok(())
     }
 
-    /// Asks the end of a block that was run.
-    fn ask_end(
+    /// Asks a block, from its beginning on, and then its end, if control comes to it.
+    fn ask_block(
         &self,
-        function: usize,
-        code: &Function,
-        number: usize,
-        state: &State,
+        (function, code): (usize, &Function),
+        (number, block): (usize, &Block),
+        state: &mut State,
         asks: &mut Vec<Ask>,
     ) -> Result<(), AllocError> {
-        let results = match self.ranges.results().get(function) {
+        let (program, ranges) = (self.program, self.ranges);
+        if !ranges.begin_block(program, function, number, state) {
+            return Ok(());
+        }
+        let trace = trace_of(self.alloc, code.frame, ranges.results(), block, state)?;
+        ranges.begin_block(program, function, number, state);
+        self.ask_steps(code, (number, block), &trace, state, asks)?;
+        let results = match ranges.results().get(function) {
             Some(results) => results.len().min(6) as u8,
             None => 0,
         };
-        if let Some(block) = code.blocks.get(number)
-            && let Some(location) = undefined_register(
-                read_at_end(code, results, &block.end),
-                state,
-            )
-        {
+        let read = read_at_end(code, results, &block.end);
+        if let Some(location) = undefined_register(read, state) {
             asks.push(Ask {
                 block: number,
                 place: block.steps.len(),
@@ -248,30 +235,6 @@ impl<'a> Asking<'a> {
             })?;
         }
         Ok(())
-    }
-
-    /// Asks a block, from its beginning on, if control comes to it.
-    fn ask_block(
-        &self,
-        function: usize,
-        number: usize,
-        state: &mut State,
-        asks: &mut Vec<Ask>,
-    ) -> Result<(), AllocError> {
-        let Some(code) = self.program.functions.get(function) else {
-            return Ok(());
-        };
-        let Some(block) = code.blocks.get(number) else {
-            return Ok(());
-        };
-        let (program, ranges) = (self.program, self.ranges);
-        if !ranges.begin_block(program, function, number, state) {
-            return Ok(());
-        }
-        let trace = trace_of(self.alloc, code.frame, ranges.results(), block, state)?;
-        ranges.begin_block(program, function, number, state);
-        self.ask_steps(code, number, block, &trace, state, asks)?;
-        self.ask_end(function, code, number, state, asks)
     }
 }
 
@@ -282,12 +245,10 @@ pub fn asks_of(
     state: &mut State,
 ) -> Result<Vec<Ask>, AllocError> {
     let mut asks = Vec::new(asking.alloc);
-    let blocks = match asking.program.functions.get(function) {
-        Some(code) => code.blocks.len(),
-        None => 0,
-    };
-    for number in 0..blocks {
-        asking.ask_block(function, number, state, &mut asks)?;
+    if let Some(code) = asking.program.functions.get(function) {
+        for (number, block) in code.blocks.iter().enumerate() {
+            asking.ask_block((function, code), (number, block), state, &mut asks)?;
+        }
     }
     Ok(asks)
 }

@@ -1,74 +1,103 @@
 //! Blocks in two.
 use fit_code::{Block, End, Function, Line, Step};
 use std::alloc::{AllocError, Global};
+use v8_formats::Instr;
 
-/// Puts a step behind others.
-pub fn push_step(steps: &mut Vec<Step>, step: Step) -> Result<(), AllocError> {
-    steps.extend_from_slice(&[step])
+/// Puts instructions that call nobody behind steps, those of them that are there.
+pub fn push_instrs(
+    steps: &mut Vec<Step>,
+    instrs: &[Option<Instr>],
+    line: Line,
+) -> Result<(), AllocError> {
+    for instr in instrs {
+        if let Some(instr) = *instr {
+            steps.push(Step {
+                instr,
+                line,
+                callee: None,
+                object: None,
+                slot: None,
+            })?;
+        }
+    }
+    Ok(())
 }
 
-/// Puts a step before that of a place of a block, if there is such a place.
-pub fn insert_step(block: &mut Block, place: usize, step: Step) -> Result<(), AllocError> {
-    // The step is put together in the call, since the prover refuses one that is handed on as it came.
-    let Step {
-        instr,
-        line,
-        callee,
-        object,
-        slot,
-    } = step;
+/// Puts an instruction that calls nobody before the step at a place of a block, if there is such a place.
+pub fn insert_instr(
+    function: &mut Function,
+    number: usize,
+    place: usize,
+    instr: Instr,
+    line: Line,
+) -> Result<(), AllocError> {
+    let Some(block) = function.blocks.get_mut(number) else {
+        return Ok(());
+    };
     if place <= block.steps.len() {
         block.steps.insert(
             place,
             Step {
                 instr,
                 line,
-                callee,
-                object,
-                slot,
+                callee: None,
+                object: None,
+                slot: None,
             },
         )?;
     }
     Ok(())
 }
 
-/// A new block of a function, behind the others.
+/// A new block without steps, behind the others.
 pub fn push_block(
+    alloc: Global,
     function: &mut Function,
-    steps: Vec<Step>,
     end: End,
     line: Line,
-) -> Result<(), AllocError> {
-    function.blocks.push(Block {
-        steps,
+) -> Result<&mut Block, AllocError> {
+    let block = function.blocks.push_mut(Block {
+        steps: Vec::new(alloc),
         end,
         slot: None,
         line,
     })?;
-    Ok(())
+    Ok(block)
+}
+
+/// A copy of a block's steps from a place on, and of its end, as a new block, whose number this is.
+pub fn copy_block(
+    alloc: Global,
+    function: &mut Function,
+    number: usize,
+    place: usize,
+) -> Result<usize, AllocError> {
+    let copy = function.blocks.len();
+    if let Some(block) = function.blocks.get(number) {
+        let copied = Block {
+            steps: Vec::from_slice(alloc, block.steps.get(place..).unwrap_or(&[]))?,
+            end: block.end,
+            slot: block.slot,
+            line: block.line,
+        };
+        function.blocks.push(copied)?;
+    }
+    Ok(copy)
 }
 
 /// Cuts a block before the step at a place. What was behind it stands in a new block, whose number this is, and to
-/// which the block goes on; nothing where there is no such block.
+/// which the block goes on.
 pub fn cut_block(
     alloc: Global,
     function: &mut Function,
     number: usize,
     place: usize,
-) -> Result<Option<usize>, AllocError> {
-    let rest = function.blocks.len();
-    let Some(block) = function.blocks.get_mut(number) else {
-        return Ok(None);
-    };
-    let behind = Block {
-        steps: Vec::from_slice(alloc, block.steps.get(place..).unwrap_or(&[]))?,
-        end: block.end,
-        slot: block.slot,
-        line: block.line,
-    };
-    block.steps.truncate(place);
-    block.end = End::Jump(rest);
-    block.slot = None;
-    function.blocks.push(behind)?;
-    Ok(Some(rest))
+) -> Result<usize, AllocError> {
+    let rest = copy_block(alloc, function, number, place)?;
+    if let Some(block) = function.blocks.get_mut(number) {
+        block.steps.truncate(place);
+        block.end = End::Jump(rest);
+        block.slot = None;
+    }
+    Ok(rest)
 }

@@ -4,9 +4,7 @@ mod place;
 mod repeat;
 mod words;
 
-pub use cut::{cut_block, insert_step, push_block, push_step};
-pub use place::{SCRATCH, needs_codes, needs_y, place_for, uses_scratch, y_writer};
+pub use cut::{copy_block, cut_block, insert_instr, push_block, push_instrs};
+pub use place::{InUse, in_use, y_writer};
 pub use repeat::{drop_compare, repeat_codes};
-pub use words::{
-    by_immediate, by_register, clear_step, push_number, register, step_of, with_address,
-};
+pub use words::{by_immediate, by_register, clearing, go_by, number_in, register};

@@ -1,8 +1,8 @@
 //! Codes that are in use where a block is to be cut, set again behind.
-use crate::cuts::cut::push_step;
-use crate::cuts::place::{Use, codes_use, needs_codes};
-use crate::cuts::words::{by_immediate, step_of};
-use fit_code::{Block, End, Step};
+use crate::cuts::cut::push_instrs;
+use crate::cuts::place::{Use, codes_use, in_use};
+use crate::cuts::words::by_immediate;
+use fit_code::{Block, End};
 use fit_graph::effects_of;
 use std::alloc::AllocError;
 use v8_formats::{Cond, Instr, Reg};
@@ -28,7 +28,7 @@ fn without_result(instr: Instr) -> Option<Instr> {
 fn last_setter(block: &Block) -> Option<usize> {
     let mut last = None;
     for (place, step) in block.steps.iter().enumerate() {
-        if codes_use(&step.instr) == Use::Writes {
+        if matches!(codes_use(&step.instr), Use::Writes) {
             last = Some(place);
         }
     }
@@ -37,12 +37,12 @@ fn last_setter(block: &Block) -> Option<usize> {
 
 /// Whether a register that has a bit is written from a place of a block on.
 fn is_written(frame: u32, block: &Block, place: usize, registers: u32) -> bool {
-    for (at, step) in block.steps.iter().enumerate() {
+    for step in block.steps.get(place..).unwrap_or(&[]) {
         let writes = match step.callee {
             Some(_) => 0xfffe,
             None => effects_of(frame, &step.instr).writes,
         };
-        if at >= place && writes & registers != 0 {
+        if writes & registers != 0 {
             return true;
         }
     }
@@ -86,7 +86,7 @@ pub fn repeat_codes(frame: u32, block: &mut Block) -> Result<bool, AllocError> {
     let line = block.line;
     let is_last = place.saturating_add(1) == block.steps.len();
     if !is_last {
-        push_step(&mut block.steps, step_of(instr, line))?;
+        push_instrs(&mut block.steps, &[Some(instr)], line)?;
     }
     Ok(!is_last)
 }
@@ -96,7 +96,7 @@ pub fn drop_compare(block: &mut Block) {
     let Some(place) = last_setter(block) else {
         return;
     };
-    let is_asked = needs_codes(block, place.saturating_add(1));
+    let is_asked = in_use(0, block, place.saturating_add(1)).codes;
     let is_bare = match block.steps.get(place) {
         Some(step) => effects_of(0, &step.instr).writes == 0,
         None => false,

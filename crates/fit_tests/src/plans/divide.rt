@@ -1,22 +1,19 @@
 //! The blocks of a test of a divisor.
 use crate::cuts::push_block;
-use crate::plans::insert::Frame;
+use crate::plans::insert::{Frame, comparing};
 use fit_code::{End, Function, Step};
 use sbx_range::Range;
 use std::alloc::AllocError;
 use v8_formats::Cond;
 
-/// A block that goes to another one where a condition holds of a register compared with 0, and else to the next one.
-fn push_sign(
+/// A block of WRY and the division.
+fn push_division(
     frame: &Frame,
     function: &mut Function,
-    register: u8,
-    cond: Cond,
-    taken: usize,
+    steps: &[Step; 2],
 ) -> Result<(), AllocError> {
-    let mut steps = Vec::new(frame.alloc);
-    frame.push_compare(&mut steps, register, 0, 0)?;
-    frame.push_branch(function, steps, cond, taken)
+    let block = push_block(frame.alloc, function, End::Jump(frame.rest), frame.line)?;
+    block.steps.extend_from_slice(steps)
 }
 
 /// The blocks of a test of a divisor, in which WRY and the division stand: twice, where the divisor may have either
@@ -28,17 +25,16 @@ pub fn push_divisor_test(
     range: Range,
     steps: &[Step; 2],
 ) -> Result<(), AllocError> {
-    let mut divisions = 1;
-    if range.lo < 0 && range.hi > 0 {
-        divisions = 2;
+    let compare = comparing(register, 0, 0);
+    let has_both = range.lo < 0 && range.hi > 0;
+    if has_both {
         // A number above 0 goes to the second of them, behind the test of 0 and the first one.
         let second = function.blocks.len().saturating_add(3);
-        push_sign(frame, function, register, Cond::Greater, second)?;
+        frame.push_branch(function, &compare, Cond::Greater, second)?;
     }
-    push_sign(frame, function, register, Cond::Equal, frame.exit)?;
-    for _ in 0..divisions {
-        let division = Vec::from_slice(frame.alloc, steps)?;
-        push_block(function, division, End::Jump(frame.rest), frame.line)?;
+    frame.push_branch(function, &compare, Cond::Equal, frame.exit)?;
+    if has_both {
+        push_division(frame, function, steps)?;
     }
-    Ok(())
+    push_division(frame, function, steps)
 }

@@ -1,7 +1,7 @@
 //! The blocks of a test of an address.
-use crate::cuts::{by_immediate, by_register, push_block, push_number, push_step, step_of};
+use crate::cuts::{by_immediate, by_register, number_in, push_block, push_instrs};
 use crate::plans::plan::{Plan, Way};
-use fit_code::{End, Function, Line, Step};
+use fit_code::{End, Function, Line};
 use std::alloc::{AllocError, Global};
 use v8_formats::{Cond, Instr, Three};
 
@@ -30,6 +30,28 @@ fn back(register: u8, lo: i32) -> Three {
     }
 }
 
+/// A register compared with a number.
+pub fn comparing(register: u8, number: i32, scratch: u8) -> [Option<Instr>; 3] {
+    if (0..=4095).contains(&number) {
+        let compare = Instr::SubCc(by_immediate(0, register, number));
+        return [None, None, Some(compare)];
+    }
+    let [high, low] = number_in(scratch, number);
+    let compare = Instr::SubCc(by_register(0, register, scratch));
+    [high, low, Some(compare)]
+}
+
+/// What is left of a register once a number is subtracted.
+fn subtracting(register: u8, lo: i32) -> [Option<Instr>; 3] {
+    if (-4095..=4095).contains(&lo) {
+        let rest = Instr::Add(by_immediate(REST, register, lo.saturating_neg()));
+        return [None, None, Some(rest)];
+    }
+    let [high, low] = number_in(FROM, lo);
+    let rest = Instr::Sub(by_register(REST, register, FROM));
+    [high, low, Some(rest)]
+}
+
 /// Where the blocks of a test go, and of which line they are.
 #[derive(Clone, Copy)]
 pub struct Frame {
@@ -44,133 +66,72 @@ pub struct Frame {
 }
 
 impl Frame {
-    fn push(&self, steps: &mut Vec<Step>, instr: Instr) -> Result<(), AllocError> {
-        push_step(steps, step_of(instr, self.line))
-    }
-
-    /// A register compared with a number.
-    pub fn push_compare(
+    /// A new block of these instructions that goes on to another one.
+    pub fn push_jump(
         &self,
-        steps: &mut Vec<Step>,
-        register: u8,
-        number: i32,
-        scratch: u8,
+        function: &mut Function,
+        instrs: &[Option<Instr>],
+        to: usize,
     ) -> Result<(), AllocError> {
-        if (0..=4095).contains(&number) {
-            return self.push(steps, Instr::SubCc(by_immediate(0, register, number)));
-        }
-        push_number(steps, scratch, number, self.line)?;
-        self.push(steps, Instr::SubCc(by_register(0, register, scratch)))
+        let block = push_block(self.alloc, function, End::Jump(to), self.line)?;
+        push_instrs(&mut block.steps, instrs, self.line)
     }
 
-    /// A block that goes to another one where a condition holds, and else on to the block that is made next.
+    /// A new block of these instructions that goes to another one where a condition holds, and else on to the block
+    /// that is made next.
     pub fn push_branch(
         &self,
         function: &mut Function,
-        steps: Vec<Step>,
+        instrs: &[Option<Instr>],
         cond: Cond,
         taken: usize,
     ) -> Result<(), AllocError> {
-        let end = End::Branch {
-            cond,
-            taken,
-            next: function.blocks.len().saturating_add(1),
-        };
-        push_block(function, steps, end, self.line)
-    }
-
-    /// A block that ends the run unless a register's low bits are 0.
-    fn push_low_bits(&self, function: &mut Function, plan: &Plan) -> Result<(), AllocError> {
-        let mut steps = Vec::new(self.alloc);
-        let mask = low_bits(plan.alignment);
-        self.push(
-            &mut steps,
-            Instr::AndCc(by_immediate(0, plan.register, mask)),
-        )?;
-        self.push_branch(function, steps, Cond::NotEqual, self.exit)
-    }
-
-    /// The step that makes seen that a register's low bits are 0, where they are.
-    fn push_mask(&self, steps: &mut Vec<Step>, plan: &Plan) -> Result<(), AllocError> {
-        if plan.alignment == 0 {
-            return Ok(());
-        }
-        let mask = !low_bits(plan.alignment);
-        self.push(
-            steps,
-            Instr::And(by_immediate(plan.register, plan.register, mask)),
-        )
-    }
-
-    /// Steps that leave what is left of a register once a number is subtracted, and those that give the register back.
-    fn push_rest(
-        &self,
-        steps: &mut Vec<Step>,
-        behind: &mut Vec<Step>,
-        plan: &Plan,
-        lo: i32,
-    ) -> Result<(), AllocError> {
-        self.push_mask(steps, plan)?;
-        let rest = if (-4095..=4095).contains(&lo) {
-            Instr::Add(by_immediate(REST, plan.register, lo.saturating_neg()))
-        } else {
-            push_number(steps, FROM, lo, self.line)?;
-            Instr::Sub(by_register(REST, plan.register, FROM))
-        };
-        self.push(steps, rest)?;
-        self.push(behind, Instr::Add(back(plan.register, lo)))
+        let next = function.blocks.len().saturating_add(1);
+        let end = End::Branch { cond, taken, next };
+        let block = push_block(self.alloc, function, end, self.line)?;
+        push_instrs(&mut block.steps, instrs, self.line)
     }
 
     /// A block that gives a register back what a test by a plan took from it before it went beyond; it goes on to the
     /// block that is made next.
     pub fn push_restore(&self, function: &mut Function, plan: &Plan) -> Result<(), AllocError> {
-        let mut steps = Vec::new(self.alloc);
-        if let Way::Within { lo, .. } = plan.way
-            && plan.register == REST
-        {
-            self.push(&mut steps, Instr::Add(back(REST, lo)))?;
-        }
         let next = function.blocks.len().saturating_add(1);
-        push_block(function, steps, End::Jump(next), self.line)
-    }
-
-    /// The blocks of a test but for the last one, and that one's steps: what is left of a register once the lower end
-    /// of its bounds is subtracted is compared, and it is given back.
-    fn push_compares(
-        &self,
-        function: &mut Function,
-        plan: &Plan,
-        last: &mut Vec<Step>,
-    ) -> Result<(), AllocError> {
-        let mut steps = Vec::new(self.alloc);
-        let (register, most, scratch) = match plan.way {
-            Way::Never => return Ok(()),
-            Way::Known => return self.push_mask(last, plan),
-            Way::Above(hi) => {
-                self.push_mask(&mut steps, plan)?;
-                (plan.register, hi, FROM)
-            }
-            Way::Within { lo, length } => {
-                self.push_rest(&mut steps, last, plan, lo)?;
-                (REST, length, NUMBER)
-            }
+        let give_back = match plan.way {
+            Way::Within { lo, .. } if plan.register == REST => Some(Instr::Add(back(REST, lo))),
+            _ => None,
         };
-        self.push_compare(&mut steps, register, most, scratch)?;
-        self.push_branch(function, steps, Cond::GreaterUnsigned, self.beyond)
+        self.push_jump(function, &[give_back], next)
     }
 
     /// The blocks of a test, behind which control goes on to the rest. The first one of them is the function's next
-    /// block.
+    /// block. Before a word is compared it is made seen that its low bits are 0; what is left of it once the lower end
+    /// of its bounds is subtracted is compared, and it is given back.
     pub fn push_test(&self, function: &mut Function, plan: &Plan) -> Result<(), AllocError> {
+        let register = plan.register;
+        let mut mask = None;
         if plan.alignment > 0 {
-            self.push_low_bits(function, plan)?;
+            let low = low_bits(plan.alignment);
+            mask = Some(Instr::And(by_immediate(register, register, !low)));
+            let test = Some(Instr::AndCc(by_immediate(0, register, low)));
+            self.push_branch(function, &[test], Cond::NotEqual, self.exit)?;
         }
-        let mut last = Vec::new(self.alloc);
-        self.push_compares(function, plan, &mut last)?;
-        let next = match plan.way {
-            Way::Never => self.beyond,
-            _ => self.rest,
-        };
-        push_block(function, last, End::Jump(next), self.line)
+        match plan.way {
+            Way::Never => self.push_jump(function, &[], self.beyond),
+            Way::Known => self.push_jump(function, &[mask], self.rest),
+            Way::Above(hi) => {
+                let [a, b, c] = comparing(register, hi, FROM);
+                let instrs = [mask, a, b, c];
+                self.push_branch(function, &instrs, Cond::GreaterUnsigned, self.beyond)?;
+                self.push_jump(function, &[], self.rest)
+            }
+            Way::Within { lo, length } => {
+                let [a, b, c] = subtracting(register, lo);
+                let [d, e, f] = comparing(REST, length, NUMBER);
+                let instrs = [mask, a, b, c, d, e, f];
+                self.push_branch(function, &instrs, Cond::GreaterUnsigned, self.beyond)?;
+                let give_back = Some(Instr::Add(back(register, lo)));
+                self.push_jump(function, &[give_back], self.rest)
+            }
+        }
     }
 }

@@ -15,6 +15,13 @@ pub struct Plan {
     pub way: Way,
 }
 
+impl Plan {
+    /// Whether nothing can be said of the word that isn't known.
+    pub fn says_nothing(&self) -> bool {
+        matches!(self.way, Way::Known) && self.alignment == 0
+    }
+}
+
 /// How it is seen that a word lies from `lo` to `hi`.
 #[derive(Clone, Copy)]
 pub enum Way {

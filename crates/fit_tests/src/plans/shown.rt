@@ -34,18 +34,18 @@ fn write_range<W: Write>(f: &mut Formatter<W>, range: Range) -> Result<(), Error
 
 /// What may be wrong.
 fn write_subject<W: Write>(f: &mut Formatter<W>, shown: &Shown) -> Result<(), Error> {
-    let object = match shown.test.object {
+    let object = match shown.test.bounds.object {
         Some(number) => shown.program.objects.get(number),
         None => None,
     };
     match (shown.test.kind, object) {
-        (Kind::Divisor, _) => f.write_str("the divisor may be 0: it may be "),
+        (Kind::Divisor, _) => f.write_str("note: the divisor may be 0: it may be "),
         (_, Some(object)) => {
             let name = &object.name;
             let bytes = object.bytes.len();
-            write!(f, "the index into {name} ({bytes} bytes) may be ")
+            write!(f, "note: the index into {name} ({bytes} bytes) may be ")
         }
-        (_, None) => f.write_str("the address may be "),
+        (_, None) => f.write_str("note: the address may be "),
     }
 }
 
@@ -57,13 +57,12 @@ impl fmt::Display for Shown<'_> {
         {
             write!(f, "{file}:{number}: ")?;
         }
-        f.write_str("note: ")?;
         write_subject(f, self)?;
         write_range(f, self.test.range)?;
-        if self.test.alignment > 0 {
-            let multiple = 1u32 << (self.test.alignment % 4);
-            write!(f, ", and no multiple of {multiple}")?;
+        if self.test.alignment == 0 {
+            return f.write_str(": a test was added");
         }
-        f.write_str(": a test was added")
+        let multiple = 1u32 << (self.test.alignment % 4);
+        write!(f, ", and no multiple of {multiple}: a test was added")
     }
 }

@@ -1,5 +1,6 @@
 //! Tests, and where the run ends if one fails.
 use fit_code::Line;
+use fit_ranges::Bounds;
 use sbx_range::Range;
 
 /// What a test asks for. The exit word is 65,536 times its number and the line.
@@ -29,21 +30,16 @@ impl Kind {
 pub struct Test {
     pub line: Line,
     pub kind: Kind,
-    /// The number of the object that an index is one of.
-    pub object: Option<usize>,
     /// What was known of the index, the address or the divisor.
     pub range: Range,
-    /// How many bytes the access moves.
-    pub size: u32,
     pub function: usize,
     /// The first block of the test, and the one to which control goes where the test isn't needed.
     pub head: usize,
     pub rest: usize,
-    /// The register that is tested, by its number as a location.
-    pub register: u16,
-    /// It has to lie from `lo` to `hi`, and to be a multiple of 2 to the power `alignment`; of a divisor they say
-    /// nothing.
-    pub lo: i64,
-    pub hi: i64,
+    /// The register that is tested.
+    pub register: u8,
+    /// It has to lie within these, which also name the object that an index is one of, and to be a multiple of 2 to the
+    /// power `alignment`; of a divisor they say nothing.
+    pub bounds: Bounds,
     pub alignment: u8,
 }

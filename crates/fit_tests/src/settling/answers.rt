@@ -1,16 +1,15 @@
 //! What is put into a program for one thing that isn't shown.
 use crate::asks::{Access, Ask};
 use crate::cuts::{
-    by_immediate, by_register, clear_step, cut_block, insert_step, needs_codes, needs_y, place_for,
-    push_block, push_number, repeat_codes, step_of, uses_scratch, with_address, y_writer,
+    InUse, clearing, copy_block, cut_block, go_by, in_use, insert_instr, number_in, push_block,
+    push_instrs, register, repeat_codes, y_writer,
 };
-use crate::plans::{Frame, Kind, Plan, Test, Way, push_divisor_test};
+use crate::plans::{Frame, Kind, Plan, Test, push_divisor_test};
 use fit_code::{Block, End, Fault, Function, Line, Reason, Step};
-use fit_graph::effects_of;
-use fit_ranges::{Origin, operands_of};
+use fit_ranges::{Bounds, Origin, operands_of};
 use sbx_range::Range;
 use std::alloc::{AllocError, Global};
-use v8_formats::{Instr, Operand, Three};
+use v8_formats::{Instr, Three};
 
 /// What tests are made by.
 #[derive(Clone, Copy)]
@@ -55,7 +54,7 @@ pub(crate) struct Planned {
 }
 
 /// Something that can't be tested.
-fn refused(alloc: Global, function: &Function, line: Line, what: &'static str) -> Fault {
+fn refused(function: &Function, line: Line, what: &'static str) -> Fault {
     match function.name.clone() {
         Ok(function) => Fault::new(line, Reason::Form { function, what }),
         Err(error) => Fault::from(error),
@@ -65,201 +64,113 @@ fn refused(alloc: Global, function: &Function, line: Line, what: &'static str) -
 /// The scratch register that the sum of an access's two parts is put into, %g7.
 pub(crate) const SUM: u8 = 7;
 
-/// Whether nothing can be said of a register's word that isn't known.
-pub(crate) fn says_nothing(plan: &Plan) -> bool {
-    matches!(plan.way, Way::Known) && plan.alignment == 0
-}
+/// Nothing is said of the bounds of a divisor.
+const NO_BOUNDS: Bounds = Bounds {
+    lo: 0,
+    hi: 0,
+    object: None,
+};
 
-/// The sum of an access's two parts, to be put into %g7, and the access that goes by it. Nothing of one that goes by
-/// %g7 before, and where scratch registers are in use.
-fn summed(frame: u32, block: &Block, place: usize) -> Option<(Three, Instr)> {
-    let step = block.steps.get(place)?;
-    let (first, second) = operands_of(frame, &step.instr)?;
-    if first.number() == SUM || uses_scratch(frame, block, place) {
+/// Lets an access go by %g7, into which the sum of its two parts, which this is, has to be put before. Nothing of one
+/// that goes by %g7 already, and where scratch registers are in use.
+fn summed(frame: u32, block: &mut Block, place: usize) -> Option<Three> {
+    if in_use(frame, block, place).scratch {
         return None;
     }
-    let sum = match second {
-        Operand::Register(second) => by_register(SUM, first.number(), second.number()),
-        Operand::Immediate(number) => by_immediate(SUM, first.number(), number.cast_signed()),
-    };
-    Some((sum, with_address(step.instr, SUM, Operand::Immediate(0))))
+    let access = block.steps.get_mut(place)?;
+    let (rs1, operand2) = operands_of(frame, &access.instr)?;
+    if rs1.number() == SUM {
+        return None;
+    }
+    let rd = register(SUM);
+    go_by(&mut access.instr, rd);
+    Some(Three { rd, rs1, operand2 })
 }
 
-/// Puts the sum of an access's two parts into %g7, from which it then goes. Says whether it didn't before.
-fn sum_address(frame: u32, block: &mut Block, place: usize) -> Result<bool, AllocError> {
-    let Some((sum, instr)) = summed(frame, block, place) else {
-        return Ok(false);
+/// Puts the sum of an access's parts into one register, that may then be tested.
+fn join_address(code: &mut Function, ask: &Ask) -> Result<(), Fault> {
+    let frame = code.frame;
+    let sum = match code.blocks.get_mut(ask.block) {
+        Some(block) => summed(frame, block, ask.place),
+        None => None,
     };
-    let Some(access) = block.steps.get_mut(place) else {
-        return Ok(false);
-    };
-    access.instr = instr;
-    let line = access.line;
-    insert_step(block, place, step_of(Instr::Add(sum), line))?;
-    Ok(true)
-}
-
-/// Whether the WRY at a place of a block reads no register.
-fn writes_constant_y(block: &Block, place: usize) -> bool {
-    match block.steps.get(place) {
-        Some(step) => effects_of(0, &step.instr).reads == 0,
-        None => false,
+    match sum {
+        Some(sum) => Ok(insert_instr(code, ask.block, ask.place, Instr::Add(sum), ask.line)?),
+        None => Err(refused(code, ask.line, "an address that can't be tested")),
     }
 }
 
-/// Takes the step at a place out of a block.
-fn take_step(block: &mut Block, place: usize) -> Option<Step> {
+/// Sets codes again behind a block's last step, that a test before it may stand between.
+fn free_codes(code: &mut Function, ask: &Ask) -> Result<(), Fault> {
+    let frame = code.frame;
+    if let Some(block) = code.blocks.get_mut(ask.block)
+        && repeat_codes(frame, block)?
+    {
+        return Ok(());
+    }
+    let what = "no place for a test: codes, Y or scratch registers are in use";
+    Err(refused(code, ask.line, what))
+}
+
+/// Takes a division, which is the last step of a block, and the WRY at a place out of it, WRY first; the block goes on
+/// to another one.
+fn take_division(code: &mut Function, number: usize, place: usize, to: usize) -> Option<[Step; 2]> {
+    let block = code.blocks.get_mut(number)?;
+    block.end = End::Jump(to);
+    let division = block.steps.pop()?;
     if place < block.steps.len() {
-        Some(block.steps.remove(place))
+        Some([block.steps.remove(place), division])
     } else {
         None
     }
 }
 
-/// Takes a division and its WRY out of a block, WRY first.
-fn take_division(block: &mut Block, writer: usize, place: usize) -> Option<[Step; 2]> {
-    let division = take_step(block, place)?;
-    let write = take_step(block, writer)?;
-    Some([write, division])
-}
-
-/// Puts a step before that of a place of a block, if there is such a block.
-fn put(code: &mut Function, block: usize, place: usize, step: Step) -> Result<(), AllocError> {
-    match code.blocks.get_mut(block) {
-        Some(block) => insert_step(block, place, step),
-        None => Ok(()),
+/// Where a test of what an address is worked out from may stand, from a place on. A sum that stands in %g7 for the
+/// access alone is tested there: the other scratch registers weren't in use before it.
+fn place_of_test(frame: u32, block: &Block, origin: &Origin, first: usize) -> Option<usize> {
+    let is_sum = origin.register == SUM;
+    let first = if is_sum { origin.last } else { first };
+    for place in first..=origin.last {
+        let used = in_use(frame, block, place);
+        if !used.codes && !used.y && (is_sum || !used.scratch) {
+            return Some(place);
+        }
     }
+    None
 }
 
-/// Where a test of what an address is worked out from may stand. A sum that stands in %g7 for the access alone is
-/// tested there: the other scratch registers weren't in use before it.
-fn place_of_test(frame: u32, block: &Block, origin: &Origin) -> Option<usize> {
-    if origin.register != SUM {
-        return place_for(frame, block, origin.first, origin.last);
+/// The same of an address with these plans: if the steps from there to the access are to stand twice, right before the
+/// access, if that may be.
+fn place_of(frame: u32, block: &Block, planned: &Planned) -> Option<usize> {
+    let origin = &planned.origin;
+    if planned.constants.is_some()
+        && let Some(place) = place_of_test(frame, block, origin, origin.last)
+    {
+        return Some(place);
     }
-    let is_used = needs_codes(block, origin.last) || needs_y(block, origin.last);
-    if is_used { None } else { Some(origin.last) }
+    place_of_test(frame, block, origin, origin.first)
 }
 
-/// Where the same test may stand if the steps from there to the access are to stand twice: right before the access, if
-/// that may be.
-fn place_of_both(frame: u32, block: &Block, origin: &Origin) -> Option<usize> {
-    let last = Origin {
-        first: origin.last,
-        ..*origin
-    };
-    match place_of_test(frame, block, &last) {
-        Some(place) => Some(place),
-        None => place_of_test(frame, block, origin),
-    }
-}
-
-/// How many steps are to stand twice, from a place of a block to an access; none where what they leave is in use behind
-/// them.
-fn steps_of_both(frame: u32, block: &Block, place: usize, access: usize) -> Option<usize> {
-    let behind = access.saturating_add(1);
-    if needs_codes(block, behind) || needs_y(block, behind) || uses_scratch(frame, block, behind) {
-        return None;
-    }
-    Some(behind.saturating_sub(place))
-}
-
-/// What a test by a plan asks for.
-fn kind_of(plan: &Plan) -> Kind {
-    match plan.bounds.object {
-        Some(_) => Kind::Index,
-        None => Kind::Pointer,
-    }
-}
-
-/// The test of an address by a plan, between two blocks.
-fn address_test(
-    function: usize,
-    ask: &Ask,
-    access: &Access,
-    plan: &Plan,
-    (head, rest): (usize, usize),
-) -> Test {
-    let kind = kind_of(plan);
-    Test {
-        line: ask.line,
-        kind,
-        object: plan.bounds.object,
-        range: if kind == Kind::Index {
-            plan.range
-        } else {
-            access.range
-        },
-        size: access.size,
-        function,
-        head,
-        rest,
-        register: u16::from(plan.register),
-        lo: plan.bounds.lo,
-        hi: plan.bounds.hi,
-        alignment: plan.alignment,
-    }
-}
-
-/// The test of a divisor, between two blocks.
-fn divisor_test(
-    function: usize,
-    ask: &Ask,
-    register: u8,
-    range: Range,
-    (head, rest): (usize, usize),
-) -> Test {
-    Test {
-        line: ask.line,
-        kind: Kind::Divisor,
-        object: None,
-        range,
-        size: 4,
-        function,
-        head,
-        rest,
-        register: u16::from(register),
-        lo: 0,
-        hi: 0,
-        alignment: 0,
-    }
-}
-
-/// A copy of a block's first steps, behind which control goes on as it does behind those; where no count is given a
-/// copy of the whole block.
-fn copy_steps(
-    alloc: Global,
-    code: &mut Function,
-    number: usize,
-    count: Option<usize>,
-) -> Result<usize, AllocError> {
-    if let Some(count) = count {
-        cut_block(alloc, code, number, count)?;
-    }
-    let Some(block) = code.blocks.get(number) else {
-        return Ok(number);
-    };
-    let copied = Block {
-        steps: Vec::from_slice(alloc, block.steps.as_slice())?,
-        end: block.end,
-        slot: block.slot,
-        line: block.line,
-    };
-    let copy = code.blocks.len();
-    code.blocks.push(copied)?;
-    Ok(copy)
-}
-
-/// The test of a load among the constants, behind which the first steps of a block stand once more; gives the block
-/// that a first test goes to, by whose plan the load isn't in the data that may be written.
+/// The test of a load among the constants, behind which the first steps of a block stand once more, so many that the
+/// load is the last of them, or all of them, where what they leave is in use behind; gives the block that a first test
+/// goes to, by whose plan the load isn't in the data that may be written.
 fn push_both(
     code: &mut Function,
     first: &Frame,
-    count: Option<usize>,
+    count: usize,
     plan: &Plan,
     second: &Plan,
 ) -> Result<usize, AllocError> {
-    let copy = copy_steps(first.alloc, code, first.rest, count)?;
+    if let Some(block) = code.blocks.get(first.rest)
+        && let InUse {
+            codes: false,
+            y: false,
+            scratch: false,
+        } = in_use(code.frame, block, count)
+    {
+        cut_block(first.alloc, code, first.rest, count)?;
+    }
+    let copy = copy_block(first.alloc, code, first.rest, 0)?;
     let head = code.blocks.len();
     first.push_restore(code, plan)?;
     let frame = Frame {
@@ -272,7 +183,7 @@ fn push_both(
 
 impl Tests {
     /// No tests.
-    pub fn none(alloc: Global, options: Options) -> Tests {
+    pub(crate) fn none(alloc: Global, options: Options) -> Tests {
         Tests {
             alloc,
             options,
@@ -282,12 +193,6 @@ impl Tests {
             drops: 0,
             changed: Vec::new(alloc),
         }
-    }
-
-    /// A block is changed.
-    pub(crate) fn change(&mut self, function: usize, block: usize) -> Result<(), AllocError> {
-        self.changed.push((function, block))?;
-        Ok(())
     }
 
     /// The block that ends the run for tests of a kind in a line.
@@ -305,10 +210,9 @@ impl Tests {
         }
         let number = line.number.min(0xffff).cast_signed();
         let word = kind.number().saturating_mul(65_536).saturating_add(number);
-        let mut steps = Vec::new(self.alloc);
-        push_number(&mut steps, 8, word, line)?;
         let block = code.blocks.len();
-        push_block(code, steps, End::Exit, line)?;
+        let end = push_block(self.alloc, code, End::Exit, line)?;
+        push_instrs(&mut end.steps, &number_in(8, word), line)?;
         self.exits.push(Exit {
             function,
             kind,
@@ -332,74 +236,36 @@ impl Tests {
             return Ok(());
         }
         if is_cleared {
-            return Err(refused(
-                self.alloc,
-                code,
-                line,
-                "a register is read that a call has left undefined",
-            ));
+            let what = "a register is read that a call has left undefined";
+            return Err(refused(code, line, what));
         }
         self.cleared.push((function, location))?;
-        put(code, 0, 0, clear_step(location, line))?;
-        Ok(self.change(function, 0)?)
+        insert_instr(code, 0, 0, clearing(location), line)?;
+        self.changed.push((function, 0))?;
+        Ok(())
     }
 
-    /// Makes a location 0 before a step.
-    pub(crate) fn clear_before(
+    /// Cuts a block at a place for a test of a kind; says where the test's blocks go.
+    fn cut_for(
         &mut self,
         code: &mut Function,
         function: usize,
         ask: &Ask,
-        location: u16,
-    ) -> Result<(), AllocError> {
-        put(code, ask.block, ask.place, clear_step(location, ask.line))?;
-        self.change(function, ask.block)
+        place: usize,
+        kind: Kind,
+    ) -> Result<Frame, AllocError> {
+        let exit = self.exit_of(code, function, kind, ask.line)?;
+        let rest = cut_block(self.alloc, code, ask.block, place)?;
+        Ok(Frame {
+            alloc: self.alloc,
+            line: ask.line,
+            exit,
+            beyond: exit,
+            rest,
+        })
     }
 
-    /// The block of an ask is changed, or can't be.
-    fn finish(
-        &mut self,
-        code: &Function,
-        function: usize,
-        ask: &Ask,
-        is_done: bool,
-        what: &'static str,
-    ) -> Result<(), Fault> {
-        if is_done {
-            Ok(self.change(function, ask.block)?)
-        } else {
-            Err(refused(self.alloc, code, ask.line, what))
-        }
-    }
-
-    /// Sets codes again behind a block's last step, that a test before it may stand between.
-    fn free_codes(&mut self, code: &mut Function, function: usize, ask: &Ask) -> Result<(), Fault> {
-        let frame = code.frame;
-        let is_done = match code.blocks.get_mut(ask.block) {
-            Some(block) => repeat_codes(frame, block)?,
-            None => false,
-        };
-        let what = "no place for a test: codes, Y or scratch registers are in use";
-        self.finish(code, function, ask, is_done, what)
-    }
-
-    /// Puts the sum of an access's parts into one register, that may then be tested.
-    fn join_address(
-        &mut self,
-        code: &mut Function,
-        function: usize,
-        ask: &Ask,
-    ) -> Result<(), Fault> {
-        let frame = code.frame;
-        let is_done = match code.blocks.get_mut(ask.block) {
-            Some(block) => sum_address(frame, block, ask.place)?,
-            None => false,
-        };
-        let what = "an address that can't be tested";
-        self.finish(code, function, ask, is_done, what)
-    }
-
-    /// Cuts a block at a place for the test of an address.
+    /// Tests an address at a place of its block.
     fn test_at(
         &mut self,
         code: &mut Function,
@@ -410,22 +276,13 @@ impl Tests {
         planned: &Planned,
     ) -> Result<(), AllocError> {
         let plan = &planned.plan;
-        let exit = self.exit_of(code, function, kind_of(plan), ask.line)?;
-        let count = match code.blocks.get(ask.block) {
-            Some(block) => steps_of_both(code.frame, block, place, ask.place),
-            None => None,
+        let (kind, range) = match plan.bounds.object {
+            Some(_) => (Kind::Index, plan.range),
+            None => (Kind::Pointer, access.range),
         };
-        let Some(rest) = cut_block(self.alloc, code, ask.block, place)? else {
-            return Ok(());
-        };
-        let mut frame = Frame {
-            alloc: self.alloc,
-            line: ask.line,
-            exit,
-            beyond: exit,
-            rest,
-        };
+        let mut frame = self.cut_for(code, function, ask, place, kind)?;
         if let Some(second) = &planned.constants {
+            let count = ask.place.saturating_add(1).saturating_sub(place);
             frame.beyond = push_both(code, &frame, count, plan, second)?;
         }
         let head = code.blocks.len();
@@ -433,9 +290,18 @@ impl Tests {
         if let Some(block) = code.blocks.get_mut(ask.block) {
             block.end = End::Jump(head);
         }
-        self.list
-            .push(address_test(function, ask, access, plan, (head, rest)))?;
-        self.change(function, ask.block)
+        self.list.push(Test {
+            line: ask.line,
+            kind,
+            range,
+            function,
+            head,
+            rest: frame.rest,
+            register: plan.register,
+            bounds: plan.bounds,
+            alignment: plan.alignment,
+        })?;
+        Ok(())
     }
 
     /// Tests an address, by what it is worked out from.
@@ -448,21 +314,19 @@ impl Tests {
         planned: Option<Planned>,
     ) -> Result<(), Fault> {
         let Some(planned) = planned else {
-            return self.join_address(code, function, ask);
+            return join_address(code, ask);
         };
-        if says_nothing(&planned.plan) {
+        if planned.plan.says_nothing() {
             let what = "an address that can't be tested: a constant is stored to, or it wraps";
-            return Err(refused(self.alloc, code, ask.line, what));
+            return Err(refused(code, ask.line, what));
         }
-        let (frame, origin) = (code.frame, &planned.origin);
         let place = match code.blocks.get(ask.block) {
-            Some(block) if planned.constants.is_some() => place_of_both(frame, block, origin),
-            Some(block) => place_of_test(frame, block, origin),
+            Some(block) => place_of(code.frame, block, &planned),
             None => None,
         };
         match place {
             Some(place) => Ok(self.test_at(code, function, place, ask, access, &planned)?),
-            None => self.free_codes(code, function, ask),
+            None => free_codes(code, ask),
         }
     }
 
@@ -479,17 +343,16 @@ impl Tests {
         let Some(block) = code.blocks.get(ask.block) else {
             return Ok(());
         };
-        if needs_codes(block, place) {
-            return self.free_codes(code, function, ask);
+        if in_use(frame, block, place).codes {
+            return free_codes(code, ask);
         }
-        let Some(writer) = y_writer(frame, block, place) else {
+        let Some((writer, is_constant)) = y_writer(frame, block, place) else {
             let what = "a division whose upper word isn't written beside it";
-            return Err(refused(self.alloc, code, ask.line, what));
+            return Err(refused(code, ask.line, what));
         };
-        let is_shared = needs_y(block, place.saturating_add(1));
-        if is_shared && !writes_constant_y(block, writer) {
-            let what = "two divisions of one upper word";
-            return Err(refused(self.alloc, code, ask.line, what));
+        let is_shared = in_use(frame, block, place.saturating_add(1)).y;
+        if is_shared && !is_constant {
+            return Err(refused(code, ask.line, "two divisions of one upper word"));
         }
         Ok(self.divide_at(code, function, ask, register, range, (writer, is_shared))?)
     }
@@ -504,32 +367,27 @@ impl Tests {
         range: Range,
         (writer, is_shared): (usize, bool),
     ) -> Result<(), AllocError> {
-        let exit = self.exit_of(code, function, Kind::Divisor, ask.line)?;
-        let Some(rest) = cut_block(self.alloc, code, ask.block, ask.place.saturating_add(1))? else {
-            return Ok(());
-        };
+        let behind = ask.place.saturating_add(1);
+        let frame = self.cut_for(code, function, ask, behind, Kind::Divisor)?;
         let head = code.blocks.len();
-        let Some(block) = code.blocks.get_mut(ask.block) else {
-            return Ok(());
-        };
-        block.end = End::Jump(head);
-        let Some(steps) = take_division(block, writer, ask.place) else {
+        let Some(steps) = take_division(code, ask.block, writer, head) else {
             return Ok(());
         };
         if is_shared {
-            put(code, rest, 0, steps[0])?;
+            insert_instr(code, frame.rest, 0, steps[0].instr, steps[0].line)?;
         }
-        let frame = Frame {
-            alloc: self.alloc,
-            line: ask.line,
-            exit,
-            beyond: exit,
-            rest,
-        };
         push_divisor_test(&frame, code, register, range, &steps)?;
-        let last = code.blocks.len().saturating_sub(1);
-        self.list
-            .push(divisor_test(function, ask, register, range, (head, last)))?;
-        self.change(function, ask.block)
+        self.list.push(Test {
+            line: ask.line,
+            kind: Kind::Divisor,
+            range,
+            function,
+            head,
+            rest: code.blocks.len().saturating_sub(1),
+            register,
+            bounds: NO_BOUNDS,
+            alignment: 0,
+        })?;
+        Ok(())
     }
 }

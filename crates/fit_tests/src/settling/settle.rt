@@ -1,15 +1,16 @@
 //! Tests put into a program until nothing is left that isn't shown.
-use crate::asks::{Access, Ask, Asking, Lack, asks_of, needed_alignment, shorter_sums};
-use crate::cuts::{by_immediate, drop_compare};
+use crate::asks::{Access, Ask, Asking, Lack, asks_of, needed_alignment, shorten_block};
+use crate::cuts::{clearing, drop_compare, insert_instr};
 use crate::plans::{Kind, Test, plan_in, plan_in_constants};
-use crate::settling::answers::{Planned, SUM, Tests, says_nothing};
+use crate::settling::answers::{Options, Planned, SUM, Tests};
 use fit_cells::range_in;
 use fit_code::{End, Fault, Function, NO_LINE, Program, Reason};
 use fit_ranges::{Origin, Ranges, bounds_of, operands_of};
 use sbx_domain::State;
 use sbx_range::excludes_zero;
-use std::alloc::AllocError;
-use v8_formats::{Instr, Operand};
+use std::alloc::{AllocError, Global};
+use std::mem;
+use v8_formats::Operand;
 
 /// As many rounds as settling may take, and in so many of them tests that aren't needed go.
 const ROUNDS: u32 = 1_000;
@@ -17,8 +18,8 @@ const ROUNDS: u32 = 1_000;
 const DROPS: u32 = 4;
 
 /// An origin with its plans.
-fn with_plan(asking: &Asking, access: &Access, origin: Origin) -> Planned {
-    let (program, needed) = (asking.program, needed_alignment(access.size));
+fn with_plan(program: &Program, access: &Access, origin: Origin) -> Planned {
+    let needed = needed_alignment(access.size);
     let bounds = bounds_of(program, &origin, i64::from(access.size));
     let plan = plan_in(&origin, bounds, needed);
     let constants = if access.writes {
@@ -33,40 +34,60 @@ fn with_plan(asking: &Asking, access: &Access, origin: Origin) -> Planned {
     }
 }
 
-/// The address of an access that goes by %g7 alone, as its own origin.
-fn own_origin(code: &Function, ask: &Ask, access: &Access) -> Option<Origin> {
-    let step = code.blocks.get(ask.block)?.steps.get(ask.place)?;
-    match operands_of(code.frame, &step.instr)? {
-        (first, Operand::Immediate(0)) if first.number() == SUM => Some(Origin {
-            register: SUM,
-            times: 1,
-            constant: 0,
-            first: ask.place,
-            last: ask.place,
-            range: Some(access.range),
-            object: match access.origin {
-                Some(origin) => origin.object,
-                None => None,
-            },
-        }),
-        _ => None,
+/// Whether an access goes by %g7 alone.
+fn goes_by_sum(code: &Function, ask: &Ask) -> bool {
+    if let Some(block) = code.blocks.get(ask.block)
+        && let Some(step) = block.steps.get(ask.place)
+        && let Some((first, Operand::Immediate(0))) = operands_of(code.frame, &step.instr)
+    {
+        return first.number() == SUM;
     }
+    false
 }
 
 /// How what isn't shown is tested, where it is an address: by what it is worked out from, if more can be known of that,
 /// else by the address itself.
-fn planned(asking: &Asking, function: usize, ask: &Ask) -> Option<Planned> {
+fn planned(program: &Program, function: usize, ask: &Ask) -> Option<Planned> {
     let Lack::Placed(access) = &ask.lack else {
         return None;
     };
+    let mut object = None;
     if let Some(origin) = access.origin {
-        let planned = with_plan(asking, access, origin);
-        if !says_nothing(&planned.plan) {
+        let planned = with_plan(program, access, origin);
+        if !planned.plan.says_nothing() {
             return Some(planned);
         }
+        object = origin.object;
     }
-    let origin = own_origin(asking.program.functions.get(function)?, ask, access)?;
-    Some(with_plan(asking, access, origin))
+    if !goes_by_sum(program.functions.get(function)?, ask) {
+        return None;
+    }
+    let origin = Origin {
+        register: SUM,
+        times: 1,
+        constant: 0,
+        first: ask.place,
+        last: ask.place,
+        range: Some(access.range),
+        object,
+    };
+    Some(with_plan(program, access, origin))
+}
+
+/// Whether a test isn't needed, by what is known where it begins.
+fn is_needless(test: &Test, ranges: &Ranges) -> bool {
+    let Some(cells) = ranges.cells(test.function, test.head) else {
+        return true;
+    };
+    let Some(range) = range_in(cells, u16::from(test.register)) else {
+        return false;
+    };
+    if test.kind == Kind::Divisor {
+        return excludes_zero(range);
+    }
+    test.bounds.lo <= i64::from(range.lo)
+        && i64::from(range.hi) <= test.bounds.hi
+        && test.alignment <= range.alignment
 }
 
 impl Tests {
@@ -80,12 +101,17 @@ impl Tests {
     ) -> Result<(), Fault> {
         match &ask.lack {
             Lack::Defined(location) => self.clear_at_entry(code, function, *location, ask.line),
-            Lack::Given(location) => Ok(self.clear_before(code, function, ask, *location)?),
+            Lack::Given(location) => {
+                let clear = clearing(*location);
+                Ok(insert_instr(code, ask.block, ask.place, clear, ask.line)?)
+            }
             Lack::Placed(access) => self.test_access(code, function, ask, access, planned),
-            Lack::Divisible(register, range) => match register {
-                Some(register) => self.test_divisor(code, function, ask, *register, *range),
-                None => Err(Fault::new(ask.line, Reason::Unreadable("a division by 0"))),
-            },
+            Lack::Divisible(Operand::Register(register), range) => {
+                self.test_divisor(code, function, ask, register.number(), *range)
+            }
+            Lack::Divisible(Operand::Immediate(_), _) => {
+                Err(Fault::new(ask.line, Reason::Unreadable("a division by 0")))
+            }
         }
     }
 
@@ -94,22 +120,25 @@ impl Tests {
     fn answer_once(
         &mut self,
         program: &mut Program,
-        ranges: &Ranges,
         function: usize,
         ask: &Ask,
         keys: &mut Vec<(u8, Option<usize>)>,
     ) -> Result<(), Fault> {
-        let is_changed = self.changed.contains(&(function, ask.block));
-        if is_changed && !matches!(ask.lack, Lack::Defined(_)) {
+        // a location is defined at the entry
+        let is_here = !matches!(ask.lack, Lack::Defined(_));
+        if is_here && self.changed.contains(&(function, ask.block)) {
             return Ok(());
         }
-        let planned = planned(&self.asking(program, ranges), function, ask);
+        let planned = planned(program, function, ask);
         if let Some(planned) = &planned {
             let key = (planned.origin.register, planned.plan.bounds.object);
             if keys.contains(&key) {
                 return Ok(());
             }
             keys.push(key)?;
+        }
+        if is_here {
+            self.changed.push((function, ask.block))?;
         }
         match program.functions.get_mut(function) {
             Some(code) => self.answer(code, function, ask, planned),
@@ -125,15 +154,21 @@ impl Tests {
         function: usize,
         state: &mut State,
     ) -> Result<(), Fault> {
-        let asks = asks_of(&self.asking(program, ranges), function, state)?;
+        let asking = Asking {
+            alloc: self.alloc,
+            program,
+            ranges,
+            by_object: self.options.by_object,
+        };
+        let asks = asks_of(&asking, function, state)?;
         let mut keys: Vec<(u8, Option<usize>)> = Vec::new(self.alloc);
         for ask in &asks {
-            self.answer_once(program, ranges, function, ask, &mut keys)?;
+            self.answer_once(program, function, ask, &mut keys)?;
         }
         Ok(())
     }
 
-    /// Writes sums in a way of which more is known.
+    /// Writes a function's sums in a way of which more is known.
     fn shorten(
         &mut self,
         program: &mut Program,
@@ -141,76 +176,32 @@ impl Tests {
         function: usize,
         state: &mut State,
     ) -> Result<(), AllocError> {
-        let found = shorter_sums(&self.asking(program, ranges), function, state)?;
-        for sum in &found {
-            if let Some(code) = program.functions.get_mut(function)
-                && let Some(block) = code.blocks.get_mut(sum.block)
-                && let Some(step) = block.steps.get_mut(sum.place)
-                && let Instr::Add(fields) = step.instr
-            {
-                step.instr = Instr::Add(by_immediate(
-                    fields.rd.number(),
-                    fields.rs1.number(),
-                    sum.number,
-                ));
-                self.change(function, sum.block)?;
-            }
-        }
-        Ok(())
-    }
-
-    fn asking<'a>(&self, program: &'a Program, ranges: &'a Ranges) -> Asking<'a> {
-        Asking {
-            alloc: self.alloc,
-            program,
-            ranges,
-            by_object: self.options.by_object,
-        }
-    }
-
-    /// Whether a test isn't needed, by what is known where it begins.
-    fn is_needless(&self, test: &Test, ranges: &Ranges) -> bool {
-        let Some(cells) = ranges.cells(test.function, test.head) else {
-            return true;
+        let blocks = match program.functions.get(function) {
+            Some(code) => code.blocks.len(),
+            None => 0,
         };
-        let Some(range) = range_in(cells, test.register) else {
-            return false;
-        };
-        match test.kind {
-            Kind::Divisor => excludes_zero(range),
-            Kind::Index | Kind::Pointer => {
-                test.lo <= i64::from(range.lo)
-                    && i64::from(range.hi) <= test.hi
-                    && test.alignment <= range.alignment
+        for block in 0..blocks {
+            if shorten_block(self.alloc, program, ranges, (function, block), state)? {
+                self.changed.push((function, block))?;
             }
-        }
-    }
-
-    /// Takes a test out of a function.
-    fn drop_test(&mut self, program: &mut Program, test: &Test) -> Result<(), AllocError> {
-        if let Some(code) = program.functions.get_mut(test.function)
-            && let Some(block) = code.blocks.get_mut(test.head)
-        {
-            block.steps.clear();
-            block.end = End::Jump(test.rest);
-            self.change(test.function, test.head)?;
         }
         Ok(())
     }
 
     /// Takes out the tests that aren't needed.
     fn drop_needless(&mut self, program: &mut Program, ranges: &Ranges) -> Result<(), AllocError> {
-        let mut kept = Vec::new(self.alloc);
-        for place in 0..self.list.len() {
-            if let Some(test) = self.list.get(place).copied() {
-                if self.is_needless(&test, ranges) {
-                    self.drop_test(program, &test)?;
-                } else {
-                    kept.push(test)?;
-                }
+        let tests = mem::replace(&mut self.list, Vec::new(self.alloc));
+        for test in &tests {
+            if !is_needless(test, ranges) {
+                self.list.push(*test)?;
+            } else if let Some(code) = program.functions.get_mut(test.function)
+                && let Some(block) = code.blocks.get_mut(test.head)
+            {
+                block.steps.clear();
+                block.end = End::Jump(test.rest);
+                self.changed.push((test.function, test.head))?;
             }
         }
-        self.list = kept;
         Ok(())
     }
 
@@ -230,7 +221,7 @@ impl Tests {
                 if first != second {
                     block.end = End::Jump(if first { taken } else { next });
                     drop_compare(block);
-                    self.change(function, number)?;
+                    self.changed.push((function, number))?;
                 }
             }
         }
@@ -257,29 +248,22 @@ impl Tests {
         Ok(())
     }
 
-    /// Puts tests into a program, of which these are the ranges, until nothing is left that isn't shown. The ranges
-    /// are then those of the program with its tests.
-    pub fn settle(
+    /// Puts tests into a program, of which these are the ranges, until nothing is left that isn't shown.
+    fn settle(
         &mut self,
         program: &mut Program,
         ranges: &mut Ranges,
         state: &mut State,
     ) -> Result<(), Fault> {
-        self.drops = 0;
-        for function in 0..program.functions.len() {
-            self.shorten(program, ranges, function, state)?;
-        }
-        if !self.changed.is_empty() {
-            ranges.renew(program, self.changed.as_slice(), state)?;
-            self.changed.clear();
-        }
         for _ in 0..ROUNDS {
+            if !self.changed.is_empty() {
+                ranges.renew(program, self.changed.as_slice(), state)?;
+                self.changed.clear();
+            }
             self.round(program, ranges, state)?;
             if self.changed.is_empty() {
                 return ranges.check_limits(program);
             }
-            ranges.renew(program, self.changed.as_slice(), state)?;
-            self.changed.clear();
         }
         Err(Fault::new(
             NO_LINE,
@@ -289,4 +273,21 @@ impl Tests {
             },
         ))
     }
+}
+
+/// Puts tests into a program, of which these are the ranges, until nothing is left that isn't shown. The ranges are
+/// then those of the program with its tests.
+pub fn add_tests(
+    alloc: Global,
+    options: Options,
+    program: &mut Program,
+    ranges: &mut Ranges,
+    state: &mut State,
+) -> Result<Vec<Test>, Fault> {
+    let mut tests = Tests::none(alloc, options);
+    for function in 0..program.functions.len() {
+        tests.shorten(program, ranges, function, state)?;
+    }
+    tests.settle(program, ranges, state)?;
+    Ok(tests.list)
 }

@@ -1,0 +1,27 @@
+//! What is looked at.
+use crate::meter::Meter;
+use crate::totals::Total;
+use fit_code::Program;
+use fit_ranges::Ranges;
+use std::alloc::Global;
+
+/// A function that is to declare something.
+#[derive(Clone, Copy)]
+pub struct Task<'t> {
+    pub alloc: Global,
+    pub ranges: &'t Ranges,
+    /// Its number.
+    pub number: usize,
+    pub meter: Option<&'t Meter>,
+    /// What those take that it calls.
+    pub known: &'t [Option<Total>],
+    /// The turns that its blocks weigh less than their steps and their ends; none of blocks that aren't named here.
+    pub spared: &'t [u64],
+}
+
+/// The same, with its program.
+#[derive(Clone, Copy)]
+pub struct Setting<'s> {
+    pub program: &'s Program,
+    pub task: &'s Task<'s>,
+}
