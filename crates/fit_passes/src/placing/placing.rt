@@ -1,6 +1,5 @@
 //! An order of a function's blocks in which control mostly goes on to the next one.
-use fit_cells::opposite;
-use fit_code::{Block, End, Function};
+use fit_code::{Block, End, Function, opposite};
 use fit_graph::order_of;
 use fit_tests::{push_block, push_instrs};
 use std::alloc::{AllocError, Global};
