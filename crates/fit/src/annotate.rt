@@ -1,30 +1,9 @@
 //! `fit annotate`: a source in the project's own language gets the annotations that it hasn't got.
-use crate::files::{NoSource, bytes_of, refused, tell, told, write_source};
+use crate::files::{NoSource, bytes_of, refused, tell, write_source};
 use crate::words::Words;
-use fit_annotate::{Annotated, Refusal, annotate};
+use fit_kept::{Annotated, Refusal, annotate};
 use sbx_asm::{AsmFault, Cause};
 use v8_syntax::SyntaxFault;
-
-/// What is to be done.
-#[derive(Clone, Copy)]
-pub struct Job<'a> {
-    source: &'a str,
-    /// Where the source goes; where it isn't said, to standard output.
-    out: Option<&'a str>,
-    is_strict: bool,
-}
-
-/// The job that the words behind `annotate` ask for; nothing where they ask for none.
-pub fn job_of<'a>(words: &Words<'a>) -> Option<Job<'a>> {
-    match words.sources.as_slice() {
-        [source] if words.turns.is_none() && !words.by_region => Some(Job {
-            source: *source,
-            out: words.out,
-            is_strict: words.is_strict,
-        }),
-        _ => None,
-    }
-}
 
 /// What a fault of the assembler's is, in words.
 fn meaning(cause: Cause) -> &'static str {
@@ -67,28 +46,24 @@ fn tell_refusal(rt: &HostRuntime, path: &str, refusal: Refusal) -> NoSource {
     }
 }
 
-/// Tells notes and writes the source; where there are notes, and they are errors, none is written.
-fn finish(rt: &HostRuntime, job: Job<'_>, made: &Annotated) -> Result<u8, NoSource> {
+/// Tells each note, and writes the source.
+fn finish(
+    rt: &HostRuntime,
+    words: &Words<'_>,
+    path: &str,
+    made: &Annotated,
+) -> Result<u8, NoSource> {
     for note in made.notes.as_slice() {
-        tell(rt, &note.shown(job.source));
+        tell(rt, &note.shown(path));
     }
-    if job.is_strict && !made.notes.is_empty() {
-        return Ok(1);
-    }
-    match write_source(rt, job.out, made.text.as_slice()) {
-        Ok(()) => Ok(0),
-        Err(stop) => Err(told(rt, job.out.unwrap_or("standard output"), stop)),
-    }
+    write_source(rt, words, !made.notes.is_empty(), made.text.as_slice())
 }
 
-/// Does a job, and gives the exit status.
-pub fn perform(rt: &HostRuntime, job: Job<'_>) -> Result<u8, NoSource> {
-    let bytes = match bytes_of(rt, job.source) {
-        Ok(bytes) => bytes,
-        Err(stop) => return Err(told(rt, job.source, stop)),
-    };
-    match annotate(rt.alloc(), job.source, bytes.as_slice()) {
-        Ok(made) => finish(rt, job, &made),
-        Err(refusal) => Err(tell_refusal(rt, job.source, refusal)),
+/// Gives the source at a path its annotations, and gives the exit status.
+pub fn perform(rt: &HostRuntime, words: &Words<'_>, path: &str) -> Result<u8, NoSource> {
+    let bytes = bytes_of(rt, path)?;
+    match annotate(rt.alloc(), path, bytes.as_slice()) {
+        Ok(made) => finish(rt, words, path, &made),
+        Err(refusal) => Err(tell_refusal(rt, path, refusal)),
     }
 }

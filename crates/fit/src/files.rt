@@ -1,4 +1,5 @@
 //! Files that are read and written, and what is told where there is no source.
+use crate::words::Words;
 use fit_passes::{Fault, Reason};
 use sbx_put::put_through;
 use std::alloc::AllocError;
@@ -67,7 +68,7 @@ pub fn refused(rt: &HostRuntime, fault: &Fault, files: &[String]) -> NoSource {
 }
 
 /// Tells what is wrong with the file at a path.
-pub fn told(rt: &HostRuntime, path: &str, stop: NoSource) -> NoSource {
+fn told(rt: &HostRuntime, path: &str, stop: NoSource) -> NoSource {
     match stop {
         NoSource::File => {
             let _ = eprintln!(rt; "{path}: can't be read or written");
@@ -80,8 +81,7 @@ pub fn told(rt: &HostRuntime, path: &str, stop: NoSource) -> NoSource {
     stop
 }
 
-/// All bytes of the file at a path.
-pub fn bytes_of(rt: &HostRuntime, path: &str) -> Result<Vec<u8>, NoSource> {
+fn read_bytes(rt: &HostRuntime, path: &str) -> Result<Vec<u8>, NoSource> {
     let file: File = fs::open(rt, path)?;
     let mut bytes = Vec::new(rt.alloc());
     file.take(MOST).read_to_end(&mut bytes)?;
@@ -91,8 +91,15 @@ pub fn bytes_of(rt: &HostRuntime, path: &str) -> Result<Vec<u8>, NoSource> {
     Ok(bytes)
 }
 
-/// Writes a source to a file, or to standard output.
-pub fn write_source(rt: &HostRuntime, out: Option<&str>, text: &[u8]) -> Result<(), NoSource> {
+/// All bytes of the file at a path; what is wrong with it is told.
+pub fn bytes_of(rt: &HostRuntime, path: &str) -> Result<Vec<u8>, NoSource> {
+    match read_bytes(rt, path) {
+        Ok(bytes) => Ok(bytes),
+        Err(stop) => Err(told(rt, path, stop)),
+    }
+}
+
+fn write_bytes(rt: &HostRuntime, out: Option<&str>, text: &[u8]) -> Result<(), NoSource> {
     match out {
         Some(path) => {
             let mut file: File = fs::create(rt, path)?;
@@ -104,4 +111,21 @@ pub fn write_source(rt: &HostRuntime, out: Option<&str>, text: &[u8]) -> Result<
         }
     }
     Ok(())
+}
+
+/// Writes a source to the file that words name, or to standard output, and gives the exit status; what is wrong with
+/// the file is told. Where something isn't shown, and the words say that this is an error, none is written.
+pub fn write_source(
+    rt: &HostRuntime,
+    words: &Words<'_>,
+    has_lacks: bool,
+    text: &[u8],
+) -> Result<u8, NoSource> {
+    if words.is_strict && has_lacks {
+        return Ok(1);
+    }
+    match write_bytes(rt, words.out, text) {
+        Ok(()) => Ok(0),
+        Err(stop) => Err(told(rt, words.out.unwrap_or("standard output"), stop)),
+    }
 }

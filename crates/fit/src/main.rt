@@ -5,7 +5,7 @@ mod annotate;
 mod files;
 mod words;
 
-use files::{NoSource, bytes_of, refused, tell, told, write_source};
+use files::{NoSource, bytes_of, refused, tell, write_source};
 use fit_gas::Source;
 use fit_legal::program_of;
 use fit_passes::{Fault, Made, Plan, make};
@@ -16,10 +16,7 @@ use words::{TURNS, USAGE, Words};
 
 /// Reads one source.
 fn read_source(rt: &HostRuntime, source: &mut Source, path: &str) -> Result<(), NoSource> {
-    let bytes = match bytes_of(rt, path) {
-        Ok(bytes) => bytes,
-        Err(stop) => return Err(told(rt, path, stop)),
-    };
+    let bytes = bytes_of(rt, path)?;
     match source.read(path, bytes.as_slice()) {
         Ok(()) => Ok(()),
         Err(fault) => Err(refused(rt, &fault, source.files.as_slice())),
@@ -59,28 +56,22 @@ fn make_source(alloc: Global, source: &Source, words: &Words<'_>) -> Result<Made
     )
 }
 
-/// Tells each test, and writes the source; where there are tests, and they are errors, none is written.
-fn finish(rt: &HostRuntime, words: &Words<'_>, out: &str, made: &Made) -> Result<u8, NoSource> {
+/// Tells each test, and writes the source.
+fn finish(rt: &HostRuntime, words: &Words<'_>, made: &Made) -> Result<u8, NoSource> {
     for test in made.tests.as_slice() {
         tell(rt, &test.shown(&made.program));
     }
-    if words.is_strict && !made.tests.is_empty() {
-        return Ok(1);
-    }
-    match write_source(rt, Some(out), made.text.as_bytes()) {
-        Ok(()) => Ok(0),
-        Err(stop) => Err(told(rt, out, stop)),
-    }
+    write_source(rt, words, !made.tests.is_empty(), made.text.as_bytes())
 }
 
 /// Makes one source of assembly, and gives the exit status.
-fn perform(rt: &HostRuntime, words: &Words<'_>, out: &str) -> Result<u8, NoSource> {
+fn perform(rt: &HostRuntime, words: &Words<'_>) -> Result<u8, NoSource> {
     let mut source = Source::new(rt.alloc());
     for path in words.sources.as_slice() {
         read_source(rt, &mut source, *path)?;
     }
     match make_source(rt.alloc(), &source, words) {
-        Ok(made) => finish(rt, words, out, &made),
+        Ok(made) => finish(rt, words, &made),
         Err(fault) => Err(refused(rt, &fault, source.files.as_slice())),
     }
 }
@@ -102,14 +93,11 @@ fn answer(rt: &HostRuntime, all: &[String]) -> Result<u8, NoSource> {
     if !words.take(if is_annotate { others } else { all })? {
         return Ok(usage(rt));
     }
-    if is_annotate {
-        return match annotate::job_of(&words) {
-            Some(job) => annotate::perform(rt, job),
-            None => Ok(usage(rt)),
-        };
-    }
-    match words.out {
-        Some(out) if !words.sources.is_empty() => perform(rt, &words, out),
+    match words.sources.as_slice() {
+        [source] if is_annotate && words.turns.is_none() && !words.by_region => {
+            annotate::perform(rt, &words, *source)
+        }
+        [_, ..] if !is_annotate && words.out.is_some() => perform(rt, &words),
         _ => Ok(usage(rt)),
     }
 }

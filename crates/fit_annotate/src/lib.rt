@@ -1,11 +1,15 @@
-//! Annotations for the project's own assembly language: a source with none, or with some, gets the rest, and nothing
-//! else of it changes.
+//! Annotations for the project's own assembly language: a source with none, or with some, gets the rest. That nothing
+//! else of it changes is looked at by `fit_kept`.
 #![tactic(auto)]
 
 mod additions;
 mod annotating;
-mod declared;
+mod annotation;
+mod finding;
+mod inserting;
 mod notes;
 
-pub use annotating::{Annotated, Refusal, annotate};
+pub use annotating::{Annotated, with_annotations};
+pub use annotation::{Addition, Annotation, Total, Value};
+pub use inserting::insert;
 pub use notes::{Asked, Note, Shown};

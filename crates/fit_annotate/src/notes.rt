@@ -68,28 +68,26 @@ fn write_access<W: Write>(f: &mut Formatter<W>, access: &Access) -> Result<(), E
 }
 
 fn write_lack<W: Write>(f: &mut Formatter<W>, lack: &Lack) -> Result<(), Error> {
-    match lack {
-        Lack::Defined(location) => {
-            let location = Location(*location);
-            write!(
-                f,
-                "{location} is read, and may be undefined: give it a value on each way here"
-            )
-        }
-        Lack::Given(location) => {
-            let location = Location(*location);
-            write!(
-                f,
-                "{location} may be undefined, and the function that is called takes it for granted: give it a value before"
-            )
-        }
-        Lack::Placed(access) => write_access(f, access),
+    let (location, what) = match lack {
+        Lack::Defined(location) => (
+            *location,
+            " is read, and may be undefined: give it a value on each way here",
+        ),
+        Lack::Given(location) => (
+            *location,
+            " may be undefined, and the function that is called takes it for granted: give it a value before",
+        ),
+        Lack::Placed(access) => return write_access(f, access),
         Lack::Divisible(_, range) => {
             f.write_str("the divisor may be 0: it may be ")?;
             write_range(f, *range)?;
-            f.write_str("; compare it with 0 before, and divide in a block where it isn't 0")
+            return f.write_str(
+                "; compare it with 0 before, and divide in a block where it isn't 0",
+            );
         }
-    }
+    };
+    let location = Location(location);
+    write!(f, "{location}{what}")
 }
 
 impl fmt::Display for Asked {

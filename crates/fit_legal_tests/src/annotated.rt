@@ -1,5 +1,5 @@
 //! Sources whose annotations were worked out by hand.
-use fit_annotate::{Annotated, Asked, Refusal, annotate};
+use fit_kept::{Annotated, Asked, Refusal, annotate};
 use std::alloc::{AllocError, Global};
 
 /// What is made of a source.

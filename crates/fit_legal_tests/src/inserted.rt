@@ -1,9 +1,10 @@
 //! Sources with annotations put in, written out by hand.
-use fit_insert::{Addition, Annotation, Total, insert};
-use sbx_image::{Cell, Range, Term};
+use fit_code::Reason;
+use fit_kept::{Addition, Annotation, Total, Value, insert, is_annotated};
+use sbx_image::Range;
 use std::alloc::Global;
 
-/// Whether a source with these additions and totals is what is wanted; none is where one has no place.
+/// Whether a source with these additions and totals is what is wanted, and annotated; none is where one has no place.
 fn is_made(
     alloc: Global,
     source: &[u8],
@@ -11,9 +12,13 @@ fn is_made(
     totals: &[Total],
     wanted: Option<&[u8]>,
 ) -> bool {
-    match (insert(alloc, source, additions, totals), wanted) {
-        (Ok(Some(made)), Some(wanted)) => made.as_slice() == wanted,
-        (Ok(None), None) => true,
+    let made = match insert(alloc, source, additions, totals) {
+        Ok(made) => made,
+        Err(fault) => return wanted.is_none() && matches!(fault.reason, Reason::Unreadable(_)),
+    };
+    match (is_annotated(alloc, source, made.as_slice()), wanted) {
+        (Ok(true), Some(wanted)) => made.as_slice() == wanted,
+        (Ok(false), None) => true,
         _ => false,
     }
 }
@@ -28,33 +33,51 @@ const BYTE: Range = Range {
 static ADDITIONS: [Addition; 6] = [
     Addition {
         before: 3,
-        annotation: Annotation::Depth(2),
+        annotation: Annotation {
+            name: ".depth ",
+            location: None,
+            value: Value::Number(2),
+        },
     },
     Addition {
         before: 3,
-        annotation: Annotation::Param(BYTE),
+        annotation: Annotation {
+            name: ".param ",
+            location: None,
+            value: Value::Range(BYTE),
+        },
     },
     Addition {
         before: 3,
-        annotation: Annotation::Result(BYTE),
+        annotation: Annotation {
+            name: ".result ",
+            location: None,
+            value: Value::Range(BYTE),
+        },
     },
     Addition {
         before: 5,
-        annotation: Annotation::Cell(Cell {
-            location: 32,
-            range: BYTE,
-        }),
+        annotation: Annotation {
+            name: ".cell ",
+            location: Some(32),
+            value: Value::Range(BYTE),
+        },
     },
     Addition {
         before: 5,
-        annotation: Annotation::Fuel(-462),
+        annotation: Annotation {
+            name: ".fuel ",
+            location: None,
+            value: Value::Number(-462),
+        },
     },
     Addition {
         before: 5,
-        annotation: Annotation::Term(Term {
-            location: 9,
-            coefficient: -7,
-        }),
+        annotation: Annotation {
+            name: ".term ",
+            location: Some(9),
+            value: Value::Number(-7),
+        },
     },
 ];
 
@@ -77,16 +100,24 @@ fn lines_stay(rt: HostRuntime) {
 /// What stands behind the last line of a source of one line.
 static BEHIND: [Addition; 1] = [Addition {
     before: 2,
-    annotation: Annotation::Fuel(1),
+    annotation: Annotation {
+        name: ".fuel ",
+        location: None,
+        value: Value::Number(1),
+    },
 }];
 
 /// Fuel that no line can say.
 static TOO_GREAT: [Addition; 1] = [Addition {
     before: 1,
-    annotation: Annotation::Fuel(1 << 40),
+    annotation: Annotation {
+        name: ".fuel ",
+        location: None,
+        value: Value::Number(1 << 40),
+    },
 }];
 
-/// Nothing is put behind the last line, and no line that the readers don't take as an annotation.
+/// Nothing is put behind the last line, and no line is annotated that the readers don't take as an annotation.
 #[test]
 fn some_have_no_place(rt: HostRuntime) {
     assert!(rt; is_made(rt.alloc(), b" nop", &BEHIND, &[], None));

@@ -1,5 +1,5 @@
 //! What programs do.
-use crate::told::{are_regions, are_told};
+use crate::told::{are_told, is_laid_out};
 
 /// What stands behind `main:`, and what is told of the program: of each function its name, the bytes of its frame, and
 /// its blocks. Of a block the words of its steps, as binutils assembles what they have to be, and where control goes:
@@ -70,11 +70,11 @@ fn programs_do_what_their_sources_do(rt: HostRuntime) {
 /// of 8 bytes long.
 #[test]
 fn constants_are_read_alone(rt: HostRuntime) {
-    are_regions(&rt, rt.alloc(), " retl\n nop", "rw 00080000 00000140\n");
-    are_regions(
-        &rt,
-        rt.alloc(),
-        CONSTANT,
-        "ro 00080000 00000158\nrw 00081000 00000158\n",
-    );
+    let wanted = [(false, 0x0008_0000, 0x0000_0140)];
+    assert!(rt; is_laid_out(rt.alloc(), " retl\n nop", &wanted));
+    let wanted = [
+        (true, 0x0008_0000, 0x0000_0158),
+        (false, 0x0008_1000, 0x0000_0158),
+    ];
+    assert!(rt; is_laid_out(rt.alloc(), CONSTANT, &wanted));
 }

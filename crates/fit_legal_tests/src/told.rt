@@ -26,8 +26,9 @@ fn push_block(text: &mut String, block: &Block) -> Result<(), AllocError> {
 }
 
 fn push_function(text: &mut String, function: &Function) -> Result<(), AllocError> {
-    let name = function.name.as_str();
-    write!(text, "{name} {}:", function.frame)?;
+    let frame = function.frame;
+    text.push_str(function.name.as_str())?;
+    write!(text, " {frame}:")?;
     for block in function.blocks.as_slice() {
         push_block(text, block)?;
     }
@@ -41,14 +42,16 @@ fn push_program(text: &mut String, program: &Program) -> Result<(), AllocError> 
     Ok(())
 }
 
-/// The regions of a program: what may be done there, where each begins, and how many bytes it has.
-fn push_regions(text: &mut String, program: &Program) -> Result<(), AllocError> {
-    for region in program.regions.as_slice() {
-        let right = if region.readonly { "ro" } else { "rw" };
-        let (start, length) = (region.start, region.length);
-        writeln!(text, "{right} {start:08X} {length:08X}")?;
+/// Whether a program has these regions: whether each may be read alone, where it begins, and how many bytes it has.
+fn has_regions(program: &Program, wanted: &[(bool, u32, u32)]) -> bool {
+    for (place, region) in program.regions.iter().enumerate() {
+        let found = (region.readonly, region.start, region.length);
+        match wanted.get(place) {
+            Some(other) if found == *other => {}
+            _ => return false,
+        }
     }
-    Ok(())
+    program.regions.len() == wanted.len()
 }
 
 fn push_fault(text: &mut String, files: &[String], fault: &Fault) -> Result<(), AllocError> {
@@ -70,49 +73,40 @@ pub(crate) fn is_shown(alloc: Global, fault: &Fault, name: &str, wanted: &str) -
 const HEAD: &str = ".global main\n.type main,#function\n.type f,#function\nmain:\n";
 
 /// The program of one file, which has this behind `main:`.
-fn made(alloc: Global, source: &mut Source, body: &str) -> Result<Program, Fault> {
-    let text = format!(in alloc; "{HEAD}{body}")?;
+fn made(source: &mut Source, body: &str) -> Result<Program, Fault> {
+    let mut text = String::from_str(source.alloc, HEAD)?;
+    text.push_str(body)?;
     source.read("t.s", text.as_bytes())?;
-    program_of(alloc, source, "main")
-}
-
-/// What is to be told of a program.
-#[derive(Clone, Copy)]
-enum Topic {
-    Code,
-    Regions,
+    program_of(source.alloc, source, "main")
 }
 
 /// Adds what is told of a program, or why there is none.
-fn push_told(
-    text: &mut String,
-    source: &mut Source,
-    topic: Topic,
-    body: &str,
-) -> Result<(), AllocError> {
-    match (made(source.alloc, source, body), topic) {
-        (Ok(program), Topic::Code) => push_program(text, &program),
-        (Ok(program), Topic::Regions) => push_regions(text, &program),
-        (Err(fault), _) => push_fault(text, source.files.as_slice(), &fault),
+fn push_told(text: &mut String, source: &mut Source, body: &str) -> Result<(), AllocError> {
+    match made(source, body) {
+        Ok(program) => push_program(text, &program),
+        Err(fault) => push_fault(text, source.files.as_slice(), &fault),
     }
 }
 
 /// Whether this is told of a program, or is why there is none.
-fn tells(alloc: Global, topic: Topic, body: &str, wanted: &str) -> bool {
+fn tells(alloc: Global, body: &str, wanted: &str) -> bool {
     let mut source = Source::new(alloc);
     let mut text = String::new(alloc);
-    let is_told = push_told(&mut text, &mut source, topic, body).is_ok();
+    let is_told = push_told(&mut text, &mut source, body).is_ok();
     is_told && text.as_str() == wanted
 }
 
 /// Asserts that each row is told.
 pub(crate) fn are_told(rt: &impl Abort, alloc: Global, rows: &[(&str, &str)]) {
     for (body, wanted) in rows {
-        assert!(rt; tells(alloc, Topic::Code, body, wanted), "{body}");
+        assert!(rt; tells(alloc, body, wanted), "{body}");
     }
 }
 
-/// Asserts that a program has these regions.
-pub(crate) fn are_regions(rt: &impl Abort, alloc: Global, body: &str, wanted: &str) {
-    assert!(rt; tells(alloc, Topic::Regions, body, wanted), "{body}");
+/// Whether the program of a source has these regions.
+pub(crate) fn is_laid_out(alloc: Global, body: &str, wanted: &[(bool, u32, u32)]) -> bool {
+    match made(&mut Source::new(alloc), body) {
+        Ok(program) => has_regions(&program, wanted),
+        Err(_fault) => false,
+    }
 }

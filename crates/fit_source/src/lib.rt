@@ -6,5 +6,5 @@ mod blocks;
 mod lines;
 mod program;
 
-pub use lines::{Given, Head, Lines, lines_of};
+pub use lines::{CellLine, Head, Said, tokens_or_none};
 pub use program::{Read, program_of};

@@ -74,28 +74,6 @@ unfoldable pub without : List (List ℕ) → List (List ℕ)
 without [] = []
 without (l ∷ ls) = if is_annotation l then without ls else bare l ∷ without ls
 
--- ---- texts
-
--- a text whose last line has its end, so that what follows begins a line
-unfoldable pub IsWhole : List ℕ → Type 0
-IsWhole a = (b : List ℕ) → lines_of (a ++ b) ≡ lines_of a ++ lines_of b
-
--- what some lines are annotated stays so where a text takes another one's place before others
-unfoldable pub Carries : List ℕ → List ℕ → Type 0
-Carries a b = (ls ms : List (List ℕ)) → IsAnnotated ls (lines_of a ++ ms) → IsAnnotated ls (lines_of b ++ ms)
-
--- a text of one line, an annotation, with its end
-pub record IsAdded (p : List ℕ) : Type 0 where
-  pub whole : IsWhole p
-  pub line : List ℕ
-  pub lines : lines_of p ≡ line ∷ []
-  pub annotation : is_annotation line ≡ true
-
--- a text of one line with its end, which has other numbers than the line of another text
-pub record IsFilled (p q : List ℕ) : Type 0 where
-  pub whole : IsWhole q
-  pub old : List ℕ
-  pub new : List ℕ
-  pub old_lines : lines_of p ≡ old ∷ []
-  pub new_lines : lines_of q ≡ new ∷ []
-  pub fills : Fills old new
+-- A line takes from some lines all but others: put before what the others are annotated, it is what all are annotated.
+unfoldable pub Takes : List (List ℕ) → List ℕ → List (List ℕ) → Type 0
+Takes ls m others = (ms : List (List ℕ)) → IsAnnotated others ms → IsAnnotated ls (m ∷ ms)

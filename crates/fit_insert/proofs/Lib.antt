@@ -1,2 +1,0 @@
-pub mod Wholes
-pub mod Annotating
