@@ -73,8 +73,8 @@ fn parts_in<'l>(line: &'l [u8], tokens: &[Token]) -> Option<Parts<'l>>
 /// The parts of a line; none where it is no `.function`.
 fn parts_of(alloc: Global, line: &[u8]) -> Result<Option<Parts<'_>>, AllocError>
     ensures stays { IfOk result (λ found. IfSome found (λ parts. is_annotation line.now ≡ false)) }
-    ensures bare { IfOk result (λ found. IfSome found
-        (λ parts. bare line.now ≡ parts.before.now ++ (48 ∷ []) ++ parts.between.now ++ (48 ∷ []) ++ parts.behind.now)) }
+    ensures bare { IfOk result (λ found. IfSome found (λ parts. bare line.now
+        ≡ parts.before.now ++ (48 ∷ []) ++ parts.between.now ++ (48 ∷ []) ++ parts.behind.now)) }
 {
     match tokens(alloc, line) {
         Ok(found) => Ok(parts_in(line, found.as_slice())),
