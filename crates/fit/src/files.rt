@@ -101,20 +101,20 @@ pub fn bytes_of(rt: &HostRuntime, path: &str) -> Result<Vec<u8>, NoSource> {
 
 fn write_bytes(rt: &HostRuntime, out: Option<&str>, text: &[u8]) -> Result<(), NoSource> {
     match out {
+        None | Some("-") => {
+            let mut out = rt.stdout();
+            put_through(&mut out, text)?;
+        }
         Some(path) => {
             let mut file: File = fs::create(rt, path)?;
             put_through(&mut file, text)?;
-        }
-        None => {
-            let mut out = rt.stdout();
-            put_through(&mut out, text)?;
         }
     }
     Ok(())
 }
 
-/// Writes a source to the file that words name, or to standard output, and gives the exit status; what is wrong with
-/// the file is told. Where something isn't shown, and the words say that this is an error, none is written.
+/// Writes a source to the file that words name, or to standard output where they name none or `-`, and gives the exit
+/// status; what is wrong with the file is told. Where something isn't shown, and the words say that this is an error, none is written.
 pub fn write_source(
     rt: &HostRuntime,
     words: &Words<'_>,

@@ -14,7 +14,7 @@ pub const USAGE: &str = "Usage: fit SRC.s.. -o OUT.s [--turns N] [--strict] [--r
 Turns compiler-made SPARC assembly, the files as one program, into an annotated source
 that `sandbox asm` and `sandbox verify` accept. What isn't shown is tested at run time.
 
-  -o OUT.s     where the source goes
+  -o OUT.s     where the source goes; - is standard output
   --turns N    the turns that the loops of main may take in all (1000000000), up to 10^12;
                those of another function a thousandth of its caller's in a call, or 10000
   --strict     where a test would be added, no source is made
