@@ -115,23 +115,19 @@ impl Frame {
             let test = Some(Instr::AndCc(by_immediate(0, register, low)));
             self.push_branch(function, &[test], Cond::NotEqual, self.exit)?;
         }
-        match plan.way {
-            Way::Never => self.push_jump(function, &[], self.beyond),
-            Way::Known => self.push_jump(function, &[mask], self.rest),
-            Way::Above(hi) => {
-                let [a, b, c] = comparing(register, hi, FROM);
-                let instrs = [mask, a, b, c];
-                self.push_branch(function, &instrs, Cond::GreaterUnsigned, self.beyond)?;
-                self.push_jump(function, &[], self.rest)
-            }
-            Way::Within { lo, length } => {
-                let [a, b, c] = subtracting(register, lo);
-                let [d, e, f] = comparing(REST, length, NUMBER);
-                let instrs = [mask, a, b, c, d, e, f];
-                self.push_branch(function, &instrs, Cond::GreaterUnsigned, self.beyond)?;
-                let give_back = Some(Instr::Add(back(register, lo)));
-                self.push_jump(function, &[give_back], self.rest)
-            }
-        }
+        let (difference, compare, give_back) = match plan.way {
+            Way::Never => return self.push_jump(function, &[], self.beyond),
+            Way::Known => return self.push_jump(function, &[mask], self.rest),
+            Way::Above(hi) => ([None, None, None], comparing(register, hi, FROM), None),
+            Way::Within { lo, length } => (
+                subtracting(register, lo),
+                comparing(REST, length, NUMBER),
+                Some(Instr::Add(back(register, lo))),
+            ),
+        };
+        let ([a, b, c], [d, e, f]) = (difference, compare);
+        let instrs = [mask, a, b, c, d, e, f];
+        self.push_branch(function, &instrs, Cond::GreaterUnsigned, self.beyond)?;
+        self.push_jump(function, &[give_back], self.rest)
     }
 }

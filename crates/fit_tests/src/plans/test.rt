@@ -4,7 +4,7 @@ use fit_ranges::Bounds;
 use sbx_range::Range;
 
 /// What a test asks for. The exit word is 65,536 times its number and the line.
-#[derive(Clone, Copy, PartialEq, Eq)]
+#[derive(Clone, Copy)]
 pub enum Kind {
     /// That an index lies in an object.
     Index,

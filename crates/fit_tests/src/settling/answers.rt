@@ -24,8 +24,9 @@ pub struct Options {
 #[derive(Clone, Copy)]
 struct Exit {
     function: usize,
-    kind: Kind,
     line: Line,
+    /// The exit word.
+    word: i32,
     block: usize,
 }
 
@@ -203,20 +204,20 @@ impl Tests {
         kind: Kind,
         line: Line,
     ) -> Result<usize, AllocError> {
+        let number = line.number.min(0xffff).cast_signed();
+        let word = kind.number().saturating_mul(65_536).saturating_add(number);
         for exit in &self.exits {
-            if exit.function == function && exit.kind == kind && exit.line == line {
+            if exit.function == function && exit.line == line && exit.word == word {
                 return Ok(exit.block);
             }
         }
-        let number = line.number.min(0xffff).cast_signed();
-        let word = kind.number().saturating_mul(65_536).saturating_add(number);
         let block = code.blocks.len();
         let end = push_block(self.alloc, code, End::Exit, line)?;
         push_instrs(&mut end.steps, &number_in(8, word), line)?;
         self.exits.push(Exit {
             function,
-            kind,
             line,
+            word,
             block,
         })?;
         Ok(block)

@@ -82,7 +82,7 @@ fn is_needless(test: &Test, ranges: &Ranges) -> bool {
     let Some(range) = range_in(cells, u16::from(test.register)) else {
         return false;
     };
-    if test.kind == Kind::Divisor {
+    if matches!(test.kind, Kind::Divisor) {
         return excludes_zero(range);
     }
     test.bounds.lo <= i64::from(range.lo)
