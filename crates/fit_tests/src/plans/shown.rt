@@ -21,11 +21,14 @@ impl Test {
     }
 }
 
-fn write_range<W: Write>(f: &mut Formatter<W>, range: Range) -> Result<(), Error> {
-    let (lo, hi) = (range.lo, range.hi);
-    if lo == i32::MIN && hi == i32::MAX {
-        f.write_str("any word")
-    } else if lo == hi {
+/// Writes how far numbers of a range lie behind the first one that may be.
+fn write_range<W: Write>(f: &mut Formatter<W>, range: Range, first: i64) -> Result<(), Error> {
+    if range.lo == i32::MIN && range.hi == i32::MAX {
+        return f.write_str("any word");
+    }
+    let lo = i64::from(range.lo).saturating_sub(first);
+    let hi = i64::from(range.hi).saturating_sub(first);
+    if lo == hi {
         write!(f, "{lo}")
     } else {
         write!(f, "{lo} to {hi}")
@@ -58,7 +61,12 @@ impl fmt::Display for Shown<'_> {
             write!(f, "{file}:{number}: ")?;
         }
         write_subject(f, self)?;
-        write_range(f, self.test.range)?;
+        // What is tested may be an index with a number added, or an address.
+        let first = match self.test.kind {
+            Kind::Index => self.test.bounds.lo,
+            Kind::Pointer | Kind::Divisor => 0,
+        };
+        write_range(f, self.test.range, first)?;
         if self.test.alignment == 0 {
             return f.write_str(": a test was added");
         }
