@@ -114,7 +114,8 @@ fn write_bytes(rt: &HostRuntime, out: Option<&str>, text: &[u8]) -> Result<(), N
 }
 
 /// Writes a source to the file that words name, or to standard output where they name none or `-`, and gives the exit
-/// status; what is wrong with the file is told. Where something isn't shown, and the words say that this is an error, none is written.
+/// status; what is wrong with the file is told. Where something isn't shown, and the words say that this is an error,
+/// none is written.
 pub fn write_source(
     rt: &HostRuntime,
     words: &Words<'_>,

@@ -51,7 +51,8 @@ fn parts_in<'l>(line: &'l [u8], tokens: &[Token]) -> Option<Parts<'l>>
     ensures stays { Ok tokens.now ≡ tokens_of line.now
         → IfSome result (λ parts. is_annotation line.now ≡ false) }
     ensures bare { Ok tokens.now ≡ tokens_of line.now → IfSome result
-        (λ parts. bare line.now ≡ parts.before.now ++ (48 ∷ []) ++ parts.between.now ++ (48 ∷ []) ++ parts.behind.now) }
+        (λ parts. bare line.now
+        ≡ parts.before.now ++ (48 ∷ []) ++ parts.between.now ++ (48 ∷ []) ++ parts.behind.now) }
 {
     let labels = label_count(line, tokens);
     let statement = read_statement(line, &tokens[2 * labels..]);

@@ -57,8 +57,8 @@ fn ends_in_number(name: &str) -> bool {
     }
 }
 
-/// A function's name: its own, with its number behind it where an earlier one has that name, as static ones of two files
-/// may, or a block might; a name that may not stand in a source is left out.
+/// A function's name: its own, with its number behind it where an earlier one has that name, as static ones of two
+/// files may, or a block might; a name that may not stand in a source is left out.
 fn name_of(
     alloc: Global,
     names: &[String],

@@ -148,8 +148,8 @@ impl Own<'_> {
         }
     }
 
-    /// Pushes a step at a place, with what it has to do with arguments in memory put otherwise: an access to them, and a
-    /// sum that is the address of the function's own.
+    /// Pushes a step at a place, with what it has to do with arguments in memory put otherwise: an access to them, and
+    /// a sum that is the address of the function's own.
     fn push_placed(
         &self,
         (block, place): (usize, usize),

@@ -92,8 +92,8 @@ impl Walk<'_, '_> {
         }
     }
 
-    /// Goes from a function on as far as there is something to do: by one item after the other, and back from a function
-    /// that has no more of them.
+    /// Goes from a function on as far as there is something to do: by one item after the other, and back from a
+    /// function that has no more of them.
     fn go_all(&mut self, first: usize) -> Result<(), Fault> {
         self.enter(first)?;
         let source = self.source;

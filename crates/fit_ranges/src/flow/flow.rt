@@ -449,8 +449,8 @@ impl Flow {
         }
     }
 
-    /// Puts cells in the place of a block's, those that are said with the ranges that are said. Says whether all that is
-    /// new in them is passed on; nothing where nothing is new.
+    /// Puts cells in the place of a block's, those that are said with the ranges that are said. Says whether all that
+    /// is new in them is passed on; nothing where nothing is new.
     fn take(
         &mut self,
         setting: &Setting,
