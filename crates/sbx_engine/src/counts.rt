@@ -8,11 +8,11 @@ ghost use Rattle.sbx_image.specs.Parts.{Parts};
 ghost use Rattle.sbx_flat.specs.declared.path.Place.{Place};
 ghost use Rattle.sbx_flat.specs.Runs.{weight_of};
 ghost use Rattle.sbx_flat.specs.Traffic.{after_operation, after_place, after_word, restored, saved};
-ghost use Rattle.sbx_decoded.specs.Decodes.{decoded};
+ghost use Rattle.sbx_store.specs.Decodes.{decoded};
 ghost use Rattle.sbx_engine.specs.Next.{next_at};
 
-use sbx_decoded::Decoded;
 use sbx_flat::{Operation, Traffic};
+use sbx_store::Decoded;
 
 /// The most turns that a step counts.
 const MOST: u64 = 25;

@@ -4,10 +4,10 @@ ghost use Rattle.sbx_flat.specs.Runs.{AreBytes, FlatSafe, budget};
 ghost use Rattle.sbx_engine.specs.Answer.{IsAnswer};
 
 use crate::running::{Ending, run};
-use sbx_decoded::Code;
 use sbx_flat::Traffic;
 use sbx_image::Image;
 use sbx_quick::Engine;
+use sbx_store::Code;
 use sbx_verify::{Accepted, budget};
 use std::alloc::{AllocError, Global};
 

@@ -1,9 +1,9 @@
 //! What a run comes to so far, on a machine of so many windows.
 ghost use Rattle.std.specs.Prelude.{◌<◌, ◌≤◌, ◌^◌};
 
-use sbx_decoded::Decoded;
 use sbx_engine::count;
 use sbx_flat::Traffic;
+use sbx_store::Decoded;
 
 /// The counts of a run so far, on a machine of so many windows.
 #[derive(Clone, Copy)]
