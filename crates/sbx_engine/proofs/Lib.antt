@@ -1,3 +1,10 @@
 pub mod Counted
-pub mod Reached
+pub mod Paths
+pub mod Budget
+pub mod Blind
+pub mod Served
+pub mod Onward
 pub mod Ends
+pub mod Stepping
+pub mod Gliding
+pub mod Ran

@@ -1,3 +1,5 @@
 pub mod Next
-pub mod Runs
+pub mod Going
+pub mod Halts
+pub mod Steps
 pub mod Answer

@@ -113,7 +113,7 @@ fn count_word(n: u32, next: &Decoded, traffic: Traffic) -> Traffic
 
 /// The traffic after the next step, of a decoded word or of none, on n windows.
 #[inline(always)]
-pub fn count(n: u32, next: Option<&Decoded>, traffic: Traffic) -> Traffic
+pub(crate) fn count(n: u32, next: Option<&Decoded>, traffic: Traffic) -> Traffic
     requires windows { (1 ≤ traffic.windows) × (traffic.windows < n) }
     requires room { (traffic.turns + 25 < 2 ^ 64) × (traffic.overflows + 1 < 2 ^ 64)
         × (traffic.underflows + 1 < 2 ^ 64) }

@@ -1,14 +1,11 @@
-//! Runs of accepted images to their end.
-ghost use Rattle.std.specs.Prelude.{◌≡◌, ◌≤◌, ◌<◌, ◌^◌, IfOk};
-ghost use Rattle.sbx_flat.specs.Runs.{AreBytes, FlatSafe, budget};
-ghost use Rattle.sbx_engine.specs.Answer.{IsAnswer};
+//! Runs of accepted images to their end, of a whole input.
+ghost use Rattle.std.specs.Prelude.{◌≢◌, ◌<◌, ◌≤◌, ◌^◌, IfOk, length};
+ghost use Rattle.sbx_flat.specs.Runs.{AreBytes};
+ghost use Rattle.sbx_engine.specs.Answer.{IsAnswer, Serves};
+ghost use Rattle.sbx_engine.specs.Halts.{HaltsSo};
 
-use crate::running::{Ending, run};
-use sbx_flat::Traffic;
-use sbx_image::Image;
-use sbx_quick::Engine;
-use sbx_store::Code;
-use sbx_verify::{Accepted, budget};
+use crate::course::{Course, Halt, MOST};
+use sbx_verify::Accepted;
 use std::alloc::{AllocError, Global};
 
 /// What a run gave: the exit word, the bytes written, the turns that it would make on a machine with the windows that
@@ -29,46 +26,40 @@ fn tells_bytes(bytes: &[u8])
     let _ = bytes;
 }
 
-/// The budget of an image, as its most steps.
-fn limit_of(image: &Image) -> u64
-    ensures value { result ≡ budget image.now }
-    ensures small { result < 2 ^ 40 }
-{
-    image.keeps_its_format();
-    budget(image)
-}
-
-/// Runs a safe image on an input to its end, and counts on so many windows.
-fn run_image(
-    alloc: Global,
-    image: &Image,
-    windows: u32,
+/// Does what a run halted for, with its whole input, of which so many bytes are read, and its output so far; or gives
+/// the exit word.
+#[tactic(auto, using(crate::proofs::Stepping::byte_asks, crate::proofs::Stepping::room_asks, crate::proofs::Stepping::ended_exits, crate::proofs::Stepping::not_short))]
+fn serve(
+    course: &mut Course,
+    halt: Halt,
     input: &[u8],
-) -> Result<Finished, AllocError>
-    requires some { 2 ≤ windows }
-    requires safe { FlatSafe image.now }
-    ensures { IfOk result (λ finished. IsAnswer image.now windows input.now finished) }
+    read: &mut usize,
+    output: &mut Vec<u8>,
+) -> Result<Option<u32>, AllocError>
+    requires halts { HaltsSo (2 ^ 62) course.old halt }
+    requires few { course.old.tally.traffic.turns < 2 ^ 40 }
+    requires found { halt ≢ Halt.Lost }
+    requires within { read.old ≤ length input.now }
+    ensures { IfOk result (Serves input.now read.old output.old.items course.old read.new output.new.items course.new) }
 {
-    let limit = limit_of(image);
-    tells_bytes(input);
-    let code = Code::of(alloc, image)?;
-    let mut engine = Engine::new(alloc, image, input)?;
-    let mut traffic = Traffic {
-        windows: 1,
-        overflows: 0,
-        underflows: 0,
-        turns: 0,
-    };
-    match run(&mut engine, &code, windows, &mut traffic, limit)? {
-        Ending::Exit(status) => Ok(Finished {
-            status,
-            output: engine.into_output(),
-            turns: traffic.turns,
-            overflows: traffic.overflows,
-            underflows: traffic.underflows,
-        }),
-        Ending::Failed(_) => unreachable!(),
-        Ending::Limit => unreachable!(),
+    match halt {
+        Halt::Byte(after) => {
+            if *read < input.len() {
+                course.take_byte(input[*read], after);
+                *read += 1;
+                return Ok(None);
+            }
+            course.take_end(after);
+            Ok(None)
+        }
+        Halt::Room(after) => {
+            output.push(course.give_byte(after))?;
+            Ok(None)
+        }
+        Halt::Ended(status) => Ok(Some(status)),
+        Halt::Refused(want) => Err(AllocError::from(want)),
+        Halt::Short => unreachable!(),
+        Halt::Lost => unreachable!(),
     }
 }
 
@@ -84,5 +75,25 @@ pub fn run_flat(
     requires { 2 ≤ windows }
     ensures { IfOk result (λ finished. IsAnswer accepted.now windows input.now finished) }
 {
-    run_image(alloc, accepted.image(), windows, input)
+    tells_bytes(input);
+    let mut course = Course::new(alloc, accepted, windows)?;
+    let mut output = Vec::new(alloc);
+    let mut read = 0;
+    'rounds: for _round in 0..u64::MAX {
+        let halt = course.advance(MOST);
+        match serve(&mut course, halt, input, &mut read, &mut output)? {
+            None => {}
+            Some(status) => {
+                let counts = course.tally().traffic;
+                return Ok(Finished {
+                    status,
+                    output,
+                    turns: counts.turns,
+                    overflows: counts.overflows,
+                    underflows: counts.underflows,
+                });
+            }
+        }
+    }
+    unreachable!()
 }

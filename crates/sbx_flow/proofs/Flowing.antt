@@ -1,5 +1,5 @@
 -- What each step leaves of a run over streams.
-use Rattle.std.proofs.Common.{◌≡◌, ◌≢◌, ℕ, ◌<◌, ◌≤◌, ◌^◌, Bool, true, false, List, [], ◌∷◌, ◌++◌, Option, Some, None, refl, sym, ap, ◌∙◌, subst, append_assoc, arith}
+use Rattle.std.proofs.Common.{◌≡◌, ◌≢◌, ℕ, ◌<◌, ◌≤◌, ◌^◌, Bool, true, false, List, [], ◌∷◌, ◌++◌, Option, Some, None, refl, sym, ap, ◌∙◌, subst, append_assoc}
 use Rattle.std.specs.Io.KnownBytes.{Appends, Consumes, IsAtEnd}
 use Rattle.std.proofs.KnownBytes.{Appends-nil, Appends-trans, Consumes-nil, Consumes-trans}
 use Rattle.std.proofs.lemmas.List.{append-nil}
@@ -11,14 +11,13 @@ use Rattle.want.specs.Wants.{refused}
 use Rattle.want.specs.declared.Want.{Want}
 use Rattle.sbx_raw.specs.declared.fault.RunFault.{RunFault}
 use Rattle.sbx_raw.specs.declared.fault.RunFault.TheVariants.{Memory, Reader, Writer}
-use Rattle.sbx_paced.specs.Going.{IsAllOf, IsUnderWay, NeverGoes, StillGoes, beyond}
-use Rattle.sbx_paced.specs.declared.course.Course.{Course}
-use Rattle.sbx_paced.specs.Halts.{HaltsSo}
-use Rattle.sbx_paced.specs.declared.course.Halt.{Halt}
-use Rattle.sbx_paced.specs.declared.course.Halt.TheVariants as halts
-use Rattle.sbx_paced.proofs.Stepping.{short_lacks}
-use Rattle.sbx_paced.proofs.Ends.{few, front, whole, within}
-use Rattle.sbx_paced.proofs.Onward.{bytes_after, end_known, no_bytes, one_byte}
+use Rattle.sbx_engine.specs.Going.{IsAllOf, IsUnderWay, NeverGoes, StillGoes, beyond}
+use Rattle.sbx_engine.specs.declared.course.Course.{Course}
+use Rattle.sbx_engine.specs.Halts.{AsksWithin}
+use Rattle.sbx_engine.specs.declared.tally.Tally.{Tally}
+use Rattle.sbx_quick.specs.declared.asking.Asked.{Asked}
+use Rattle.sbx_engine.proofs.Ends.{few, front, whole, within}
+use Rattle.sbx_engine.proofs.Onward.{bytes_after, end_known, no_bytes, one_byte}
 use Rattle.sbx_flow.specs.Flows.{Flows, IsCutOff, IsFlowed, StopsSo, StreamsOn}
 use Rattle.sbx_flow.specs.declared.flow.RunEnd.TheVariants.{Ended, Fault}
 use Rattle.sbx_flow.specs.declared.flow.Flowed.{Flowed}
@@ -183,6 +182,14 @@ flowed_so parts n met first written_first reader writer now flowed ended counts 
 
 -- ---- the same, as the calls tell it
 
+-- a step that was asked for makes turns, within those that are counted
+pub onward : {what : Asked} (old new : Course) (after : Tally) → AsksWithin what (2 ^ 62) old after → new.tally ≡ after →
+    (old.tally.traffic.turns < new.tally.traffic.turns) × (new.tally.traffic.turns ≤ 2 ^ 62)
+onward old new after asks counts = (
+  subst (λ (t : Tally). old.tally.traffic.turns < t.traffic.turns) (sym counts) asks.0.more,
+  subst (λ (t : Tally). t.traffic.turns ≤ 2 ^ 62) (sym counts) asks.1,
+)
+
 pub on_end_again : (met : Bool) (old new : Course) (reader : Option (List ℕ)) → met ≡ true →
     ((parts : Parts) (n : ℕ) (read written : List ℕ) → IsUnderWay parts n read written true old → IsUnderWay parts n read written true new)
     → (out : Option (List ℕ)) → StreamsOn met old reader out true new reader out
@@ -240,7 +247,3 @@ few_turns parts n met course a b c d (read, told, written, (under, same), bytes,
 -- and it is never lost
 pub not_lost : (parts : Parts) (n : ℕ) (met : Bool) (course : Course) (a b c d : Option (List ℕ)) → Streamed a b c d (Flows parts n met course) → NeverGoes course → ⊥
 not_lost parts n met course a b c d (read, told, written, (under, same), bytes, got, end, put) never = never parts n read written told under
-
--- nor short of turns
-pub not_short : (course : Course) (halt : Halt) → halt ≡ halts.Short → HaltsSo (2 ^ 62) course halt → course.tally.traffic.turns < 2 ^ 40 → ⊥
-not_short course halt is so small = let lacks = short_lacks (2 ^ 62) course halt is so in omega (arith, lacks, small)

@@ -1,5 +1,5 @@
 -- What a run over a reader and a writer gives, and where it stands.
-use Rattle.std.specs.Prelude.{ℕ, ◌≡◌, ◌≢◌, ◌≤◌, Bool, false, List, [], ◌∷◌, ◌++◌, Option, Some, None}
+use Rattle.std.specs.Prelude.{ℕ, ◌≡◌, ◌≢◌, ◌<◌, ◌≤◌, ◌^◌, Bool, false, List, [], ◌∷◌, ◌++◌, Option, Some, None, Result, Ok, Err}
 use Rattle.std.specs.Io.KnownBytes.{Consumes, IsAtEnd}
 use Rattle.sbx_image.specs.Parts.{Parts}
 use Rattle.sbx_flat.specs.Runs.{AreBytes, Behaves, budget}
@@ -7,8 +7,8 @@ use Rattle.sbx_flat.specs.declared.path.Place.{Place}
 use Rattle.sbx_port.specs.Streams.{Streamed}
 use Rattle.sbx_raw.specs.declared.fault.RunFault.{RunFault}
 use Rattle.sbx_raw.specs.declared.fault.RunFault.TheVariants.{Memory, Reader, Writer}
-use Rattle.sbx_paced.specs.Going.{IsAllOf, IsUnderWay, beyond}
-use Rattle.sbx_paced.specs.declared.course.Course.{Course}
+use Rattle.sbx_engine.specs.Going.{IsAllOf, IsUnderWay, beyond}
+use Rattle.sbx_engine.specs.declared.course.Course.{Course}
 use Rattle.sbx_flow.specs.declared.flow.Flowed.{Flowed}
 use Rattle.sbx_flow.specs.declared.flow.RunEnd.{RunEnd}
 use Rattle.sbx_flow.specs.declared.flow.RunEnd.TheVariants.{Ended, Fault}
@@ -64,3 +64,13 @@ StopsSo (Fault fault) met old reader writer new reader_now writer_now =
     (parts : Parts) (n : ℕ) (first written_first : Option (List ℕ)) →
     Streamed first reader written_first writer (Flows parts n met old) →
     Streamed first reader_now written_first writer_now (IsCutOff parts fault)
+
+-- What a run halted for is done, by a step within the turns that are counted, and whether the end was met is known; or
+-- they stop.
+abbrev pub Exchanges : Bool → Course → Option (List ℕ) → Option (List ℕ) → Course → Option (List ℕ) →
+    Option (List ℕ) → Result Bool RunEnd → Type 0
+Exchanges met old reader writer new reader_now writer_now (Ok now_met) =
+    StreamsOn met old reader writer now_met new reader_now writer_now
+    × (old.tally.traffic.turns < new.tally.traffic.turns) × (new.tally.traffic.turns ≤ 2 ^ 62)
+Exchanges met old reader writer new reader_now writer_now (Err end) =
+    StopsSo end met old reader writer new reader_now writer_now

@@ -1,14 +1,14 @@
 //! Runs over a reader and a writer.
-ghost use Rattle.std.specs.Prelude.{◌≡◌, ◌≢◌, ◌<◌, ◌≤◌, ◌^◌, List, ℕ, Option, IfErr, IfOk, OnOk};
+ghost use Rattle.std.specs.Prelude.{◌≢◌, ◌<◌, ◌≤◌, ◌^◌, List, ℕ, Option, IfErr, IfOk};
 ghost use Rattle.sbx_flat.specs.Runs.{FlatSafe};
 ghost use Rattle.sbx_quick.specs.declared.asking.Asked.TheVariants.{Byte, Room};
 ghost use Rattle.sbx_port.specs.Streams.{Streamed};
-ghost use Rattle.sbx_paced.specs.Halts.{AsksWithin, HaltsSo};
-ghost use Rattle.sbx_flow.specs.Flows.{IsCutOff, IsFlowed, StopsSo, StreamsOn};
+ghost use Rattle.sbx_engine.specs.Halts.{AsksWithin, HaltsSo};
+ghost use Rattle.sbx_flow.specs.Flows.{Exchanges, IsCutOff, IsFlowed};
 
 use crate::bytes::{read_byte, write_byte};
+use sbx_engine::{Course, Halt, Tally};
 use sbx_flat::Traffic;
-use sbx_paced::{Course, Halt, Tally};
 use sbx_run::RunFault;
 use sbx_verify::Accepted;
 use std::alloc::Global;
@@ -54,14 +54,8 @@ fn get<R: Read>(
     reader: &mut R,
 ) -> Result<bool, RunEnd>
     requires { AsksWithin Byte (2 ^ 62) course.old after }
-    ensures goes { (out : Option (List ℕ)) →
-        IfOk result (λ now_met. StreamsOn met course.old (R.remaining reader.old) out now_met course.new
-        (R.remaining reader.new) out) }
-    ensures more { OnOk result ((course.old.tally.traffic.turns < course.new.tally.traffic.turns)
-        × (course.new.tally.traffic.turns ≤ 2 ^ 62)) }
-    ensures stops { (out : Option (List ℕ)) →
-        IfErr result (λ stop. StopsSo stop met course.old (R.remaining reader.old) out course.new
-        (R.remaining reader.new) out) }
+    ensures { (out : Option (List ℕ)) →
+        Exchanges met course.old (R.remaining reader.old) out course.new (R.remaining reader.new) out result }
 {
     if met {
         course.take_end(after);
@@ -89,14 +83,8 @@ fn put<W: Write>(
     writer: &mut W,
 ) -> Result<bool, RunEnd>
     requires { AsksWithin Room (2 ^ 62) course.old after }
-    ensures goes { (input : Option (List ℕ)) →
-        IfOk result (λ now_met. StreamsOn met course.old input (W.contents writer.old) now_met course.new input
-        (W.contents writer.new)) }
-    ensures more { OnOk result ((course.old.tally.traffic.turns < course.new.tally.traffic.turns)
-        × (course.new.tally.traffic.turns ≤ 2 ^ 62)) }
-    ensures stops { (input : Option (List ℕ)) →
-        IfErr result (λ stop. StopsSo stop met course.old input (W.contents writer.old) course.new input
-        (W.contents writer.new)) }
+    ensures { (input : Option (List ℕ)) →
+        Exchanges met course.old input (W.contents writer.old) course.new input (W.contents writer.new) result }
 {
     let byte = course.give_byte(after);
     match write_byte(writer, byte) {
@@ -106,7 +94,7 @@ fn put<W: Write>(
 }
 
 /// Does what a run halted for, and tells whether the input's end is known then.
-#[tactic(auto, using(crate::proofs::Flowing::ended_so, crate::proofs::Flowing::not_short, sbx_paced::proofs::Stepping::byte_asks, sbx_paced::proofs::Stepping::byte_within, sbx_paced::proofs::Stepping::room_asks, sbx_paced::proofs::Stepping::room_within, sbx_paced::proofs::Stepping::ended_exits))]
+#[tactic(auto, using(crate::proofs::Flowing::ended_so, sbx_engine::proofs::Stepping::not_short, sbx_engine::proofs::Stepping::byte_asks, sbx_engine::proofs::Stepping::byte_within, sbx_engine::proofs::Stepping::room_asks, sbx_engine::proofs::Stepping::room_within, sbx_engine::proofs::Stepping::ended_exits))]
 fn exchange<R: Read, W: Write>(
     course: &mut Course,
     halt: Halt,
@@ -117,14 +105,8 @@ fn exchange<R: Read, W: Write>(
     requires halts { HaltsSo (2 ^ 62) course.old halt }
     requires few { course.old.tally.traffic.turns < 2 ^ 40 }
     requires found { halt ≢ Halt.Lost }
-    ensures goes { IfOk result
-        (λ now_met. StreamsOn met course.old (R.remaining reader.old) (W.contents writer.old) now_met course.new
-        (R.remaining reader.new) (W.contents writer.new)) }
-    ensures more { OnOk result ((course.old.tally.traffic.turns < course.new.tally.traffic.turns)
-        × (course.new.tally.traffic.turns ≤ 2 ^ 62)) }
-    ensures stops { IfErr result
-        (λ stop. StopsSo stop met course.old (R.remaining reader.old) (W.contents writer.old) course.new
-        (R.remaining reader.new) (W.contents writer.new)) }
+    ensures { Exchanges met course.old (R.remaining reader.old) (W.contents writer.old) course.new
+        (R.remaining reader.new) (W.contents writer.new) result }
 {
     match halt {
         Halt::Byte(after) => get(course, after, met, reader),

@@ -3,7 +3,7 @@
 use crate::runs::{Counts, Run};
 use sbx_engine::Accepted;
 use sbx_flat::Traffic;
-use sbx_paced::{Paced, Stand};
+use sbx_engine::{Paced, Stand};
 use std::alloc::{AllocError, Global};
 
 /// How many turns a step may make: fewer than a SAVE makes that finds no window free.

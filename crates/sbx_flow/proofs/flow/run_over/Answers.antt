@@ -1,7 +1,7 @@
 use Rattle.std.proofs.Common.{ap, subst, arith}
 use Rattle.sbx_flow.specs.Flows.{StopsSo}
 use Rattle.sbx_flow.specs.declared.flow.RunEnd.{RunEnd}
-use Rattle.sbx_paced.specs.declared.tally.Tally.{Tally}
+use Rattle.sbx_engine.specs.declared.tally.Tally.{Tally}
 use Rattle.sbx_flow.proofs.Flowing.{advanced, few_turns, flowed_so, no_beginning, not_lost}
 use Rattle.sbx_flow.proofs.flow.run_over.Goals as goal
 
@@ -33,7 +33,7 @@ returns-in-Err-Ended-clause-whole g c =
     let writer_now = g.W.Write.contents c.exchange.new.writer in
     let went = c.advance-halt.new.self in
     let met = c.rounds.met in
-    let stops = subst (λ (s : RunEnd). StopsSo s met went reader writer c.exchange.new.course reader_now writer_now) c.in-Err-Ended.field-0-is c.in-Err-Ended.ensures.stops in
+    let stops = subst (λ (s : RunEnd). StopsSo s met went reader writer c.exchange.new.course reader_now writer_now) c.in-Err-Ended.field-0-is c.in-Err-Ended.ensures in
     let so = advanced met c.rounds.course went reader writer c.advance-halt.ensures.goes c.args.accepted.now c.args.windows first written_first c.rounds.invariant.goes in
     flowed_so c.args.accepted.now c.args.windows met first written_first reader_now writer_now c.exchange.new.course
     (record { status = c.in-Err-Ended.status; counts = c.tally.result.traffic }) stops.0
@@ -49,7 +49,7 @@ returns-in-Err-Fault-clause-part g c =
     let met = c.rounds.met in
     let so = advanced met c.rounds.course went reader writer c.advance-halt.ensures.goes c.args.accepted.now c.args.windows first written_first c.rounds.invariant.goes in
     (subst (λ (s : RunEnd). StopsSo s met went reader writer c.exchange.new.course (g.R.Read.remaining c.exchange.new.reader)
-    (g.W.Write.contents c.exchange.new.writer)) c.in-Err-Fault.field-0-is c.in-Err-Fault.ensures.stops) c.args.accepted.now c.args.windows first
+    (g.W.Write.contents c.exchange.new.writer)) c.in-Err-Fault.field-0-is c.in-Err-Fault.ensures) c.args.accepted.now c.args.windows first
     written_first so
 
 pub rounds-preserved : goal.rounds-preserved
@@ -60,9 +60,9 @@ rounds-preserved g c =
     let writer = g.W.Write.contents c.rounds.writer in
     let so_many = c.rounds.invariant.rounds in
     let onward = c.advance-halt.ensures.onward in
-    let more = c.in-Ok-exchange.ensures.more.0 in record {
-      goes = c.in-Ok-exchange.ensures.goes c.args.accepted.now c.args.windows first written_first
+    let more = c.in-Ok-exchange.ensures.1 in record {
+      goes = c.in-Ok-exchange.ensures.0 c.args.accepted.now c.args.windows first written_first
           (advanced c.rounds.met c.rounds.course c.advance-halt.new.self reader writer c.advance-halt.ensures.goes c.args.accepted.now c.args.windows first written_first c.rounds.invariant.goes);
       rounds = omega (arith, so_many, onward, more);
-      turns = c.in-Ok-exchange.ensures.more.1;
+      turns = c.in-Ok-exchange.ensures.2;
     }

@@ -1,3 +1,0 @@
-pub mod Going
-pub mod Halts
-pub mod Steps
