@@ -1,9 +1,15 @@
-use Rattle.std.proofs.Common.{arith}
-use Rattle.std.proofs.lemmas.Int.{clamps}
-use Rattle.sbx_engine.proofs.Counted.{performed_word}
+use Rattle.std.proofs.Common.{rules}
+use Rattle.sbx_engine.proofs.Counted.{filled, popped, pushed, spilled}
 use Rattle.sbx_engine.proofs.counts.count_word.Goals as goal
 
-pub returns-clause-value : goal.returns-clause-value
-returns-clause-value c =
-    λ word is. performed_word c.args.n word c.clamp-weight.result c.args.next.now c.args.traffic c.performed.result is
-    (λ some small same. omega (arith, clamps, some, small, same, c.clamp-weight.ensures, c.from.ensures)) c.performed.ensures.value
+pub returns-then-traffic-n-clause-value : goal.returns-then-traffic-n-clause-value
+returns-then-traffic-n-clause-value c = λ few some weighs. spilled c.args.n c.args.next.now.operation c.in-Save.field-0 c.args.traffic c.in-Save.is (search rules)
+
+pub returns-else-traffic-n-clause-value : goal.returns-else-traffic-n-clause-value
+returns-else-traffic-n-clause-value c = λ few some weighs. pushed c.args.n c.args.next.now.operation c.in-Save.field-0 c.args.traffic c.in-Save.is (search rules)
+
+pub returns-then-traffic-eq1-clause-value : goal.returns-then-traffic-eq1-clause-value
+returns-then-traffic-eq1-clause-value c = λ few some weighs. filled c.args.n c.args.next.now.operation c.in-Restore.field-0 c.args.traffic c.in-Restore.is (search rules)
+
+pub returns-else-traffic-eq1-clause-value : goal.returns-else-traffic-eq1-clause-value
+returns-else-traffic-eq1-clause-value c = λ few some weighs. popped c.args.n c.args.next.now.operation c.in-Restore.field-0 c.args.traffic c.in-Restore.is (search rules)
