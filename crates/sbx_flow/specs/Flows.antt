@@ -71,6 +71,6 @@ abbrev pub Exchanges : Bool → Course → Option (List ℕ) → Option (List �
     Option (List ℕ) → Result Bool RunEnd → Type 0
 Exchanges met old reader writer new reader_now writer_now (Ok now_met) =
     StreamsOn met old reader writer now_met new reader_now writer_now
-    × (old.tally.traffic.turns < new.tally.traffic.turns) × (new.tally.traffic.turns ≤ 2 ^ 62)
+    × ((old.tally.traffic.turns < new.tally.traffic.turns) × (new.tally.traffic.turns ≤ 2 ^ 62))
 Exchanges met old reader writer new reader_now writer_now (Err end) =
     StopsSo end met old reader writer new reader_now writer_now

@@ -60,9 +60,9 @@ rounds-preserved g c =
     let writer = g.W.Write.contents c.rounds.writer in
     let so_many = c.rounds.invariant.rounds in
     let onward = c.advance-halt.ensures.onward in
-    let more = c.in-Ok-exchange.ensures.1 in record {
+    let more = c.in-Ok-exchange.ensures.1.0 in record {
       goes = c.in-Ok-exchange.ensures.0 c.args.accepted.now c.args.windows first written_first
           (advanced c.rounds.met c.rounds.course c.advance-halt.new.self reader writer c.advance-halt.ensures.goes c.args.accepted.now c.args.windows first written_first c.rounds.invariant.goes);
       rounds = omega (arith, so_many, onward, more);
-      turns = c.in-Ok-exchange.ensures.2;
+      turns = c.in-Ok-exchange.ensures.1.1;
     }
