@@ -84,7 +84,7 @@ pub fn run_flat(
         match serve(&mut course, halt, input, &mut read, &mut output)? {
             None => {}
             Some(status) => {
-                let counts = course.tally().traffic;
+                let counts = course.tally.traffic;
                 return Ok(Finished {
                     status,
                     output,

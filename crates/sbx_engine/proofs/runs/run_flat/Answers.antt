@@ -54,5 +54,5 @@ returns-in-Some c =
     (c.advance-halt.ensures.goes c.args.accepted.now c.args.windows read c.rounds.output.items met c.rounds.invariant.has)
     c.in-Some.status c.serve.new.read c.serve.new.output.items c.serve.new.course
     (subst (λ (ended : Option ℕ). Serves c.args.input.now c.rounds.read c.rounds.output.items c.advance-halt.new.self c.serve.new.read c.serve.new.output.items c.serve.new.course ended)
-    c.in-Some.is c.in_ok-serve.ensures) c.tally.result c.tally.ensures
+    c.in-Some.is c.in_ok-serve.ensures) c.serve.new.course.tally refl
     _ refl refl refl refl refl
