@@ -2,12 +2,11 @@
 //! comes.
 use crate::flow::known::{Known, is_at, replace};
 use crate::flow::passing::{are_same_to, touched_in};
-use fit_cells::{
-    Growth, Shape, Thresholds, enter, go_along, joined, range_in, return_from, run_step,
-    run_to_call, thresholds_of,
-};
 use fit_code::{Block, End, Fault, Function, Program, Reason, hull};
-use fit_graph::{Locations, Order, successors_in, way_of};
+use fit_graph::{
+    Growth, Locations, Order, Shape, Thresholds, enter, go_along, joined, range_in, return_from,
+    run_step, run_to_call, successors_in, thresholds_of, way_of,
+};
 use sbx_domain::State;
 use sbx_range::{Cell, Range, all};
 use std::alloc::{AllocError, Global};

@@ -1,7 +1,6 @@
 //! What is known of a function's blocks and ways so far.
 use crate::flow::passing::take_over;
-use fit_cells::{Growth, Shape, are_same, are_within, joined};
-use fit_graph::Locations;
+use fit_graph::{Growth, Locations, Shape, are_same, are_within, joined};
 use sbx_range::Cell;
 use std::alloc::{AllocError, Global};
 

@@ -1,8 +1,7 @@
 //! What blocks pass on: a location that no step of a block reads or writes has the same range behind the block as
 //! before it, whatever that is, and decides nothing else.
-use fit_cells::range_in;
 use fit_code::{Block, Step};
-use fit_graph::{Effects, Locations, effects_of};
+use fit_graph::{Effects, Locations, effects_of, range_in};
 use sbx_range::Cell;
 
 /// The registers that a call leaves undefined or with its results: globals and outs.

@@ -1,6 +1,6 @@
 //! What is known of the operands of a block's steps.
-use fit_cells::run_step;
 use fit_code::Block;
+use fit_graph::run_step;
 use sbx_domain::{State, frame_word_of};
 use sbx_range::{Range, known};
 use std::alloc::{AllocError, Global};

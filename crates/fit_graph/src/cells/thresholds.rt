@@ -1,5 +1,5 @@
 //! The numbers at which a range that grows may stop.
-use crate::compared::Compared;
+use crate::cells::compared::Compared;
 use fit_code::{Function, Program};
 use sbx_range::Range;
 use std::alloc::{AllocError, Global};

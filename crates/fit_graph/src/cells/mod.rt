@@ -1,7 +1,5 @@
 //! Blocks in the verifier's domain, `sbx_domain`: how their steps run, what several ways that lead to one have in
 //! common, and how far a range that grows may grow at once.
-#![tactic(auto)]
-
 mod cells;
 mod compared;
 mod order;

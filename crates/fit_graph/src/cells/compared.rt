@@ -1,8 +1,8 @@
 //! The numbers that a function compares the words of its locations with: where a range that grows in a loop is to stop,
 //! one of these mostly ends it.
-use crate::thresholds::sort;
+use crate::cells::thresholds::sort;
+use crate::live::effects_of;
 use fit_code::{Function, Step};
-use fit_graph::effects_of;
 use sbx_domain::{LOCATIONS, frame_word_of};
 use std::alloc::{AllocError, Global};
 use v8_formats::{Operand, Reg, Three};

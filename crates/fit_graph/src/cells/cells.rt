@@ -1,5 +1,5 @@
 //! Lists of cells, by location: what several ways have in common, and how far it may grow.
-use crate::thresholds::Thresholds;
+use crate::cells::thresholds::Thresholds;
 use fit_code::hull;
 use sbx_range::{Cell, Range, is_within};
 use std::alloc::{AllocError, Global};

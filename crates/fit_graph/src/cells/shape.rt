@@ -1,7 +1,8 @@
 //! The shape of a function, for who goes along its ways.
-use crate::order::order_by_loops;
+use crate::cells::order::order_by_loops;
+use crate::graph::{Order, ways_to};
+use crate::live::Locations;
 use fit_code::Function;
-use fit_graph::{Locations, Order, ways_to};
 use std::alloc::{AllocError, Global};
 
 /// What stays the same while a function's ranges are looked for.

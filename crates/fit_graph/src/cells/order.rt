@@ -1,6 +1,6 @@
 //! The order in which a function's ranges are looked for: loop by loop.
+use crate::graph::{Loop, Order, loops_of, order_of};
 use fit_code::Function;
-use fit_graph::{Loop, Order, loops_of, order_of};
 use std::alloc::{AllocError, Global};
 
 /// Some blocks with those of a loop right behind its head, in their order, and behind them those that stood between
