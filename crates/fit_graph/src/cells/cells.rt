@@ -1,8 +1,7 @@
 //! Lists of cells, by location: what several ways have in common, and how far it may grow.
 use crate::cells::thresholds::Thresholds;
 use fit_code::hull;
-use sbx_range::{Cell, Range, is_within};
-use std::alloc::{AllocError, Global};
+use sbx_range::{Cell, Range};
 
 /// The range of a location among cells that stand by location.
 pub fn range_in(cells: &[Cell], location: u16) -> Option<Range> {
@@ -24,59 +23,45 @@ pub enum Growth<'t> {
     ToAll,
 }
 
+impl Growth<'_> {
+    /// Where an end of a location's range goes that has to go to a number.
+    fn end(self, location: u16, number: i32, is_below: bool) -> i32 {
+        match self {
+            Growth::Least => number,
+            Growth::ToThresholds(thresholds) => thresholds.next(location, number, is_below),
+            Growth::ToAll if is_below => i32::MIN,
+            Growth::ToAll => i32::MAX,
+        }
+    }
+}
+
 /// A range of a location that holds the words of both.
 fn grown(growth: Growth, location: u16, old: Range, new: Range) -> Range {
     let mut both = hull(old, new);
     if both.lo < old.lo {
-        both.lo = match growth {
-            Growth::Least => both.lo,
-            Growth::ToThresholds(thresholds) => thresholds.next(location, both.lo, true),
-            Growth::ToAll => i32::MIN,
-        };
+        both.lo = growth.end(location, both.lo, true);
     }
     if both.hi > old.hi {
-        both.hi = match growth {
-            Growth::Least => both.hi,
-            Growth::ToThresholds(thresholds) => thresholds.next(location, both.hi, false),
-            Growth::ToAll => i32::MAX,
-        };
+        both.hi = growth.end(location, both.hi, false);
     }
     both
 }
 
-/// The first place from one on, among cells that stand by location, where a location isn't below this one.
-fn place_from(cells: &[Cell], start: usize, location: u16) -> usize {
-    for place in start..cells.len() {
-        if let Some(cell) = cells.get(place)
-            && cell.location >= location
-        {
-            return place;
-        }
-    }
-    cells.len()
-}
-
-/// What two ways have in common, where the ranges of the first one grow so: the cells of both lists, which stand by
+/// Leaves of cells what they have in common with others, where the ranges of the first ones grow so. Both stand by
 /// location.
-pub fn joined(
-    alloc: Global,
-    growth: Growth,
-    old: &[Cell],
-    new: &[Cell],
-) -> Result<Vec<Cell>, AllocError> {
-    let mut both = Vec::with_capacity(alloc, old.len())?;
-    let mut place = 0;
-    for cell in old {
-        let location = cell.location;
-        place = place_from(new, place, location);
-        if let Some(other) = new.get(place)
-            && other.location == location
+pub fn join(growth: Growth, cells: &mut Vec<Cell>, others: &[Cell]) {
+    let mut count: usize = 0;
+    for place in 0..cells.len() {
+        if let Some(cell) = cells.get(place).copied()
+            && let Some(range) = range_in(others, cell.location)
+            && let Some(slot) = cells.get_mut(count)
         {
-            let range = grown(growth, location, cell.range, other.range);
-            both.push(Cell { location, range })?;
+            slot.location = cell.location;
+            slot.range = grown(growth, cell.location, cell.range, range);
+            count = count.saturating_add(1);
         }
     }
-    Ok(both)
+    cells.truncate(count);
 }
 
 /// Whether two lists are the same.
@@ -88,15 +73,4 @@ pub fn are_same(a: &[Cell], b: &[Cell]) -> bool {
         }
     }
     a.len() == b.len()
-}
-
-/// Whether each cell of the second list is defined by the first one, and lies within it.
-pub fn are_within(found: &[Cell], wanted: &[Cell]) -> bool {
-    for cell in wanted {
-        match range_in(found, cell.location) {
-            Some(range) if is_within(range, cell.range) => {}
-            _ => return false,
-        }
-    }
-    true
 }

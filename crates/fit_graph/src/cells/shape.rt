@@ -9,13 +9,10 @@ use std::alloc::{AllocError, Global};
 #[derive(Drop)]
 pub struct Shape {
     pub order: Order,
-    /// The places of the order where a stretch begins: ways lead back within one alone, so that what stands before it
-    /// is looked at once.
-    pub stretches: Vec<usize>,
     /// Of each block, the ways that lead to it, by `way_of`.
     pub sources: Vec<Vec<usize>>,
-    /// Of each block, what is live where it begins, the least location first.
-    pub live: Vec<Vec<u16>>,
+    /// Of each block, what is live where it begins.
+    pub live: Vec<Locations>,
 }
 
 impl Shape {
@@ -32,42 +29,35 @@ impl Shape {
         end
     }
 
-    /// Puts down where the stretches begin.
-    fn put_stretches(&mut self) -> Result<(), AllocError> {
-        let mut behind: usize = 0;
-        for place in 0..self.order.blocks.len() {
+    /// The place behind a stretch that begins at a place: ways lead back within one alone, so that what stands before it
+    /// is looked at once.
+    pub fn end_of_stretch(&self, start: usize) -> usize {
+        let mut behind = start.saturating_add(1);
+        for place in start..self.order.blocks.len() {
             if place >= behind {
-                self.stretches.push(place)?;
+                break;
             }
-            let end = match self.order.blocks.get(place) {
-                Some(block) => self.end_of(*block),
-                None => 0,
-            };
-            behind = behind.max(end).max(place.saturating_add(1));
+            if let Some(block) = self.order.blocks.get(place) {
+                behind = behind.max(self.end_of(*block)).max(place.saturating_add(1));
+            }
         }
-        Ok(())
+        behind
     }
 
     /// The shape of a function, of whose blocks this is live.
     pub fn of(alloc: Global, function: &Function, live: &[Locations]) -> Result<Shape, AllocError> {
-        let mut shape = Shape {
+        Ok(Shape {
             order: order_by_loops(alloc, function)?,
             sources: ways_to(alloc, function)?,
-            stretches: Vec::new(alloc),
-            live: Vec::with_capacity(alloc, live.len())?,
-        };
-        shape.put_stretches()?;
-        for set in live {
-            shape.live.push(set.listed(alloc)?)?;
-        }
-        Ok(shape)
+            live: Vec::from_slice(alloc, live)?,
+        })
     }
 
-    /// Whether a way leads back to a block.
-    pub fn is_head(&self, block: usize) -> bool {
+    /// The place of a block that a way leads back to.
+    pub fn place_of_head(&self, block: usize) -> Option<usize> {
         match self.order.place(block) {
-            Some(place) => self.end_of(block) > place,
-            None => false,
+            Some(place) if self.end_of(block) > place => Some(place),
+            _ => None,
         }
     }
 }

@@ -1,7 +1,7 @@
 //! What an access's address is worked out from, by the steps of its own block.
 use crate::origin::trace::{Operands, Trace, operands_of};
 use fit_code::{Block, Step};
-use fit_graph::effects_of;
+use fit_graph::effects_in;
 use sbx_range::{Range, is_single};
 use v8_formats::{Operand, Reg};
 use v8_meaning::{Op, Operation, operation_of};
@@ -57,7 +57,7 @@ const GREAT: i64 = 1 << 40;
 impl Sum {
     fn add_constant(&mut self, number: i64) {
         let sum = self.constant.saturating_add(number);
-        self.is_lost = self.is_lost || sum.saturating_abs() > GREAT;
+        self.is_lost |= sum.saturating_abs() > GREAT;
         self.constant = sum;
     }
 
@@ -98,7 +98,7 @@ impl Sum {
         };
         if let Some(term) = self.terms.get_mut(place) {
             let times = term.times.saturating_add(times);
-            self.is_lost = self.is_lost || times.saturating_abs() > GREAT;
+            self.is_lost |= times.saturating_abs() > GREAT;
             *term = Term {
                 register,
                 times,
@@ -130,8 +130,8 @@ impl Sum {
         taken
     }
 
-    /// The only term, if there is one alone.
-    fn only(&self) -> Option<Term> {
+    /// As an origin whose word stands before the step of a place, if there is one term alone.
+    fn origin(&self, last: usize) -> Option<Origin> {
         let mut only = None;
         for place in 0..3 {
             let term = self.terms[place];
@@ -142,7 +142,19 @@ impl Sum {
                 only = Some(term);
             }
         }
-        only
+        let Some(term) = only else {
+            return None;
+        };
+        let constant = (self.constant.cast_unsigned() & 0xffff_ffff) as u32;
+        Some(Origin {
+            register: term.register,
+            times: term.times,
+            constant: i64::from(constant.cast_signed()),
+            first: 0,
+            last,
+            range: term.range,
+            object: self.object,
+        })
     }
 
     fn name(&mut self, object: Option<usize>) {
@@ -151,24 +163,9 @@ impl Sum {
         }
     }
 
-    /// The registers of the terms, each of which has a bit.
-    fn registers(&self) -> u32 {
-        let mut registers = 0;
-        for place in 0..3 {
-            let term = self.terms[place];
-            if term.times != 0 {
-                registers |= 1 << (term.register % 32);
-            }
-        }
-        registers
-    }
-
-    /// Puts what a step computes in the place of its result, one of the registers that have a bit in `writes`. Says
-    /// whether that could be done.
-    fn expand(&mut self, writes: u32, step: &Step, operands: Operands) -> bool {
-        let Some(times) = self.take(writes) else {
-            return false;
-        };
+    /// Puts what a step computes in the place of its result, which was there so many times. Says whether that could be
+    /// done.
+    fn expand(&mut self, times: i64, step: &Step, operands: Operands) -> bool {
         let Operation::Compute(op, fields) = operation_of(&step.instr) else {
             return false;
         };
@@ -198,27 +195,12 @@ fn is_zero(range: &Option<Range>) -> bool {
     }
 }
 
-/// A sum that has one term as an origin whose word stands before the step of a place.
-fn candidate(sum: &Sum, last: usize) -> Option<Origin> {
-    let Some(term) = sum.only() else {
-        return None;
-    };
-    let constant = (sum.constant.cast_unsigned() & 0xffff_ffff) as u32;
-    Some(Origin {
-        register: term.register,
-        times: term.times,
-        constant: i64::from(constant.cast_signed()),
-        first: 0,
-        last,
-        range: term.range,
-        object: sum.object,
-    })
-}
-
 /// What the address of the access at a place of a block is worked out from, as far back as one register stands for
 /// it. Nothing where it is worked out from several, or is a number.
 pub fn origin_of(frame: u32, block: &Block, trace: &Trace, place: usize) -> Option<Origin> {
-    let access = block.steps.get(place)?;
+    let Some(access) = block.steps.get(place) else {
+        return None;
+    };
     let Some((first, second)) = operands_of(frame, &access.instr) else {
         return None;
     };
@@ -232,27 +214,24 @@ pub fn origin_of(frame: u32, block: &Block, trace: &Trace, place: usize) -> Opti
     };
     sum.add_register(first, 1, operands[0]);
     sum.add_operand(second, 1, operands[1]);
-    let mut found = candidate(&sum, place);
+    let mut found = sum.origin(place);
     for earlier in (0..place).rev() {
         if let Some(step) = block.steps.get(earlier) {
-            let writes = match step.callee {
-                Some(_) => 0xfffe,
-                None => effects_of(frame, &step.instr).writes,
-            };
+            let writes = effects_in(frame, step).writes;
             if writes & sum.folded != 0 {
                 sum.folded &= !writes;
                 sum.name(step.object);
             }
-            if writes & sum.registers() != 0 {
+            if let Some(times) = sum.take(writes) {
                 if let Some(origin) = &mut found
                     && origin.first == 0
                 {
                     origin.first = earlier.saturating_add(1);
                 }
-                if !sum.expand(writes, step, trace.at(earlier)) {
+                if !sum.expand(times, step, trace.at(earlier)) {
                     return found;
                 }
-                found = candidate(&sum, earlier).or(found);
+                found = sum.origin(earlier).or(found);
             }
         }
     }

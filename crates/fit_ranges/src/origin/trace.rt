@@ -58,7 +58,7 @@ pub fn trace_of(
     block: &Block,
     state: &mut State,
 ) -> Result<Trace, AllocError> {
-    let mut operands = Vec::with_capacity(alloc, block.steps.len())?;
+    let mut operands = Vec::new(alloc);
     for step in &block.steps {
         let known = match operands_of(frame, &step.instr) {
             Some((first, second)) => [register_range(first, state), operand_range(second, state)],
