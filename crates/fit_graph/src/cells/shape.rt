@@ -29,8 +29,8 @@ impl Shape {
         end
     }
 
-    /// The place behind a stretch that begins at a place: ways lead back within one alone, so that what stands before it
-    /// is looked at once.
+    /// The place behind a stretch that begins at a place: ways lead back within one alone, so that what stands before
+    /// it is looked at once.
     pub fn end_of_stretch(&self, start: usize) -> usize {
         let mut behind = start.saturating_add(1);
         for place in start..self.order.blocks.len() {

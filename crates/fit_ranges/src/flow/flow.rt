@@ -295,18 +295,19 @@ impl Flow {
         go_along(function.frame, code, way, state)
     }
 
-    /// Puts down what is known where a way of a block ends, of what is live there; nothing where it can't be gone. Says
-    /// whether that is new.
-    fn put_along(
-        &mut self,
+    /// What is known where a way of a block ends, of what is live there; nothing where it can't be gone.
+    fn found_along(
+        &self,
         setting: &Setting,
         means: &mut Means,
         (block, way, to): (usize, usize, usize),
         state: &mut State,
-    ) -> bool {
-        let is_open = self.run(setting.function, setting.results, (block, way), state);
+    ) -> Option<Vec<Cell>> {
+        if !self.run(setting.function, setting.results, (block, way), state) {
+            return None;
+        }
         let mut cells = Vec::new(means.alloc);
-        if is_open && let Some(live) = self.shape.live.get(to) {
+        if let Some(live) = self.shape.live.get(to) {
             let mut from = 1;
             // Each turn goes on behind the last location.
             for _ in 0..LOCATIONS {
@@ -319,11 +320,7 @@ impl Flow {
                 from = location.saturating_add(1);
             }
         }
-        match self.blocks.get_mut(block) {
-            Some(known) if is_open => known.put_end(way, Some(cells)),
-            Some(known) => known.put_end(way, None),
-            None => false,
-        }
+        Some(cells)
     }
 
     /// Goes on from a block whose cells were replaced: along each of its ways, or only with what it doesn't touch.
@@ -343,7 +340,11 @@ impl Flow {
                         None => false,
                     }
                 } else {
-                    self.put_along(setting, means, (block, way, to), state)
+                    let found = self.found_along(setting, means, (block, way, to), state);
+                    match self.blocks.get_mut(block) {
+                        Some(known) => known.put_end(way, found),
+                        None => false,
+                    }
                 };
                 if is_new
                     && matches!(self.shape.order.place(to), Some(it) if it < self.pending.end)
@@ -374,32 +375,32 @@ impl Flow {
         found
     }
 
-    /// What a block's cells become, where these may come along its ways. Before ends go to thresholds, what comes into
-    /// the loop of a head is joined: what only grows by the ways back goes there.
-    fn raised(
+    /// Puts in the place of what comes along a block's ways what its cells become by that. Before ends go to
+    /// thresholds, what comes into the loop of a head is joined: what only grows by the ways back goes there.
+    fn raise(
         &self,
         means: &mut Means,
         thresholds: &Thresholds,
         block: usize,
-        new: Option<Vec<Cell>>,
-    ) -> Option<Vec<Cell>> {
-        let (Some(known), Some(found)) = (self.blocks.get(block), &new) else {
-            return new;
+        cells: &mut Vec<Cell>,
+    ) {
+        let Some(known) = self.blocks.get(block) else {
+            return;
         };
         let Some(old) = &known.cells else {
-            return new;
+            return;
         };
-        let mut cells = means.copy(old.as_slice());
+        let mut raised = means.copy(old.as_slice());
         let (growth, place) = match self.shape.place_of_head(block) {
             _ if known.changes >= PATIENCE => (Growth::ToAll, 0),
             Some(place) if known.changes > 2 => (Growth::ToThresholds(thresholds), place),
             _ => (Growth::Least, 0),
         };
         if let Some(entering) = self.common(means, block, place) {
-            join(Growth::Least, &mut cells, entering.as_slice());
+            join(Growth::Least, &mut raised, entering.as_slice());
         }
-        join(growth, &mut cells, found.as_slice());
-        Some(cells)
+        join(growth, &mut raised, cells.as_slice());
+        mem::swap(cells, &mut raised);
     }
 
     /// Visits a block: with thresholds its cells grow, without any they get narrower. Those that are said have the
@@ -412,21 +413,22 @@ impl Flow {
         state: &mut State,
     ) {
         let mut cells = self.common(means, block, usize::MAX);
-        if let Some(thresholds) = thresholds {
-            cells = self.raised(means, thresholds, block, cells);
-        }
-        if let Some(cells) = &mut cells
-            && let Some(said) = setting.said.get(block)
-        {
-            take_over(cells, said.as_slice(), &Locations::none());
+        if let Some(cells) = &mut cells {
+            if let Some(thresholds) = thresholds {
+                self.raise(means, thresholds, block, cells);
+            }
+            if let Some(said) = setting.said.get(block) {
+                take_over(cells, said.as_slice(), &Locations::none());
+            }
         }
         let Some(known) = self.blocks.get_mut(block) else {
             return;
         };
         let passes = block > 0 && known.passes_on(&cells);
-        let is_run = match thresholds {
-            Some(_) => known.raise(cells, block == 0),
-            None => block > 0 && known.lower(cells),
+        let is_run = if thresholds.is_some() {
+            known.raise(cells, block == 0)
+        } else {
+            known.lower(cells, block == 0)
         };
         if is_run {
             self.go_on(setting, means, (block, passes), state);

@@ -99,7 +99,8 @@ impl Known {
         }
     }
 
-    /// Forgets what is known of a block that reads or writes these locations, but for what was known where the ways end.
+    /// Forgets what is known of a block that reads or writes these locations, but for what was known where its ways
+    /// end.
     pub fn forget(&mut self, touched: Locations) {
         self.before = mem::replace(&mut self.ways, [None, None]);
         self.cells = None;
@@ -123,9 +124,10 @@ impl Known {
         is_run
     }
 
-    /// Takes over cells that got narrower; says whether the block has to be run for them.
-    pub fn lower(&mut self, cells: Option<Vec<Cell>>) -> bool {
-        let is_new = replace(&mut self.cells, cells);
+    /// Takes over cells that got narrower, but for a function's first block, which has none; says whether the block has
+    /// to be run for them.
+    pub fn lower(&mut self, cells: Option<Vec<Cell>>, is_entry: bool) -> bool {
+        let is_new = !is_entry && replace(&mut self.cells, cells);
         if is_new {
             self.narrowings = self.narrowings.saturating_add(1);
         }

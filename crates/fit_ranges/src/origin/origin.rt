@@ -198,9 +198,7 @@ fn is_zero(range: &Option<Range>) -> bool {
 /// What the address of the access at a place of a block is worked out from, as far back as one register stands for
 /// it. Nothing where it is worked out from several, or is a number.
 pub fn origin_of(frame: u32, block: &Block, trace: &Trace, place: usize) -> Option<Origin> {
-    let Some(access) = block.steps.get(place) else {
-        return None;
-    };
+    let access = block.steps.get(place)?;
     let Some((first, second)) = operands_of(frame, &access.instr) else {
         return None;
     };

@@ -206,7 +206,7 @@ impl Ranges {
         }
         let mut is_new = false;
         for (number, function) in program.functions.iter().enumerate() {
-            is_new |= self.take_results(number, function, round)?;
+            is_new = self.take_results(number, function, round)? || is_new;
         }
         Ok(is_new)
     }
