@@ -1,12 +1,18 @@
 //! What the ends of a function's blocks say: which blocks follow which, which stand on each way to others, and its
-//! loops; and which locations are live where the blocks of a program begin.
+//! loops; which locations are live where the blocks of a program begin; and blocks in the verifier's domain: how their
+//! steps run, and what several ways that lead to one have in common.
 #![tactic(auto)]
 
+mod cells;
 mod graph;
 mod live;
 
+pub use cells::{
+    Growth, Shape, Thresholds, are_same, enter, go_along, join, range_in, return_from, run_step,
+    run_to_call, thresholds_of,
+};
 pub use graph::{
     Loop, Order, Tangle, enters_beside_head, loops_of, order_of, predecessors_of, reached_from,
     successors_in, successors_of, tangle_of, way_of, ways_to,
 };
-pub use live::{Effects, Liveness, Locations, effects_of, read_at_end};
+pub use live::{Effects, Liveness, Locations, effects_in, effects_of, read_at_end};

@@ -2,9 +2,8 @@
 use crate::bounds::changes::{Candidate, add_ways, candidates_of};
 use crate::bounds::rounds::least_of_round;
 use crate::task::{Setting, Task};
-use fit_cells::range_in;
 use fit_code::{Function, Program};
-use fit_graph::{Loop, enters_beside_head, loops_of};
+use fit_graph::{Loop, enters_beside_head, loops_of, range_in};
 use fit_ranges::Ranges;
 use sbx_domain::State;
 use sbx_parts::Cell;

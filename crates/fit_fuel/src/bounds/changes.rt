@@ -1,9 +1,8 @@
 //! By how much locations change along the ways of a loop.
 use crate::task::Setting;
 use arrayvec::ArrayVec;
-use fit_cells::range_in;
 use fit_code::Function;
-use fit_graph::{Loop, successors_in};
+use fit_graph::{Loop, range_in, successors_in};
 use sbx_domain::State;
 use sbx_form::FormTerm;
 use sbx_parts::Cell;

@@ -2,8 +2,7 @@
 use crate::bounds::{Bound, Bounds};
 use crate::task::{Setting, Task};
 use crate::ways::{Fuel, constant_at};
-use fit_cells::range_in;
-use fit_graph::Loop;
+use fit_graph::{Loop, range_in};
 use fit_text::BlockNotes;
 use sbx_domain::State;
 use sbx_parts::Term;

@@ -84,59 +84,40 @@ pub fn successors_of(alloc: Global, function: &Function) -> Result<Vec<Vec<usize
     list(alloc, function, Listed::Targets)
 }
 
-/// A walk in depth: blocks that were entered and not left, each with the number of its next way.
-#[derive(Drop)]
-struct Walk {
-    open: Vec<(usize, usize)>,
-    /// Those that were left, the first one first. Each that was entered has some place.
-    order: Order,
-}
-
-impl Walk {
-    /// Enters a block that wasn't entered.
-    fn enter(&mut self, block: usize) -> Result<(), AllocError> {
-        if let Some(place) = self.order.places.get_mut(block)
+/// The order of a function's blocks: reverse postorder, from the first block on.
+pub fn order_of(alloc: Global, function: &Function) -> Result<Order, AllocError> {
+    let mut order = Order {
+        places: vec![in alloc; None; function.blocks.len()]?,
+        blocks: Vec::new(alloc),
+    };
+    // Blocks that were entered and not left, each with the number of its next way.
+    let mut open: Vec<(usize, usize)> = Vec::new(alloc);
+    let mut next = Some(0);
+    let mut is_refused = false;
+    // A block is entered once, goes its two ways and is left. Each that was entered has some place.
+    for _ in 0..=function.blocks.len().saturating_mul(3) {
+        if let Some(block) = next
+            && let Some(place) = order.places.get_mut(block)
             && place.is_none()
         {
             *place = Some(0);
-            self.open.push((block, 0))?;
+            is_refused |= open.push((block, 0)).is_err();
         }
-        Ok(())
-    }
-
-    /// Goes from the first block on as far as there is something to do: by one way after the other, and from a block
-    /// that has no more of them back.
-    fn go_all(&mut self, function: &Function) -> Result<(), AllocError> {
-        self.enter(0)?;
-        // A block is entered once, goes its two ways and is left.
-        for _ in 0..function.blocks.len().saturating_mul(3) {
-            let Some((block, way)) = self.open.pop() else {
-                break;
-            };
-            if way < 2 {
-                self.open.push((block, way.saturating_add(1)))?;
-                if let Some(to) = successors_in(function, block)[way] {
-                    self.enter(to)?;
-                }
-            } else {
-                self.order.blocks.push(block)?;
-            }
+        let Some(last) = open.last_mut() else {
+            break;
+        };
+        if last.1 < 2 {
+            next = successors_in(function, last.0)[last.1];
+            last.1 = last.1.saturating_add(1);
+        } else {
+            is_refused |= order.blocks.push(last.0).is_err();
+            open.pop();
+            next = None;
         }
-        Ok(())
     }
-}
-
-/// The order of a function's blocks: reverse postorder, from the first block on.
-pub fn order_of(alloc: Global, function: &Function) -> Result<Order, AllocError> {
-    let mut walk = Walk {
-        open: Vec::new(alloc),
-        order: Order {
-            places: vec![in alloc; None; function.blocks.len()]?,
-            blocks: Vec::new(alloc),
-        },
-    };
-    walk.go_all(function)?;
-    let mut order = walk.order;
+    if is_refused {
+        return Err(AllocError);
+    }
     order.blocks.reverse();
     order.put_places();
     Ok(order)

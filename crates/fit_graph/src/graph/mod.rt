@@ -1,6 +1,6 @@
 //! What the ends of a function's blocks say: which blocks follow which, which stand on each way to others, and its
 //! loops.
-mod dominators;
+mod back;
 mod graph;
 mod loops;
 mod reach;

@@ -1,4 +1,5 @@
 //! What instructions read and write.
+use fit_code::Step;
 use sbx_domain::{frame_word_of, service_of};
 use v8_formats::{Instr, Operand, Reg};
 use v8_meaning::{Exchange, Loading, MemoryOperand, Operation, Transfer, odd_of, operation_of};
@@ -16,6 +17,9 @@ pub struct Effects {
     /// The location of the frame word that is written.
     pub word_written: Option<u16>,
 }
+
+/// The registers that a call leaves undefined or with its results: globals and outs.
+pub(crate) const LOST: u32 = 0xfffe;
 
 /// The bit of %o0.
 const OUT_0: u32 = 1 << 8;
@@ -96,4 +100,12 @@ pub fn effects_of(frame: u32, instr: &Instr) -> Effects {
         _ => (0, 0),
     };
     of_registers(reads, writes)
+}
+
+/// The same of a step: of a call, what it leaves undefined or with its callee's results, as if it were written.
+pub fn effects_in(frame: u32, step: &Step) -> Effects {
+    match step.callee {
+        Some(_) => of_registers(0, LOST),
+        None => effects_of(frame, &step.instr),
+    }
 }

@@ -1,6 +1,6 @@
 //! Which locations are live: read later before they are written, whatever the words on the way are.
 use crate::graph::{Order, order_of};
-use crate::live::effects::{Effects, bit, bit_of, effects_of};
+use crate::live::effects::{Effects, LOST, bit, bit_of, effects_of};
 use crate::live::locations::Locations;
 use fit_code::{Block, End, Fault, Function, NO_LINE, Program, Reason, Step};
 use std::alloc::{AllocError, Global};
@@ -29,8 +29,8 @@ struct FunctionLiveness {
     live: Vec<Locations>,
 }
 
-/// As many rounds as liveness may take over one function, and over the program.
-const ROUNDS: usize = 2_000;
+/// As many rounds as liveness may take over the program.
+const ROUNDS: usize = 20_000;
 
 /// The first registers of six that begin at a number, each of which has a bit.
 fn first_registers(from: u32, count: u8) -> u32 {
@@ -54,12 +54,16 @@ fn pass(live: &mut Locations, effects: &Effects) {
     live.insert(effects.reads, effects.word_read);
 }
 
-/// Before a step. The callee of a call is asked for as many results as are live behind it.
-fn pass_step(live: &mut Locations, counts: &mut [Counts], frame: u32, step: &Step) {
+/// Before a step. The callee of a call is asked for as many results as are live behind it; says whether these are more
+/// than before.
+fn pass_step(live: &mut Locations, counts: &mut [Counts], frame: u32, step: &Step) -> bool {
+    let mut is_new = false;
     if let Some(callee) = step.callee {
         if let Some(counts) = counts.get_mut(callee) {
-            counts.results = counts.results.max(last_register(8, live.registers()));
-            live.remove(0xfffe, None);
+            let results = last_register(8, live.registers());
+            is_new = results > counts.results;
+            counts.results = counts.results.max(results);
+            live.remove(LOST, None);
             live.insert(first_registers(8, counts.params), None);
         }
     } else {
@@ -68,6 +72,7 @@ fn pass_step(live: &mut Locations, counts: &mut [Counts], frame: u32, step: &Ste
     if let Some(slot) = &step.slot {
         pass(live, &effects_of(frame, slot));
     }
+    is_new
 }
 
 /// What a return reads of its own function's registers: those that the results are taken from.
@@ -114,45 +119,13 @@ fn live_behind(function: &Function, results: u8, block: &Block, live: &[Location
     behind
 }
 
-/// What is live where a block begins.
-fn live_before(
-    function: &Function,
-    results: u8,
-    block: &Block,
-    live: &[Locations],
-    counts: &mut [Counts],
-) -> Locations {
-    let mut before = live_behind(function, results, block, live);
+/// Goes from behind the steps of a block to where it begins. Says whether a callee is asked for more results.
+fn pass_steps(live: &mut Locations, counts: &mut [Counts], frame: u32, block: &Block) -> bool {
+    let mut is_new = false;
     for step in block.steps.iter().rev() {
-        pass_step(&mut before, counts, function.frame, step);
+        is_new |= pass_step(live, counts, frame, step);
     }
-    before
-}
-
-impl FunctionLiveness {
-    /// Goes over the blocks of the function once, the last ones first. Says whether more is live somewhere.
-    fn pass(&mut self, function: &Function, results: u8, counts: &mut [Counts]) -> bool {
-        let mut grew = false;
-        for number in self.order.blocks.iter().rev() {
-            if let Some(block) = function.blocks.get(*number) {
-                let before = live_before(function, results, block, self.live.as_slice(), counts);
-                if let Some(known) = self.live.get_mut(*number) {
-                    grew = known.add(&before) || grew;
-                }
-            }
-        }
-        grew
-    }
-}
-
-fn unsettled() -> Fault {
-    Fault::new(
-        NO_LINE,
-        Reason::TooMany {
-            what: "rounds over which locations are live",
-            most: ROUNDS as u64,
-        },
-    )
+    is_new
 }
 
 /// No params and no results.
@@ -162,48 +135,59 @@ const NONE: Counts = Counts {
 };
 
 impl Liveness {
-    /// Goes over a function until no more is live in it, and counts what it takes for granted at its entry. The first
-    /// function of a program is called by nobody.
-    fn settle_function(&mut self, number: usize, function: &Function) -> Result<(), Fault> {
+    /// Goes over the blocks of a function once, the last ones first, and counts what it takes for granted at its entry.
+    /// The first function of a program is called by nobody. Says whether more is live somewhere, or asked for.
+    fn pass_function(&mut self, number: usize, function: &Function) -> bool {
         let results = self.counts_of(number).results;
         let Some(found) = self.functions.get_mut(number) else {
-            return Ok(());
+            return false;
         };
-        for _ in 0..ROUNDS {
-            if !found.pass(function, results, self.counts.as_mut_slice()) {
-                if number > 0
-                    && let Some(counts) = self.counts.get_mut(number)
-                    && let Some(first) = found.live.first()
-                {
-                    let from = if function.framed { 24 } else { 8 };
-                    counts.params = counts.params.max(last_register(from, first.registers()));
+        let counts = self.counts.as_mut_slice();
+        let mut is_new = false;
+        for place in found.order.blocks.iter().rev() {
+            if let Some(block) = function.blocks.get(*place) {
+                let mut live = live_behind(function, results, block, found.live.as_slice());
+                is_new |= pass_steps(&mut live, counts, function.frame, block);
+                if let Some(known) = found.live.get_mut(*place) {
+                    is_new |= known.add(&live);
                 }
-                return Ok(());
             }
         }
-        Err(unsettled())
+        if number > 0
+            && let Some(counts) = counts.get_mut(number)
+            && let Some(first) = found.live.first()
+        {
+            let from = if function.framed { 24 } else { 8 };
+            counts.params = counts.params.max(last_register(from, first.registers()));
+        }
+        is_new
     }
 
-    /// Goes over all functions once, those that are called first.
-    fn pass_program(&mut self, program: &Program) -> Result<(), Fault> {
+    /// Goes over all functions once, those that are called first. Says whether more is live somewhere, or asked for.
+    fn pass_program(&mut self, program: &Program) -> bool {
+        let mut is_new = false;
         for number in (0..program.functions.len()).rev() {
             if let Some(function) = program.functions.get(number) {
-                self.settle_function(number, function)?;
+                is_new |= self.pass_function(number, function);
             }
         }
-        Ok(())
+        is_new
     }
 
-    /// Goes over a program until that asks for no more params and results.
+    /// Goes over a program until no more is live or asked for.
     fn settle(&mut self, program: &Program) -> Result<(), Fault> {
         for _ in 0..ROUNDS {
-            let before = self.counts.clone()?;
-            self.pass_program(program)?;
-            if before == self.counts {
+            if !self.pass_program(program) {
                 return Ok(());
             }
         }
-        Err(unsettled())
+        Err(Fault::new(
+            NO_LINE,
+            Reason::TooMany {
+                what: "rounds over which locations are live",
+                most: ROUNDS as u64,
+            },
+        ))
     }
 
     /// What is live in a program.

@@ -1,43 +1,37 @@
 //! Sets of locations.
-use std::alloc::{AllocError, Global};
+/// So many words of 64 bits have a bit for each location.
+const WORDS: usize = 17;
 
 /// A set of registers and frame words, by their numbers as locations: 1 to 31, and 32 + k for word k of the frame.
 #[derive(Clone, Copy, PartialEq, Eq)]
 pub struct Locations {
-    words: [u64; 17],
+    words: [u64; WORDS],
 }
 
 impl Locations {
     /// No location.
     pub fn none() -> Locations {
-        Locations { words: [0; 17] }
+        Locations { words: [0; WORDS] }
     }
 
     /// Whether a location is in the set.
     pub fn has(&self, location: u16) -> bool {
-        match self.words.get(usize::from(location / 64)) {
-            Some(word) => *word >> (location % 64) & 1 == 1,
-            None => false,
-        }
+        self.words[usize::from(location / 64) % WORDS] >> (location % 64) & 1 == 1
     }
 
     /// Puts registers in, each of which has a bit, and a frame word, by its location.
     pub fn insert(&mut self, registers: u32, frame_word: Option<u16>) {
         self.words[0] |= u64::from(registers);
-        if let Some(location) = frame_word
-            && let Some(word) = self.words.get_mut(usize::from(location / 64))
-        {
-            *word |= 1 << (location % 64);
+        if let Some(location) = frame_word {
+            self.words[usize::from(location / 64) % WORDS] |= 1 << (location % 64);
         }
     }
 
     /// Takes registers and a frame word out.
     pub fn remove(&mut self, registers: u32, frame_word: Option<u16>) {
         self.words[0] &= !u64::from(registers);
-        if let Some(location) = frame_word
-            && let Some(word) = self.words.get_mut(usize::from(location / 64))
-        {
-            *word &= !(1 << (location % 64));
+        if let Some(location) = frame_word {
+            self.words[usize::from(location / 64) % WORDS] &= !(1 << (location % 64));
         }
     }
 
@@ -49,20 +43,24 @@ impl Locations {
     /// Puts another set's locations in. Says whether the set grew.
     pub fn add(&mut self, other: &Locations) -> bool {
         let before = *self;
-        for place in 0..17 {
+        for place in 0..WORDS {
             self.words[place] |= other.words[place];
         }
         *self != before
     }
 
-    /// The locations of the set, the least first.
-    pub fn listed(&self, alloc: Global) -> Result<Vec<u16>, AllocError> {
-        let mut list = Vec::new(alloc);
-        for location in 1..1_040u16 {
-            if self.has(location) {
-                list.push(location)?;
+    /// The least location of the set from a number on.
+    pub fn next(&self, from: u16) -> Option<u16> {
+        for place in from / 64..17u16 {
+            let mut word = self.words[usize::from(place) % WORDS];
+            if place == from / 64 {
+                word = word >> (from % 64) << (from % 64);
+            }
+            if word != 0 {
+                let bit = word.trailing_zeros().min(63) as u16;
+                return Some(place.saturating_mul(64).saturating_add(bit));
             }
         }
-        Ok(list)
+        None
     }
 }

@@ -3,6 +3,6 @@ mod effects;
 mod liveness;
 mod locations;
 
-pub use effects::{Effects, effects_of};
+pub use effects::{Effects, effects_in, effects_of};
 pub use liveness::{Counts, Liveness, read_at_end};
 pub use locations::Locations;

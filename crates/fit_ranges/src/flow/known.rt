@@ -1,114 +1,169 @@
-//! What is known of a function's blocks and ways so far.
-use crate::flow::passing::take_over;
-use fit_cells::{Growth, Shape, are_same, are_within, joined};
-use fit_graph::Locations;
+//! What is known of a function's blocks so far.
+use fit_code::{Block, Function};
+use fit_graph::{Effects, Locations, are_same, effects_in, effects_of, range_in};
 use sbx_range::Cell;
-use std::alloc::{AllocError, Global};
+use std::mem;
 
-/// Cells of blocks and ways, by number.
+/// A block is narrowed at most so often.
+const NARROWINGS: u32 = 6;
+
+/// What is known of a block.
 #[derive(Drop)]
 pub struct Known {
-    /// What is known where a block begins; nothing where no way comes there.
-    pub cells: Vec<Option<Vec<Cell>>>,
-    /// What is known where a way ends; nothing of one that can't be gone.
-    pub ways: Vec<Option<Vec<Cell>>>,
+    /// What is known where it begins; nothing where no way comes there.
+    pub cells: Option<Vec<Cell>>,
+    /// What is known where each of its ways ends; nothing of one that can't be gone.
+    pub ways: [Option<Vec<Cell>>; 2],
+    /// The same before its ranges were last forgotten.
+    before: [Option<Vec<Cell>>; 2],
+    /// What it reads or writes.
+    touched: Locations,
+    /// How often its cells grew since they were last forgotten, and how often they were narrowed.
+    pub changes: u32,
+    narrowings: u32,
 }
 
-/// What stands at a place of a list.
-fn at(list: &[Option<Vec<Cell>>], place: usize) -> Option<&[Cell]> {
-    match list.get(place) {
-        Some(Some(cells)) => Some(cells.as_slice()),
-        _ => None,
+/// Cells, if there are any.
+pub fn listed(cells: &Option<Vec<Cell>>) -> Option<&[Cell]> {
+    match cells {
+        Some(cells) => Some(cells.as_slice()),
+        None => None,
     }
 }
 
-/// Whether what stands at a place of a list is the same as this.
-pub fn is_at(list: &[Option<Vec<Cell>>], place: usize, cells: &Option<Vec<Cell>>) -> bool {
-    match (at(list, place), cells) {
-        (Some(old), Some(new)) => are_same(old, new.as_slice()),
+/// Whether both are the same.
+fn are_equal(a: &Option<Vec<Cell>>, b: &Option<Vec<Cell>>) -> bool {
+    match (a, b) {
+        (Some(a), Some(b)) => are_same(a.as_slice(), b.as_slice()),
         (None, None) => true,
         _ => false,
     }
 }
 
 /// Puts cells in the place of others, if they aren't the same. Says whether they aren't.
-pub fn replace(list: &mut Vec<Option<Vec<Cell>>>, place: usize, new: Option<Vec<Cell>>) -> bool {
-    let is_same = is_at(list.as_slice(), place, &new);
-    if !is_same && let Some(slot) = list.get_mut(place) {
+fn replace(slot: &mut Option<Vec<Cell>>, new: Option<Vec<Cell>>) -> bool {
+    let is_new = !are_equal(slot, &new);
+    if is_new {
         *slot = new;
     }
-    !is_same
+    is_new
+}
+
+/// Adds what is read and written.
+fn add_effects(touched: &mut Locations, effects: &Effects) {
+    touched.insert(effects.reads | effects.writes, effects.word_read);
+    touched.insert(0, effects.word_written);
+}
+
+/// The locations that a block reads or writes. What its branch is taken by is among them, since a compare reads it.
+pub fn touched_in(function: &Function, block: &Block) -> Locations {
+    let mut touched = Locations::none();
+    for step in &block.steps {
+        add_effects(&mut touched, &effects_in(function.frame, step));
+        if let Some(slot) = &step.slot {
+            add_effects(&mut touched, &effects_of(function.frame, slot));
+        }
+    }
+    if let Some(slot) = &block.slot {
+        add_effects(&mut touched, &effects_of(function.frame, slot));
+    }
+    touched
+}
+
+/// Gives cells the ranges that their locations have among others, but for some locations. Says whether some had other
+/// ones.
+pub fn take_over(cells: &mut Vec<Cell>, others: &[Cell], but: &Locations) -> bool {
+    let mut is_new = false;
+    for cell in cells.iter_mut() {
+        if !but.has(cell.location)
+            && let Some(range) = range_in(others, cell.location)
+            && cell.range != range
+        {
+            cell.range = range;
+            is_new = true;
+        }
+    }
+    is_new
 }
 
 impl Known {
-    /// Makes room for a block more, and its ways.
-    pub fn add_block(&mut self) -> Result<(), AllocError> {
-        self.cells.push(None)?;
-        self.ways.push(None)?;
-        self.ways.push(None)?;
-        Ok(())
+    /// Nothing is known of a block.
+    pub fn nothing() -> Known {
+        Known {
+            cells: None,
+            ways: [None, None],
+            before: [None, None],
+            touched: Locations::none(),
+            changes: 0,
+            narrowings: 0,
+        }
     }
 
-    /// What is known where a block begins.
-    pub fn cells(&self, block: usize) -> Option<&[Cell]> {
-        at(self.cells.as_slice(), block)
+    /// Forgets what is known of a block that reads or writes these locations, but for what was known where its ways
+    /// end.
+    pub fn forget(&mut self, touched: Locations) {
+        self.before = mem::replace(&mut self.ways, [None, None]);
+        self.cells = None;
+        self.touched = touched;
+        self.changes = 0;
+        self.narrowings = 0;
     }
 
-    /// Whether a way can be gone.
-    pub fn is_open(&self, way: usize) -> bool {
-        at(self.ways.as_slice(), way).is_some()
+    /// Whether something else is known where a way ends than before its ranges were forgotten.
+    pub fn is_changed(&self, way: usize) -> bool {
+        !are_equal(&self.ways[way % 2], &self.before[way % 2])
     }
 
-    /// What a block doesn't touch is known where one of its ways ends as it is where the block begins, if the way can
-    /// be gone. Says whether it wasn't before.
-    pub fn pass_on(&mut self, touched: Option<&Locations>, block: usize, way: usize) -> bool {
-        let Some(touched) = touched else {
+    /// Takes over cells that grew; says whether the block has to be run for them.
+    pub fn raise(&mut self, cells: Option<Vec<Cell>>, is_entry: bool) -> bool {
+        let is_new = cells.is_some() && replace(&mut self.cells, cells);
+        let is_run = is_new || (is_entry && self.changes == 0);
+        if is_run {
+            self.changes = self.changes.saturating_add(1);
+        }
+        is_run
+    }
+
+    /// Takes over cells that got narrower, but for a function's first block, which has none; says whether the block has
+    /// to be run for them.
+    pub fn lower(&mut self, cells: Option<Vec<Cell>>, is_entry: bool) -> bool {
+        let is_new = !is_entry && replace(&mut self.cells, cells);
+        if is_new {
+            self.narrowings = self.narrowings.saturating_add(1);
+        }
+        is_new && self.narrowings <= NARROWINGS
+    }
+
+    /// Whether the block needn't be run for its new cells: the same locations are known, and those that it reads or
+    /// writes have the same ranges, so that all that is new it passes on as it comes. Not so where it wasn't run for
+    /// the cells before.
+    pub fn passes_on(&self, new: &Option<Vec<Cell>>) -> bool {
+        let (Some(old), Some(new)) = (&self.cells, new) else {
             return false;
         };
-        match (self.cells.get(block), self.ways.get_mut(way)) {
-            (Some(Some(cells)), Some(Some(end))) => take_over(touched, cells.as_slice(), end),
-            _ => false,
-        }
-    }
-
-    /// What the ways have in common that lead to a block from blocks before a place of the order; nothing where none of
-    /// them can be gone.
-    pub fn common(
-        &self,
-        alloc: Global,
-        shape: &Shape,
-        block: usize,
-        before: usize,
-    ) -> Result<Option<Vec<Cell>>, AllocError> {
-        let mut found: Option<Vec<Cell>> = None;
-        if let Some(sources) = shape.sources.get(block) {
-            for way in sources {
-                if let Some(place) = shape.order.place(*way / 2)
-                    && place < before
-                    && let Some(cells) = at(self.ways.as_slice(), *way)
-                {
-                    found = Some(match &found {
-                        Some(other) => joined(alloc, Growth::Least, other.as_slice(), cells)?,
-                        None => Vec::from_slice(alloc, cells)?,
-                    });
-                }
-            }
-        }
-        Ok(found)
-    }
-
-    /// Whether all that comes along a block's ways lies within its cells.
-    pub fn holds(&self, shape: &Shape, block: usize) -> bool {
-        let (Some(sources), Some(cells)) = (shape.sources.get(block), self.cells(block)) else {
-            return true;
-        };
-        for way in sources {
-            if let Some(found) = at(self.ways.as_slice(), *way)
-                && !are_within(found, cells)
-            {
+        for (place, before) in old.iter().enumerate() {
+            let Some(after) = new.get(place) else {
+                return false;
+            };
+            let is_same = before.range == after.range || !self.touched.has(after.location);
+            if before.location != after.location || !is_same {
                 return false;
             }
         }
-        true
+        old.len() == new.len() && self.narrowings <= NARROWINGS
+    }
+
+    /// Puts down what is known where a way ends, if that is new. Says whether it is.
+    pub fn put_end(&mut self, way: usize, cells: Option<Vec<Cell>>) -> bool {
+        replace(&mut self.ways[way % 2], cells)
+    }
+
+    /// What the block doesn't touch is known where a way ends as it is where the block begins, if the way can be gone.
+    /// Says whether it wasn't before.
+    pub fn pass_on(&mut self, way: usize) -> bool {
+        match (&self.cells, self.ways.get_mut(way)) {
+            (Some(cells), Some(Some(end))) => take_over(end, cells.as_slice(), &self.touched),
+            _ => false,
+        }
     }
 }

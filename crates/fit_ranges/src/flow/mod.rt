@@ -2,6 +2,6 @@
 //! domain along all ways until nothing new comes. What callees give back and what the function is called with is told.
 mod flow;
 mod known;
-mod passing;
+mod means;
 
 pub use flow::{Flow, Setting, add_outs};

@@ -1,7 +1,7 @@
 //! What an access's address is worked out from, by the steps of its own block.
 use crate::origin::trace::{Operands, Trace, operands_of};
 use fit_code::{Block, Step};
-use fit_graph::effects_of;
+use fit_graph::effects_in;
 use sbx_range::{Range, is_single};
 use v8_formats::{Operand, Reg};
 use v8_meaning::{Op, Operation, operation_of};
@@ -23,28 +23,16 @@ pub struct Origin {
     pub object: Option<usize>,
 }
 
-/// A register's word, so many times.
-#[derive(Clone, Copy)]
-struct Term {
-    register: u8,
-    times: i64,
-    range: Option<Range>,
-}
-
-/// No term.
-const NONE: Term = Term {
-    register: 0,
-    times: 0,
-    range: None,
-};
-
-/// A sum of a constant and at most three terms.
+/// A sum of a constant and of multiples of registers' words.
 #[derive(Clone, Copy)]
 struct Sum {
     constant: i64,
-    /// A term that stands no times is none.
-    terms: [Term; 3],
-    /// Whether there was no room for a term, or a number went out of bounds.
+    /// How often each register's word is in it, and what is known of that word.
+    times: [i64; 32],
+    ranges: [Option<Range>; 32],
+    /// How many registers' words are in it.
+    count: u32,
+    /// Whether these were more than three, or a number went out of bounds.
     is_lost: bool,
     /// Registers whose words are part of the constant, each of which has a bit.
     folded: u32,
@@ -55,9 +43,22 @@ struct Sum {
 const GREAT: i64 = 1 << 40;
 
 impl Sum {
+    /// No words, of an address in an object.
+    fn nothing(object: Option<usize>) -> Sum {
+        Sum {
+            constant: 0,
+            times: [0; 32],
+            ranges: [None; 32],
+            count: 0,
+            is_lost: false,
+            folded: 0,
+            object,
+        }
+    }
+
     fn add_constant(&mut self, number: i64) {
         let sum = self.constant.saturating_add(number);
-        self.is_lost = self.is_lost || sum.saturating_abs() > GREAT;
+        self.is_lost |= sum.saturating_abs() > GREAT;
         self.constant = sum;
     }
 
@@ -67,44 +68,24 @@ impl Sum {
         if number == 0 {
             return;
         }
-        match range {
-            Some(range) if is_single(range) => {
-                self.add_constant(times.saturating_mul(i64::from(range.lo)));
-                self.folded |= 1 << number;
-            }
-            _ => self.add_term(number, times, range),
-        }
-    }
-
-    /// The place of the term of a register, or the first one where none stands.
-    fn place_for(&self, register: u8) -> Option<usize> {
-        let mut free = None;
-        for place in 0..3 {
-            let term = self.terms[place];
-            if term.times == 0 {
-                free = free.or(Some(place));
-            } else if term.register == register {
-                return Some(place);
-            }
-        }
-        free
-    }
-
-    /// Adds a term to that of the same register, or at a place where none stands.
-    fn add_term(&mut self, register: u8, times: i64, range: Option<Range>) {
-        let Some(place) = self.place_for(register) else {
-            self.is_lost = true;
+        if let Some(range) = range
+            && is_single(range)
+        {
+            self.add_constant(times.saturating_mul(i64::from(range.lo)));
+            self.folded |= 1 << number;
             return;
-        };
-        if let Some(term) = self.terms.get_mut(place) {
-            let times = term.times.saturating_add(times);
-            self.is_lost = self.is_lost || times.saturating_abs() > GREAT;
-            *term = Term {
-                register,
-                times,
-                range,
-            };
         }
+        let before = self.times[usize::from(number)];
+        let sum = before.saturating_add(times);
+        if before == 0 {
+            self.count = self.count.saturating_add(1);
+        }
+        if sum == 0 {
+            self.count = self.count.saturating_sub(1);
+        }
+        self.is_lost |= self.count > 3 || sum.saturating_abs() > GREAT;
+        self.times[usize::from(number)] = sum;
+        self.ranges[usize::from(number)] = range;
     }
 
     fn add_operand(&mut self, operand: Operand, times: i64, range: Option<Range>) {
@@ -116,33 +97,40 @@ impl Sum {
         }
     }
 
-    /// Takes out the terms of registers that have a bit in `registers`. Gives how often the last one of them was
-    /// there.
+    /// Takes out the registers that have a bit in `registers`. Gives how often the last one of them was there.
     fn take(&mut self, registers: u32) -> Option<i64> {
         let mut taken = None;
-        for place in 0..3 {
-            let term = self.terms[place];
-            if term.times != 0 && registers >> (term.register % 32) & 1 == 1 {
-                taken = Some(term.times);
-                self.terms[place] = NONE;
+        for number in 1..32 {
+            if registers >> number & 1 == 1 && self.times[number] != 0 {
+                taken = Some(self.times[number]);
+                self.times[number] = 0;
+                self.count = self.count.saturating_sub(1);
             }
         }
         taken
     }
 
-    /// The only term, if there is one alone.
-    fn only(&self) -> Option<Term> {
-        let mut only = None;
-        for place in 0..3 {
-            let term = self.terms[place];
-            if term.times != 0 {
-                if self.is_lost || term.times < 0 || only.is_some() {
-                    return None;
-                }
-                only = Some(term);
+    /// As an origin whose word stands before the step of a place, if it is that of one register alone.
+    fn origin(&self, last: usize) -> Option<Origin> {
+        if self.is_lost || self.count != 1 {
+            return None;
+        }
+        for register in 1..32u8 {
+            let times = self.times[usize::from(register)];
+            if times > 0 {
+                let constant = (self.constant.cast_unsigned() & 0xffff_ffff) as u32;
+                return Some(Origin {
+                    register,
+                    times,
+                    constant: i64::from(constant.cast_signed()),
+                    first: 0,
+                    last,
+                    range: self.ranges[usize::from(register)],
+                    object: self.object,
+                });
             }
         }
-        only
+        None
     }
 
     fn name(&mut self, object: Option<usize>) {
@@ -151,24 +139,9 @@ impl Sum {
         }
     }
 
-    /// The registers of the terms, each of which has a bit.
-    fn registers(&self) -> u32 {
-        let mut registers = 0;
-        for place in 0..3 {
-            let term = self.terms[place];
-            if term.times != 0 {
-                registers |= 1 << (term.register % 32);
-            }
-        }
-        registers
-    }
-
-    /// Puts what a step computes in the place of its result, one of the registers that have a bit in `writes`. Says
-    /// whether that could be done.
-    fn expand(&mut self, writes: u32, step: &Step, operands: Operands) -> bool {
-        let Some(times) = self.take(writes) else {
-            return false;
-        };
+    /// Puts what a step computes in the place of its result, which was there so many times. Says whether that could be
+    /// done.
+    fn expand(&mut self, times: i64, step: &Step, operands: Operands) -> bool {
         let Operation::Compute(op, fields) = operation_of(&step.instr) else {
             return false;
         };
@@ -198,61 +171,37 @@ fn is_zero(range: &Option<Range>) -> bool {
     }
 }
 
-/// A sum that has one term as an origin whose word stands before the step of a place.
-fn candidate(sum: &Sum, last: usize) -> Option<Origin> {
-    let Some(term) = sum.only() else {
-        return None;
-    };
-    let constant = (sum.constant.cast_unsigned() & 0xffff_ffff) as u32;
-    Some(Origin {
-        register: term.register,
-        times: term.times,
-        constant: i64::from(constant.cast_signed()),
-        first: 0,
-        last,
-        range: term.range,
-        object: sum.object,
-    })
-}
-
 /// What the address of the access at a place of a block is worked out from, as far back as one register stands for
 /// it. Nothing where it is worked out from several, or is a number.
 pub fn origin_of(frame: u32, block: &Block, trace: &Trace, place: usize) -> Option<Origin> {
-    let access = block.steps.get(place)?;
+    let Some(access) = block.steps.get(place) else {
+        return None;
+    };
     let Some((first, second)) = operands_of(frame, &access.instr) else {
         return None;
     };
     let operands = trace.at(place);
-    let mut sum = Sum {
-        constant: 0,
-        terms: [NONE; 3],
-        is_lost: false,
-        folded: 0,
-        object: access.object,
-    };
+    let mut sum = Sum::nothing(access.object);
     sum.add_register(first, 1, operands[0]);
     sum.add_operand(second, 1, operands[1]);
-    let mut found = candidate(&sum, place);
+    let mut found = sum.origin(place);
     for earlier in (0..place).rev() {
         if let Some(step) = block.steps.get(earlier) {
-            let writes = match step.callee {
-                Some(_) => 0xfffe,
-                None => effects_of(frame, &step.instr).writes,
-            };
+            let writes = effects_in(frame, step).writes;
             if writes & sum.folded != 0 {
                 sum.folded &= !writes;
                 sum.name(step.object);
             }
-            if writes & sum.registers() != 0 {
+            if let Some(times) = sum.take(writes) {
                 if let Some(origin) = &mut found
                     && origin.first == 0
                 {
                     origin.first = earlier.saturating_add(1);
                 }
-                if !sum.expand(writes, step, trace.at(earlier)) {
+                if !sum.expand(times, step, trace.at(earlier)) {
                     return found;
                 }
-                found = candidate(&sum, earlier).or(found);
+                found = sum.origin(earlier).or(found);
             }
         }
     }

@@ -1,6 +1,6 @@
 //! What is known of the operands of a block's steps.
-use fit_cells::run_step;
 use fit_code::Block;
+use fit_graph::run_step;
 use sbx_domain::{State, frame_word_of};
 use sbx_range::{Range, known};
 use std::alloc::{AllocError, Global};
@@ -58,7 +58,7 @@ pub fn trace_of(
     block: &Block,
     state: &mut State,
 ) -> Result<Trace, AllocError> {
-    let mut operands = Vec::with_capacity(alloc, block.steps.len())?;
+    let mut operands = Vec::new(alloc);
     for step in &block.steps {
         let known = match operands_of(frame, &step.instr) {
             Some((first, second)) => [register_range(first, state), operand_range(second, state)],

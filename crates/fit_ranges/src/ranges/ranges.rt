@@ -5,6 +5,7 @@ use fit_graph::{Liveness, Locations};
 use sbx_domain::State;
 use sbx_range::{Cell, Range, all, is_within};
 use std::alloc::{AllocError, Global};
+use std::mem;
 
 /// In so many first rounds over the program results are narrowed.
 const NARROWINGS: u32 = 2;
@@ -28,9 +29,18 @@ pub struct Ranges {
     said: Vec<Vec<Vec<Cell>>>,
 }
 
-/// So many times any word.
-fn any_words(alloc: Global, count: u8) -> Result<Vec<Range>, AllocError> {
-    vec![in alloc; all(0); usize::from(count)]
+/// The ranges that are said, and behind them the others, so many at least.
+fn with_said(
+    alloc: Global,
+    said: &[Range],
+    found: &[Range; 6],
+    count: u8,
+) -> Result<Vec<Range>, AllocError> {
+    let mut ranges = Vec::from_slice(alloc, said)?;
+    if let Some(others) = found.get(said.len()..usize::from(count)) {
+        ranges.extend_from_slice(others)?;
+    }
+    Ok(ranges)
 }
 
 /// Whether each range lies within the one at its place.
@@ -59,17 +69,6 @@ fn has_block(blocks: &[(usize, usize)], function: usize) -> bool {
         }
     }
     false
-}
-
-/// Puts ranges that are said in the place of the first ones.
-fn put_said(ranges: &mut Vec<Range>, said: &[Range]) -> Result<(), AllocError> {
-    for (place, range) in said.iter().enumerate() {
-        match ranges.get_mut(place) {
-            Some(found) => *found = *range,
-            None => ranges.push(*range)?,
-        }
-    }
-    Ok(())
 }
 
 /// The list at a place of others.
@@ -111,51 +110,40 @@ impl Ranges {
 
     /// Nothing is known of the next function.
     fn begin(&mut self, number: usize, function: &Function) -> Result<(), AllocError> {
-        let counts = self.liveness.counts_of(number);
-        let params = any_words(self.alloc, counts.params)?;
         let live = self.liveness.of_function(number);
-        self.flows
-            .push(Flow::new(self.alloc, function, live, params)?)?;
-        self.results.push(any_words(self.alloc, counts.results)?)?;
+        self.flows.push(Flow::new(self.alloc, function, live)?)?;
+        let count = self.liveness.counts_of(number).results;
+        let results = with_said(self.alloc, &[], &[all(0); 6], count)?;
+        self.results.push(results)?;
         Ok(())
     }
 
     /// What all calls give a function, where an undefined word is 0; any words where none is reached.
-    fn given(&self, callee: usize) -> Result<Vec<Range>, AllocError> {
-        let mut ranges = any_words(self.alloc, self.liveness.counts_of(callee).params)?;
+    fn given(&self, callee: usize) -> [Range; 6] {
+        let mut ranges = [all(0); 6];
         let mut is_first = true;
         for flow in &self.flows {
             for call in &flow.calls {
                 if call.callee == callee {
-                    add_outs(ranges.as_mut_slice(), &call.given, ZERO, is_first);
+                    add_outs(&mut ranges, &call.given, ZERO, is_first);
                     is_first = false;
                 }
             }
         }
-        Ok(ranges)
+        ranges
     }
 
-    /// Takes over what all calls give a function; where that is new the function is looked at again.
-    fn take_params(&mut self, number: usize, function: &Function) -> Result<(), AllocError> {
-        let mut given = self.given(number)?;
-        put_said(&mut given, function.params.as_slice())?;
-        if let Some(flow) = self.flows.get_mut(number)
-            && flow.params != given
-        {
-            flow.params = given;
-            flow.mark(0);
-        }
-        Ok(())
-    }
-
-    /// Goes over a function, if something of it is to be looked at.
+    /// Takes over what all calls give a function, and goes over it, if that is new or something else of it is to be
+    /// looked at.
     fn settle_function(
         &mut self,
         program: &Program,
         (number, function): (usize, &Function),
         state: &mut State,
     ) -> Result<(), Fault> {
-        self.take_params(number, function)?;
+        let count = self.liveness.counts_of(number).params;
+        let given = self.given(number);
+        let mut params = with_said(self.alloc, function.params.as_slice(), &given, count)?;
         let setting = Setting {
             alloc: self.alloc,
             program,
@@ -163,22 +151,17 @@ impl Ranges {
             results: self.results.as_slice(),
             said: at(self.said.as_slice(), number),
         };
-        match self.flows.get_mut(number) {
-            Some(flow) if flow.is_pending() => flow.settle(&setting, state),
-            _ => Ok(()),
+        let Some(flow) = self.flows.get_mut(number) else {
+            return Ok(());
+        };
+        if flow.params != params {
+            mem::swap(&mut flow.params, &mut params);
+            flow.mark(0);
         }
-    }
-
-    /// What a function's returns leave, as far as its callers ask for it; any words where none is reached.
-    fn returned(&self, number: usize) -> Result<Vec<Range>, AllocError> {
-        let count = self.liveness.counts_of(number).results;
-        if let Some(flow) = self.flows.get(number)
-            && let Some(returned) = &flow.returned
-            && let Some(asked) = returned.get(..usize::from(count))
-        {
-            return Vec::from_slice(self.alloc, asked);
+        if flow.is_pending() {
+            return flow.settle(&setting, state);
         }
-        any_words(self.alloc, count)
+        Ok(())
     }
 
     /// Takes over what a function gives back, and looks at its callers again, where that is new: narrower in the first
@@ -189,8 +172,16 @@ impl Ranges {
         function: &Function,
         round: u32,
     ) -> Result<bool, AllocError> {
-        let mut found = self.returned(number)?;
-        put_said(&mut found, function.results.as_slice())?;
+        let Some(flow) = self.flows.get(number) else {
+            return Ok(false);
+        };
+        let count = self.liveness.counts_of(number).results;
+        let mut found = with_said(
+            self.alloc,
+            function.results.as_slice(),
+            &flow.returned,
+            count,
+        )?;
         let known = at(self.results.as_slice(), number);
         let is_new = if round < NARROWINGS {
             known != found.as_slice()
@@ -199,7 +190,7 @@ impl Ranges {
         };
         if is_new {
             if let Some(slot) = self.results.get_mut(number) {
-                *slot = found;
+                mem::swap(slot, &mut found);
             }
             for flow in self.flows.iter_mut() {
                 flow.mark_calls(number);
@@ -245,7 +236,7 @@ impl Ranges {
         state: &mut State,
     ) -> Result<(), Fault> {
         let liveness = Liveness::of(self.alloc, program)?;
-        if liveness.counts != self.liveness.counts || program.functions.len() != self.flows.len() {
+        if liveness.counts != self.liveness.counts {
             *self = Ranges::of(self.alloc, program, state)?;
             return Ok(());
         }
@@ -290,7 +281,7 @@ impl Ranges {
     /// doesn't come, and of a function's first block, which begins with the function's params.
     pub fn cells(&self, function: usize, block: usize) -> Option<&[Cell]> {
         match self.flows.get(function) {
-            Some(flow) => flow.known.cells(block),
+            Some(flow) => flow.cells(block),
             None => None,
         }
     }
@@ -313,19 +304,6 @@ impl Ranges {
         self.liveness.of_function(function)
     }
 
-    fn setting<'a>(&'a self, program: &'a Program, number: usize) -> Option<Setting<'a>> {
-        match program.functions.get(number) {
-            Some(function) => Some(Setting {
-                alloc: self.alloc,
-                program,
-                function,
-                results: self.results.as_slice(),
-                said: at(self.said.as_slice(), number),
-            }),
-            None => None,
-        }
-    }
-
     /// Begins a block in the verifier's domain, behind SAVE where it is a framed function's first one. Says whether
     /// control comes there.
     pub fn begin_block(
@@ -335,8 +313,8 @@ impl Ranges {
         block: usize,
         state: &mut State,
     ) -> bool {
-        match (self.flows.get(function), self.setting(program, function)) {
-            (Some(flow), Some(setting)) => flow.begin(&setting, block, state),
+        match (self.flows.get(function), program.functions.get(function)) {
+            (Some(flow), Some(code)) => flow.begin(code, block, state),
             _ => false,
         }
     }
@@ -352,8 +330,13 @@ impl Ranges {
         way: usize,
         state: &mut State,
     ) -> bool {
-        match (self.flows.get(function), self.setting(program, function)) {
-            (Some(flow), Some(setting)) => flow.run(&setting, block, way, state),
+        match (self.flows.get(function), program.functions.get(function)) {
+            (Some(flow), Some(code)) => flow.run(
+                code,
+                self.results.as_slice(),
+                (block, way),
+                state,
+            ),
             _ => false,
         }
     }

@@ -1,7 +1,6 @@
 //! What isn't shown of a function's steps.
-use fit_cells::{return_from, run_to_call};
 use fit_code::{Block, Function, Line, Program, Region};
-use fit_graph::{effects_of, read_at_end};
+use fit_graph::{effects_of, read_at_end, return_from, run_to_call};
 use fit_ranges::{Origin, Ranges, Trace, end_of, named_object, origin_of, trace_of};
 use sbx_domain::State;
 use sbx_range::{Range, excludes_zero, range_of_address};

@@ -3,8 +3,8 @@ use crate::asks::{Access, Ask, Asking, Lack, asks_of, needed_alignment, shorten_
 use crate::cuts::{clearing, drop_compare, insert_instr};
 use crate::plans::{Kind, Test, plan_in, plan_in_constants};
 use crate::settling::answers::{Options, Planned, SUM, Tests};
-use fit_cells::range_in;
 use fit_code::{End, Fault, Function, NO_LINE, Program, Reason};
+use fit_graph::range_in;
 use fit_ranges::{Origin, Ranges, bounds_of, operands_of};
 use sbx_domain::State;
 use sbx_range::excludes_zero;

@@ -1,6 +1,8 @@
 //! The numbers at which a range that grows may stop.
-use crate::compared::Compared;
+use crate::cells::compared::compared_in;
+use crate::cells::entries::{Entries, entry, location_of, number_of};
 use fit_code::{Function, Program};
+use sbx_domain::LOCATIONS;
 use sbx_range::Range;
 use std::alloc::{AllocError, Global};
 
@@ -35,19 +37,17 @@ fn around(a: i32, b: i32) -> [i32; 6] {
     ]
 }
 
-/// The least first, and each once.
-pub(crate) fn sort(list: &mut Vec<i32>) {
-    list.as_mut_slice().sort_unstable();
-    list.dedup();
-}
+/// In the place of a location, for the numbers of all of them: of words that aren't addresses of the data, and of those
+/// that are.
+const NUMBERS: u16 = 0;
+
+const ADDRESSES: u16 = LOCATIONS as u16;
 
 /// Where the ranges of a function's locations may stop.
 #[derive(Drop)]
 pub struct Thresholds {
-    compared: Compared,
-    /// Those of all locations, the least first: of words that are addresses of the data, and of others.
-    addresses: Vec<i32>,
-    numbers: Vec<i32>,
+    /// The numbers, the least first.
+    entries: Entries,
     /// Where the data begin and end.
     start: i32,
     end: i32,
@@ -55,74 +55,63 @@ pub struct Thresholds {
 
 impl Thresholds {
     /// Adds the ends of the program's objects, the last places in them for 2, 4 and 8 bytes, and their lengths.
-    fn add_objects(&mut self, program: &Program) -> Result<(), AllocError> {
+    fn add_objects(&mut self, program: &Program) {
         for object in &program.objects {
             let length = i32::try_from(object.bytes.len()).unwrap_or(i32::MAX);
             let start = object.start.cast_signed();
             let end = start.saturating_add(length);
-            self.numbers
-                .extend_from_slice(&[length, length.saturating_sub(1)])?;
-            self.addresses.extend_from_slice(&around(start, end))?;
-            self.addresses.extend_from_slice(&[
-                end.saturating_sub(2),
-                end.saturating_sub(4),
+            self.entries
+                .add(NUMBERS, &[length, length.saturating_sub(1)]);
+            let last = [
                 end.saturating_sub(8),
-            ])?;
+                end.saturating_sub(4),
+                end.saturating_sub(2),
+            ];
+            self.entries.add(ADDRESSES, &last);
+            self.entries.add(ADDRESSES, &around(start, end));
         }
-        Ok(())
     }
 
     /// Adds the ends of the program's regions.
-    fn add_regions(&mut self, program: &Program) -> Result<(), AllocError> {
+    fn add_regions(&mut self, program: &Program) {
         for region in &program.regions {
             let start = region.start.cast_signed();
             let end = region.start.saturating_add(region.length).cast_signed();
-            self.addresses.extend_from_slice(&around(start, end))?;
+            self.entries.add(ADDRESSES, &around(start, end));
             self.start = self.start.min(start);
             self.end = self.end.max(end);
         }
-        Ok(())
     }
 
     /// Adds the ends of params.
-    fn add_params(&mut self, params: &[Range]) -> Result<(), AllocError> {
+    fn add_params(&mut self, params: &[Range]) {
         for range in params {
             let ends = around(range.lo, range.hi);
-            self.numbers.extend_from_slice(&ends)?;
-            self.addresses.extend_from_slice(&ends)?;
+            self.entries.add(NUMBERS, &ends);
+            self.entries.add(ADDRESSES, &ends);
         }
-        Ok(())
     }
 
-    /// Adds the numbers of a program, and of a function that is called with these params; the least first, and each
-    /// once.
-    fn add_all(&mut self, program: &Program, params: &[Range]) -> Result<(), AllocError> {
-        self.add_objects(program)?;
-        self.add_regions(program)?;
-        self.add_params(params)?;
-        sort(&mut self.addresses);
-        sort(&mut self.numbers);
-        Ok(())
-    }
-
-    /// The thresholds of all locations near a number.
-    fn near(&self, number: i32) -> &[i32] {
+    /// What stands in the place of a location for a number's thresholds of all locations.
+    fn near(&self, number: i32) -> u16 {
         if self.start <= number && number <= self.end.saturating_add(1) {
-            self.addresses.as_slice()
+            ADDRESSES
         } else {
-            self.numbers.as_slice()
+            NUMBERS
         }
     }
 
     /// The next threshold of a location at or beyond a number: above it, or where `is_below` below it.
     pub(crate) fn next(&self, location: u16, number: i32, is_below: bool) -> i32 {
-        for list in &[self.compared.numbers_of(location), self.near(number)] {
-            let place = match list.binary_search(&number) {
+        for near in &[location, self.near(number)] {
+            let place = match self.entries.list.binary_search(&entry(*near, number)) {
                 Err(place) if is_below => place.wrapping_sub(1),
                 Ok(place) | Err(place) => place,
             };
-            if let Some(found) = list.get(place) {
-                return *found;
+            if let Some(found) = self.entries.list.get(place)
+                && location_of(*found) == *near
+            {
+                return number_of(*found);
             }
         }
         if is_below { i32::MIN } else { i32::MAX }
@@ -137,12 +126,17 @@ pub fn thresholds_of(
     params: &[Range],
 ) -> Result<Thresholds, AllocError> {
     let mut thresholds = Thresholds {
-        compared: Compared::of(alloc, function)?,
-        addresses: Vec::new(alloc),
-        numbers: Vec::from_slice(alloc, &COMMON)?,
+        entries: compared_in(alloc, function),
         start: i32::MAX,
         end: i32::MIN,
     };
-    thresholds.add_all(program, params)?;
+    thresholds.entries.add(NUMBERS, &COMMON);
+    thresholds.add_objects(program);
+    thresholds.add_regions(program);
+    thresholds.add_params(params);
+    if thresholds.entries.is_refused {
+        return Err(AllocError);
+    }
+    thresholds.entries.sort();
     Ok(thresholds)
 }

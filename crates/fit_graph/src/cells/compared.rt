@@ -1,0 +1,224 @@
+//! The numbers that a function compares the words of its locations with: where a range that grows in a loop is to stop,
+//! one of these mostly ends it.
+use crate::cells::entries::{Entries, location_of, number_of};
+use crate::live::effects_in;
+use fit_code::{Function, Step};
+use sbx_domain::frame_word_of;
+use std::alloc::Global;
+use v8_formats::{Operand, Reg, Three};
+use v8_meaning::{Loading, Op, Operation, Transfer, operation_of};
+
+/// A location that is compared with more numbers than this one hands none on.
+const MOST: usize = 100;
+
+/// What a register holds, as far as its block tells: the word that a location had where the block began, and a number
+/// more; the number alone where the location is 0.
+#[derive(Clone, Copy)]
+struct Held {
+    location: u16,
+    more: i64,
+}
+
+impl Held {
+    /// A number alone.
+    fn number(number: i64) -> Held {
+        Held {
+            location: 0,
+            more: number,
+        }
+    }
+
+    /// A sum, of which one has to be a number alone.
+    fn plus(self, other: Held) -> Option<Held> {
+        if self.location != 0 && other.location != 0 {
+            return None;
+        }
+        Some(Held {
+            location: self.location.max(other.location),
+            more: self.more.saturating_add(other.more),
+        })
+    }
+
+    fn is_zero(self) -> bool {
+        self.location == 0 && self.more == 0
+    }
+}
+
+/// What the locations of a function are compared with.
+#[derive(Drop)]
+struct Compared {
+    entries: Entries,
+    /// Locations that are compared with other ones, whose numbers they get.
+    pairs: Vec<(u16, u16)>,
+}
+
+/// What the registers of a block hold, step by step.
+#[derive(Clone, Copy)]
+struct Registers {
+    held: [Option<Held>; 32],
+}
+
+impl Registers {
+    /// The registers where a block begins.
+    fn begun() -> Registers {
+        let mut held = [None; 32];
+        for location in 0..32u16 {
+            held[usize::from(location)] = Some(Held { location, more: 0 });
+        }
+        Registers { held }
+    }
+
+    fn of(&self, register: Reg) -> Option<Held> {
+        self.held[usize::from(register.number())]
+    }
+
+    fn of_operand(&self, operand: Operand) -> Option<Held> {
+        match operand {
+            Operand::Register(register) => self.of(register),
+            Operand::Immediate(number) => Some(Held::number(i64::from(number.cast_signed()))),
+        }
+    }
+
+    fn put(&mut self, register: Reg, held: Option<Held>) {
+        if register != Reg::G0 {
+            self.held[usize::from(register.number())] = held;
+        }
+    }
+
+    /// What an operation gives, of which enough is known.
+    fn result(&self, op: Op, fields: &Three) -> Option<Held> {
+        let (Some(first), Some(second)) = (self.of(fields.rs1), self.of_operand(fields.operand2))
+        else {
+            return None;
+        };
+        match op {
+            Op::Add | Op::AddCc => first.plus(second),
+            Op::Sub | Op::SubCc if second.location == 0 => {
+                first.plus(Held::number(second.more.saturating_neg()))
+            }
+            Op::Or | Op::OrCc if first.is_zero() || second.is_zero() => first.plus(second),
+            Op::Or if first.location == 0 && second.location == 0 => {
+                Some(Held::number(first.more | second.more))
+            }
+            _ => None,
+        }
+    }
+
+    /// Forgets the registers of a mask.
+    fn forget(&mut self, mask: u32) {
+        for number in 1..32 {
+            if mask >> number & 1 == 1 {
+                self.held[number] = None;
+            }
+        }
+    }
+}
+
+impl Compared {
+    /// Adds a number and those beside it to a location's.
+    fn add(&mut self, location: u16, number: i64) {
+        for beside in -1..=1i64 {
+            if let Ok(number) = i32::try_from(number.saturating_add(beside)) {
+                self.entries.add(location, &[number]);
+            }
+        }
+    }
+
+    /// Two words are compared.
+    fn compare(&mut self, first: Option<Held>, second: Option<Held>) {
+        let (Some(first), Some(second)) = (first, second) else {
+            return;
+        };
+        if first.location == second.location {
+            return;
+        }
+        if second.location == 0 {
+            self.add(first.location, second.more.saturating_sub(first.more));
+        } else if first.location == 0 {
+            self.add(second.location, first.more.saturating_sub(second.more));
+        } else {
+            let (first, second) = (first.location, second.location);
+            let pairs = [(first, second), (second, first)];
+            self.entries.is_refused |= self.pairs.extend_from_slice(&pairs).is_err();
+        }
+    }
+
+    /// A location gets the numbers of another one, unless they are many.
+    fn take_over(&mut self, to: u16, from: u16) {
+        let count = self.entries.list.len();
+        for place in 0..count {
+            if let Some(known) = self.entries.list.get(place).copied()
+                && location_of(known) == from
+            {
+                self.entries.add(to, &[number_of(known)]);
+            }
+        }
+        if self.entries.list.len().saturating_sub(count) > MOST {
+            self.entries.list.truncate(count);
+        }
+    }
+
+    /// Two locations that are compared with each other get each other's numbers.
+    fn join_pairs(&mut self) {
+        self.entries.sort();
+        for place in 0..self.pairs.len() {
+            if let Some((to, from)) = self.pairs.get(place).copied() {
+                self.take_over(to, from);
+            }
+        }
+    }
+
+    /// An operation of a block.
+    fn compute(&mut self, registers: &mut Registers, op: Op, fields: &Three) {
+        let result = registers.result(op, fields);
+        match op {
+            Op::SubCc => self.compare(
+                registers.of(fields.rs1),
+                registers.of_operand(fields.operand2),
+            ),
+            Op::AddCc | Op::OrCc => self.compare(result, Some(Held::number(0))),
+            _ => {}
+        }
+        registers.put(fields.rd, result);
+    }
+
+    /// A step of a block.
+    fn step(&mut self, registers: &mut Registers, frame: u32, step: &Step) {
+        match operation_of(&step.instr) {
+            Operation::Compute(op, fields) => self.compute(registers, op, &fields),
+            Operation::SetHigh(fields) => {
+                let number = fields.imm22.wrapping_mul(1024).cast_signed();
+                registers.put(fields.rd, Some(Held::number(i64::from(number))));
+            }
+            Operation::Transfer(Transfer::Load(Loading::Word), operand) => {
+                let held = match frame_word_of(frame, &operand) {
+                    Some(location) => Some(Held { location, more: 0 }),
+                    None => None,
+                };
+                registers.put(operand.rd, held);
+            }
+            _ => registers.forget(effects_in(frame, step).writes),
+        }
+    }
+
+    /// Adds what the blocks of a function compare.
+    fn add_blocks(&mut self, function: &Function) {
+        for block in &function.blocks {
+            let mut registers = Registers::begun();
+            for step in &block.steps {
+                self.step(&mut registers, function.frame, step);
+            }
+        }
+    }
+}
+
+/// The numbers that a function compares its locations with, and those beside them.
+pub fn compared_in(alloc: Global, function: &Function) -> Entries {
+    let mut compared = Compared {
+        entries: Entries::none(alloc),
+        pairs: Vec::new(alloc),
+    };
+    compared.add_blocks(function);
+    compared.join_pairs();
+    compared.entries
+}
