@@ -1,4 +1,5 @@
 //! What isn't shown of a function's steps.
+use crate::cuts::Memory;
 use fit_cells::{return_from, run_to_call};
 use fit_code::{Block, Function, Line, Program, Region};
 use fit_graph::{effects_of, read_at_end};
@@ -171,70 +172,66 @@ impl Asking<'_> {
         }
     }
 
-    /// Asks the steps of a block one after the other. Of a call its slot is run before it is asked.
-    fn ask_steps(
+    /// What isn't shown of the step at a place of a block, or of its end behind the last one; the state is then that
+    /// behind the step. Of a call its slot is run before it is asked.
+    fn next_lack(
         &self,
-        code: &Function,
-        (number, block): (usize, &Block),
+        (function, code): (usize, &Function),
+        block: &Block,
         trace: &Trace,
+        place: usize,
         state: &mut State,
-        asks: &mut Vec<Ask>,
-    ) -> Result<(), AllocError> {
-        for (place, step) in block.steps.iter().enumerate() {
-            let lack = match step.callee {
-                Some(callee) => {
-                    run_to_call(code.frame, step, state);
-                    let lack = self.lack_of_call(callee, state);
-                    return_from(self.ranges.results(), callee, state);
-                    lack
-                }
-                None => {
-                    let lack = self.lack_of(code, block, trace, place, state);
-                    state.transfer(code.frame, &step.instr);
-                    lack
-                }
-            };
-            if let Some(lack) = lack {
-                asks.push(Ask {
-                    block: number,
-                    place,
-                    line: step.line,
-                    lack,
-                })?;
-            }
+    ) -> Option<Lack> {
+        let results = self.ranges.results();
+        let Some(step) = block.steps.get(place) else {
+            let left = results.get(function)?.len().min(6) as u8;
+            let read = read_at_end(code, left, &block.end);
+            return Some(Lack::Defined(undefined_register(read, state)?));
+        };
+        if let Some(callee) = step.callee {
+            run_to_call(code.frame, step, state);
+            let lack = self.lack_of_call(callee, state);
+            return_from(results, callee, state);
+            return lack;
         }
-        Ok(())
+        let lack = self.lack_of(code, block, trace, place, state);
+        state.transfer(code.frame, &step.instr);
+        lack
     }
 
-    /// Asks a block, from its beginning on, and then its end, if control comes to it.
+    /// Asks a block, from its beginning to its end, if control comes to it.
     fn ask_block(
         &self,
         (function, code): (usize, &Function),
         (number, block): (usize, &Block),
         state: &mut State,
         asks: &mut Vec<Ask>,
-    ) -> Result<(), AllocError> {
+        memory: &mut Memory,
+    ) {
         let (program, ranges) = (self.program, self.ranges);
         if !ranges.begin_block(program, function, number, state) {
-            return Ok(());
+            return;
         }
-        let trace = trace_of(self.alloc, code.frame, ranges.results(), block, state)?;
-        ranges.begin_block(program, function, number, state);
-        self.ask_steps(code, (number, block), &trace, state, asks)?;
-        let results = match ranges.results().get(function) {
-            Some(results) => results.len().min(6) as u8,
-            None => 0,
+        let trace = match trace_of(self.alloc, code.frame, ranges.results(), block, state) {
+            Ok(trace) => trace,
+            Err(error) => return memory.take(Err(error)),
         };
-        let read = read_at_end(code, results, &block.end);
-        if let Some(location) = undefined_register(read, state) {
-            asks.push(Ask {
-                block: number,
-                place: block.steps.len(),
-                line: block.line,
-                lack: Lack::Defined(location),
-            })?;
+        ranges.begin_block(program, function, number, state);
+        for place in 0..block.steps.len().saturating_add(1) {
+            if let Some(lack) = self.next_lack((function, code), block, &trace, place, state) {
+                let line = match block.steps.get(place) {
+                    Some(step) => step.line,
+                    None => block.line,
+                };
+                let ask = Ask {
+                    block: number,
+                    place,
+                    line,
+                    lack,
+                };
+                memory.push(asks, ask);
+            }
         }
-        Ok(())
     }
 }
 
@@ -245,10 +242,18 @@ pub fn asks_of(
     state: &mut State,
 ) -> Result<Vec<Ask>, AllocError> {
     let mut asks = Vec::new(asking.alloc);
+    let mut memory = Memory::new();
     if let Some(code) = asking.program.functions.get(function) {
         for (number, block) in code.blocks.iter().enumerate() {
-            asking.ask_block((function, code), (number, block), state, &mut asks)?;
+            asking.ask_block(
+                (function, code),
+                (number, block),
+                state,
+                &mut asks,
+                &mut memory,
+            );
         }
     }
+    memory.told()?;
     Ok(asks)
 }

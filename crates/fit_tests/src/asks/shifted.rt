@@ -4,10 +4,8 @@
 use crate::cuts::by_immediate;
 use fit_code::{Block, End, Program};
 use fit_graph::{Locations, effects_of};
-use fit_ranges::{Ranges, Trace, trace_of};
-use sbx_domain::State;
+use fit_ranges::Trace;
 use sbx_range::{Range, is_single};
-use std::alloc::{AllocError, Global};
 use v8_formats::{Instr, Operand, Three};
 
 /// Numbers of at least this magnitude are looked at.
@@ -104,7 +102,7 @@ fn shorter(
 
 /// Lets the steps of a block of which this is the trace add small numbers where they may; says whether one does that
 /// didn't.
-fn shorten_steps(frame: u32, block: &mut Block, trace: &Trace, live: &[Locations]) -> bool {
+pub fn shorten_steps(frame: u32, block: &mut Block, trace: &Trace, live: &[Locations]) -> bool {
     let mut is_changed = false;
     for (place, operands) in trace.operands.iter().enumerate() {
         if let Some(fields) = shorter(frame, block, place, operands[1], live)
@@ -115,22 +113,4 @@ fn shorten_steps(frame: u32, block: &mut Block, trace: &Trace, live: &[Locations
         }
     }
     is_changed
-}
-
-/// The same of a block by the numbers of its function and its own, if control comes to it.
-pub fn shorten_block(
-    alloc: Global,
-    program: &mut Program,
-    ranges: &Ranges,
-    (function, number): (usize, usize),
-    state: &mut State,
-) -> Result<bool, AllocError> {
-    if ranges.begin_block(program, function, number, state)
-        && let Some(code) = program.functions.get_mut(function)
-        && let Some(block) = code.blocks.get_mut(number)
-    {
-        let trace = trace_of(alloc, code.frame, ranges.results(), block, state)?;
-        return Ok(shorten_steps(code.frame, block, &trace, ranges.live(function)));
-    }
-    Ok(false)
 }

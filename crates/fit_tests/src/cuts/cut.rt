@@ -1,4 +1,5 @@
 //! Blocks in two.
+use crate::cuts::memory::Memory;
 use fit_code::{Block, End, Function, Line, Step};
 use std::alloc::{AllocError, Global};
 use v8_formats::Instr;
@@ -65,14 +66,13 @@ pub fn push_block(
     Ok(block)
 }
 
-/// A copy of a block's steps from a place on, and of its end, as a new block, whose number this is.
+/// Puts a copy of a block's steps from a place on, and of its end, behind the other blocks.
 pub fn copy_block(
     alloc: Global,
     function: &mut Function,
     number: usize,
     place: usize,
-) -> Result<usize, AllocError> {
-    let copy = function.blocks.len();
+) -> Result<(), AllocError> {
     if let Some(block) = function.blocks.get(number) {
         let copied = Block {
             steps: Vec::from_slice(alloc, block.steps.get(place..).unwrap_or(&[]))?,
@@ -82,7 +82,7 @@ pub fn copy_block(
         };
         function.blocks.push(copied)?;
     }
-    Ok(copy)
+    Ok(())
 }
 
 /// Cuts a block before the step at a place. What was behind it stands in a new block, whose number this is, and to
@@ -92,12 +92,14 @@ pub fn cut_block(
     function: &mut Function,
     number: usize,
     place: usize,
-) -> Result<usize, AllocError> {
-    let rest = copy_block(alloc, function, number, place)?;
+    memory: &mut Memory,
+) -> usize {
+    let rest = function.blocks.len();
+    memory.take(copy_block(alloc, function, number, place));
     if let Some(block) = function.blocks.get_mut(number) {
         block.steps.truncate(place);
         block.end = End::Jump(rest);
         block.slot = None;
     }
-    Ok(rest)
+    rest
 }

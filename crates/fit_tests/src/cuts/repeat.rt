@@ -1,10 +1,8 @@
 //! Codes that are in use where a block is to be cut, set again behind.
-use crate::cuts::cut::push_instrs;
 use crate::cuts::place::{Use, codes_use, in_use};
 use crate::cuts::words::by_immediate;
 use fit_code::{Block, End};
 use fit_graph::effects_of;
-use std::alloc::AllocError;
 use v8_formats::{Cond, Instr, Reg};
 
 /// The same instruction with %g0 for its destination, where it is one that is used to compare.
@@ -49,15 +47,22 @@ fn is_written(frame: u32, block: &Block, place: usize, registers: u32) -> bool {
     false
 }
 
-/// An instruction that sets the codes at the end of a block as the setter at a place of it did, as far as the
-/// condition asks.
-fn again(frame: u32, block: &Block, place: usize, cond: Cond) -> Option<Instr> {
+/// An instruction that sets the codes that a block's branch asks for again behind the last step, so that they aren't
+/// in use before. None where that step sets them, and where no instruction does.
+pub fn codes_again(frame: u32, block: &Block) -> Option<Instr> {
+    let End::Branch { cond, .. } = block.end else {
+        return None;
+    };
+    let place = last_setter(block)?;
     let setter = block.steps.get(place)?;
+    let behind = place.saturating_add(1);
+    if behind == block.steps.len() {
+        return None;
+    }
     let effects = effects_of(frame, &setter.instr);
     if !is_written(frame, block, place, effects.reads) {
         return without_result(setter.instr);
     }
-    let behind = place.saturating_add(1);
     let is_kept = effects.writes != 0 && !is_written(frame, block, behind, effects.writes);
     // These ask for Z and N alone.
     let asks_signs = matches!(
@@ -69,26 +74,6 @@ fn again(frame: u32, block: &Block, place: usize, cond: Cond) -> Option<Instr> {
         return Some(Instr::SubCc(by_immediate(0, number, 0)));
     }
     None
-}
-
-/// Sets the codes that the block's branch asks for again behind the last step, so that they aren't in use before.
-/// Says whether that could be done.
-pub fn repeat_codes(frame: u32, block: &mut Block) -> Result<bool, AllocError> {
-    let End::Branch { cond, .. } = block.end else {
-        return Ok(false);
-    };
-    let Some(place) = last_setter(block) else {
-        return Ok(false);
-    };
-    let Some(instr) = again(frame, block, place, cond) else {
-        return Ok(false);
-    };
-    let line = block.line;
-    let is_last = place.saturating_add(1) == block.steps.len();
-    if !is_last {
-        push_instrs(&mut block.steps, &[Some(instr)], line)?;
-    }
-    Ok(!is_last)
 }
 
 /// Takes the last compare out of a block, if nothing asks for the codes that it sets.

@@ -1,6 +1,5 @@
 //! How an address is tested.
-use fit_code::Program;
-use fit_ranges::{Bounds, Origin, bounds_in_constants};
+use fit_ranges::{Bounds, Origin};
 use sbx_range::{Range, all};
 
 /// What is asked of a register's word.
@@ -16,9 +15,14 @@ pub struct Plan {
 }
 
 impl Plan {
+    /// Whether the word is known to lie within its bounds.
+    pub fn is_known(&self) -> bool {
+        matches!(self.way, Way::Known)
+    }
+
     /// Whether nothing can be said of the word that isn't known.
     pub fn says_nothing(&self) -> bool {
-        matches!(self.way, Way::Known) && self.alignment == 0
+        self.is_known() && self.alignment == 0
     }
 }
 
@@ -33,15 +37,6 @@ pub enum Way {
     Within { lo: i32, length: i32 },
     /// It never does.
     Never,
-}
-
-/// Numbers that are signed words, and whose difference is one.
-fn within(lo: i64, hi: i64) -> Way {
-    let length = hi.saturating_sub(lo);
-    match (i32::try_from(lo), i32::try_from(length)) {
-        (Ok(lo), Ok(length)) if length >= 0 => Way::Within { lo, length },
-        _ => Way::Never,
-    }
 }
 
 /// How a word of a range is seen to lie in bounds, where its multiples are looked at or not.
@@ -60,11 +55,16 @@ fn way_of(range: Range, bounds: &Bounds, alignment: u8) -> Way {
             _ => Way::Never,
         };
     }
-    if bounds.object.is_none() || alignment > 0 {
+    let lo = if bounds.object.is_none() || alignment > 0 {
         // A multiple of 8 that isn't below.
-        within(lo.saturating_add(7) & -8, hi)
+        lo.saturating_add(7) & -8
     } else {
-        within(lo, hi)
+        lo
+    };
+    let length = hi.saturating_sub(lo);
+    match (i32::try_from(lo), i32::try_from(length)) {
+        (Ok(lo), Ok(length)) if length >= 0 => Way::Within { lo, length },
+        _ => Way::Never,
     }
 }
 
@@ -83,20 +83,4 @@ pub fn plan_in(origin: &Origin, bounds: Bounds, needed: u8) -> Plan {
         alignment,
         way: way_of(range, &bounds, alignment),
     }
-}
-
-/// How a load is tested where it doesn't lie in the data that may be written: among the constants. Nothing where there
-/// are none, or where it was seen by the first plan already.
-pub fn plan_in_constants(
-    program: &Program,
-    origin: &Origin,
-    size: u32,
-    needed: u8,
-    first: &Plan,
-) -> Option<Plan> {
-    if first.bounds.object.is_some() || matches!(first.way, Way::Known) {
-        return None;
-    }
-    let bounds = bounds_in_constants(program, origin, i64::from(size))?;
-    Some(plan_in(origin, bounds, needed))
 }

@@ -1,15 +1,14 @@
 //! Tests put into a program until nothing is left that isn't shown.
-use crate::asks::{Access, Ask, Asking, Lack, asks_of, needed_alignment, shorten_block};
-use crate::cuts::{clearing, drop_compare, insert_instr};
-use crate::plans::{Kind, Test, plan_in, plan_in_constants};
-use crate::settling::answers::{Options, Planned, SUM, Tests};
+use crate::asks::{Access, Ask, Asking, Lack, asks_of, needed_alignment, shorten_steps};
+use crate::cuts::{Memory, clearing, drop_compare, insert_instr};
+use crate::plans::{Kind, Test, plan_in};
+use crate::settling::answers::{Answer, Options, Planned, SUM, Tests};
 use fit_cells::range_in;
 use fit_code::{End, Fault, Function, NO_LINE, Program, Reason};
-use fit_ranges::{Origin, Ranges, bounds_of, operands_of};
+use fit_ranges::{Origin, Ranges, bounds_in_constants, bounds_of, operands_of, trace_of};
 use sbx_domain::State;
 use sbx_range::excludes_zero;
-use std::alloc::{AllocError, Global};
-use std::mem;
+use std::alloc::Global;
 use v8_formats::Operand;
 
 /// As many rounds as settling may take, and in so many of them tests that aren't needed go.
@@ -17,20 +16,24 @@ const ROUNDS: u32 = 1_000;
 
 const DROPS: u32 = 4;
 
-/// An origin with its plans.
+/// An origin with its plans. A load that doesn't lie in the data that may be written may lie among the constants.
 fn with_plan(program: &Program, access: &Access, origin: Origin) -> Planned {
     let needed = needed_alignment(access.size);
-    let bounds = bounds_of(program, &origin, i64::from(access.size));
-    let plan = plan_in(&origin, bounds, needed);
-    let constants = if access.writes {
+    let size = i64::from(access.size);
+    let plan = plan_in(&origin, bounds_of(program, &origin, size), needed);
+    let has_one = access.writes || plan.bounds.object.is_some() || plan.is_known();
+    let constants = if has_one {
         None
     } else {
-        plan_in_constants(program, &origin, access.size, needed, &plan)
+        bounds_in_constants(program, &origin, size)
     };
     Planned {
         origin,
         plan,
-        constants,
+        constants: match constants {
+            Some(bounds) => Some(plan_in(&origin, bounds, needed)),
+            None => None,
+        },
     }
 }
 
@@ -90,6 +93,18 @@ fn is_needless(test: &Test, ranges: &Ranges) -> bool {
         && test.alignment <= range.alignment
 }
 
+/// A fault of an ask that can't be answered.
+fn refused(program: &Program, function: usize, ask: &Ask, what: &'static str) -> Fault {
+    let is_by_zero = matches!(ask.lack, Lack::Divisible(Operand::Immediate(_), _));
+    match program.functions.get(function) {
+        Some(code) if !is_by_zero => match code.name.clone() {
+            Ok(function) => Fault::new(ask.line, Reason::Form { function, what }),
+            Err(error) => Fault::from(error),
+        },
+        _ => Fault::new(ask.line, Reason::Unreadable(what)),
+    }
+}
+
 impl Tests {
     /// Answers one ask of a function.
     fn answer(
@@ -98,52 +113,43 @@ impl Tests {
         function: usize,
         ask: &Ask,
         planned: Option<Planned>,
-    ) -> Result<(), Fault> {
+    ) -> Answer {
         match &ask.lack {
             Lack::Defined(location) => self.clear_at_entry(code, function, *location, ask.line),
             Lack::Given(location) => {
                 let clear = clearing(*location);
-                Ok(insert_instr(code, ask.block, ask.place, clear, ask.line)?)
+                self.memory
+                    .take(insert_instr(code, ask.block, ask.place, clear, ask.line));
+                None
             }
             Lack::Placed(access) => self.test_access(code, function, ask, access, planned),
             Lack::Divisible(Operand::Register(register), range) => {
                 self.test_divisor(code, function, ask, register.number(), *range)
             }
-            Lack::Divisible(Operand::Immediate(_), _) => {
-                Err(Fault::new(ask.line, Reason::Unreadable("a division by 0")))
-            }
+            Lack::Divisible(Operand::Immediate(_), _) => Some("a division by 0"),
         }
     }
 
-    /// Answers one ask of a function, unless its block is changed already, or its register and object are among keys,
-    /// to which they are added.
-    fn answer_once(
-        &mut self,
-        program: &mut Program,
-        function: usize,
-        ask: &Ask,
-        keys: &mut Vec<(u8, Option<usize>)>,
-    ) -> Result<(), Fault> {
+    /// Answers one ask of a function, unless its block is changed already, or its register and object are among the
+    /// keys, to which they are added.
+    fn answer_once(&mut self, program: &mut Program, function: usize, ask: &Ask) -> Answer {
         // a location is defined at the entry
         let is_here = !matches!(ask.lack, Lack::Defined(_));
         if is_here && self.changed.contains(&(function, ask.block)) {
-            return Ok(());
+            return None;
         }
         let planned = planned(program, function, ask);
         if let Some(planned) = &planned {
             let key = (planned.origin.register, planned.plan.bounds.object);
-            if keys.contains(&key) {
-                return Ok(());
+            if self.keys.contains(&key) {
+                return None;
             }
-            keys.push(key)?;
+            self.memory.push(&mut self.keys, key);
         }
         if is_here {
-            self.changed.push((function, ask.block))?;
+            self.memory.push(&mut self.changed, (function, ask.block));
         }
-        match program.functions.get_mut(function) {
-            Some(code) => self.answer(code, function, ask, planned),
-            None => Ok(()),
-        }
+        self.answer(program.functions.get_mut(function)?, function, ask, planned)
     }
 
     /// Answers what isn't shown of a function, once in each of its blocks, and once for each register and object.
@@ -161,9 +167,13 @@ impl Tests {
             by_object: self.options.by_object,
         };
         let asks = asks_of(&asking, function, state)?;
-        let mut keys: Vec<(u8, Option<usize>)> = Vec::new(self.alloc);
+        self.keys.clear();
         for ask in &asks {
-            self.answer_once(program, function, ask, &mut keys)?;
+            let what = self.answer_once(program, function, ask);
+            self.memory.told()?;
+            if let Some(what) = what {
+                return Err(refused(program, function, ask, what));
+            }
         }
         Ok(())
     }
@@ -175,45 +185,56 @@ impl Tests {
         ranges: &Ranges,
         function: usize,
         state: &mut State,
-    ) -> Result<(), AllocError> {
+    ) {
         let blocks = match program.functions.get(function) {
             Some(code) => code.blocks.len(),
             None => 0,
         };
-        for block in 0..blocks {
-            if shorten_block(self.alloc, program, ranges, (function, block), state)? {
-                self.changed.push((function, block))?;
+        for number in 0..blocks {
+            if ranges.begin_block(program, function, number, state)
+                && let Some(code) = program.functions.get_mut(function)
+                && let Some(block) = code.blocks.get_mut(number)
+            {
+                match trace_of(self.alloc, code.frame, ranges.results(), block, state) {
+                    Ok(trace) => {
+                        if shorten_steps(code.frame, block, &trace, ranges.live(function)) {
+                            self.memory.push(&mut self.changed, (function, number));
+                        }
+                    }
+                    Err(error) => self.memory.take(Err(error)),
+                }
             }
         }
-        Ok(())
     }
 
     /// Takes out the tests that aren't needed.
-    fn drop_needless(&mut self, program: &mut Program, ranges: &Ranges) -> Result<(), AllocError> {
-        let tests = mem::replace(&mut self.list, Vec::new(self.alloc));
-        for test in &tests {
-            if !is_needless(test, ranges) {
-                self.list.push(*test)?;
+    fn drop_needless(&mut self, program: &mut Program, ranges: &Ranges) {
+        let mut kept: usize = 0;
+        for place in 0..self.list.len() {
+            let Some(test) = self.list.get(place).copied() else {
+                break;
+            };
+            if !is_needless(&test, ranges) {
+                if let Some(slot) = self.list.get_mut(kept) {
+                    *slot = test;
+                }
+                kept = kept.saturating_add(1);
             } else if let Some(code) = program.functions.get_mut(test.function)
                 && let Some(block) = code.blocks.get_mut(test.head)
             {
                 block.steps.clear();
                 block.end = End::Jump(test.rest);
-                self.changed.push((test.function, test.head))?;
+                self.memory
+                    .push(&mut self.changed, (test.function, test.head));
             }
         }
-        Ok(())
+        self.list.truncate(kept);
     }
 
     /// Makes a branch of which one way can't be gone go the other one alone.
-    fn close_ways(
-        &mut self,
-        program: &mut Program,
-        ranges: &Ranges,
-        function: usize,
-    ) -> Result<(), AllocError> {
+    fn close_ways(&mut self, program: &mut Program, ranges: &Ranges, function: usize) {
         let Some(code) = program.functions.get_mut(function) else {
-            return Ok(());
+            return;
         };
         for (number, block) in code.blocks.iter_mut().enumerate() {
             if let End::Branch { taken, next, .. } = block.end {
@@ -221,11 +242,10 @@ impl Tests {
                 if first != second {
                     block.end = End::Jump(if first { taken } else { next });
                     drop_compare(block);
-                    self.changed.push((function, number))?;
+                    self.memory.push(&mut self.changed, (function, number));
                 }
             }
         }
-        Ok(())
     }
 
     /// What is done in a round, where the ranges are those of the program as it stands.
@@ -240,12 +260,12 @@ impl Tests {
         }
         if self.changed.is_empty() && self.options.drops && self.drops < DROPS {
             self.drops = self.drops.saturating_add(1);
-            self.drop_needless(program, ranges)?;
+            self.drop_needless(program, ranges);
             for function in 0..program.functions.len() {
-                self.close_ways(program, ranges, function)?;
+                self.close_ways(program, ranges, function);
             }
         }
-        Ok(())
+        Ok(self.memory.told()?)
     }
 
     /// Puts tests into a program, of which these are the ranges, until nothing is left that isn't shown.
@@ -255,6 +275,7 @@ impl Tests {
         ranges: &mut Ranges,
         state: &mut State,
     ) -> Result<(), Fault> {
+        self.memory.told()?;
         for _ in 0..ROUNDS {
             if !self.changed.is_empty() {
                 ranges.renew(program, self.changed.as_slice(), state)?;
@@ -284,9 +305,19 @@ pub fn add_tests(
     ranges: &mut Ranges,
     state: &mut State,
 ) -> Result<Vec<Test>, Fault> {
-    let mut tests = Tests::none(alloc, options);
+    let mut tests = Tests {
+        alloc,
+        options,
+        list: Vec::new(alloc),
+        exits: Vec::new(alloc),
+        keys: Vec::new(alloc),
+        cleared: Vec::new(alloc),
+        drops: 0,
+        changed: Vec::new(alloc),
+        memory: Memory::new(),
+    };
     for function in 0..program.functions.len() {
-        tests.shorten(program, ranges, function, state)?;
+        tests.shorten(program, ranges, function, state);
     }
     tests.settle(program, ranges, state)?;
     Ok(tests.list)
