@@ -1,13 +1,13 @@
 //! What isn't shown of a function's steps.
 use crate::cuts::Memory;
 use fit_cells::{return_from, run_to_call};
-use fit_code::{Block, Function, Line, Program, Region};
-use fit_graph::{effects_of, read_at_end};
+use fit_code::{Block, End, Function, Line, Program, Region};
+use fit_graph::{Effects, effects_of, read_at_end};
 use fit_ranges::{Origin, Ranges, Trace, end_of, named_object, origin_of, trace_of};
 use sbx_domain::State;
 use sbx_range::{Range, excludes_zero, range_of_address};
 use std::alloc::{AllocError, Global};
-use v8_formats::Operand;
+use v8_formats::{Instr, Operand};
 use v8_meaning::{Operation, Transfer, bytes_in, operation_of};
 
 /// An access that isn't shown to lie where it has to.
@@ -66,15 +66,38 @@ fn is_in_region(regions: &[Region], from: i64, to: i64, writes: bool) -> bool {
     false
 }
 
-/// The first register that is read and isn't defined. %sp, %fp and the addresses of calls are never asked for.
+/// %sp, %fp and the addresses of calls, which are never asked for, each of which has a bit.
+const RESERVED: u32 = 0xc000_c000;
+
+/// The first register that is read and isn't defined.
 fn undefined_register(reads: u32, state: &State) -> Option<u16> {
+    let asked = reads & !RESERVED;
     for register in 1..32u16 {
-        let is_reserved = matches!(register, 14 | 15 | 30 | 31);
-        if reads >> register & 1 == 1 && !is_reserved && state.range(register).is_none() {
+        if asked >> register & 1 == 1 && state.range(register).is_none() {
             return Some(register);
         }
     }
     None
+}
+
+/// The first location that is read and isn't defined: a frame word before registers.
+fn undefined_location(effects: &Effects, state: &State) -> Option<u16> {
+    match effects.word_read {
+        Some(word) if state.range(word).is_none() => Some(word),
+        _ => undefined_register(effects.reads, state),
+    }
+}
+
+/// What isn't shown of a divisor, of which this is known.
+fn lack_of_divisor(operand: Operand, known: Option<Range>) -> Option<Lack> {
+    let Some(range) = known else {
+        return None;
+    };
+    if excludes_zero(range) {
+        None
+    } else {
+        Some(Lack::Divisible(operand, range))
+    }
 }
 
 /// How many low bits of an address of so many bytes are 0.
@@ -87,16 +110,29 @@ pub fn needed_alignment(size: u32) -> u8 {
     }
 }
 
+/// The line of the step at a place of a block, or behind the last one of its end.
+fn line_at(block: &Block, place: usize) -> Line {
+    if place < block.steps.len() {
+        block.steps[place].line
+    } else {
+        block.line
+    }
+}
+
 impl Asking<'_> {
     /// Whether an access lies outside of the object that its base names.
     fn is_outside(&self, origin: Option<Origin>, from: i64, to: i64) -> bool {
-        if let Some(origin) = origin
-            && let Some(number) = named_object(self.program, &origin)
-            && let Some(object) = self.program.objects.get(number)
-        {
-            return from < i64::from(object.start) || to > end_of(object);
+        let Some(origin) = origin else {
+            return false;
+        };
+        let Some(number) = named_object(self.program, &origin) else {
+            return false;
+        };
+        if number >= self.program.objects.len() {
+            return false;
         }
-        false
+        let object = &self.program.objects[number];
+        from < i64::from(object.start) || to > end_of(object)
     }
 
     /// What isn't shown of an access.
@@ -136,39 +172,52 @@ impl Asking<'_> {
         None
     }
 
-    /// What isn't shown of the step at a place of a block, which is no call.
+    /// What isn't shown of a step at a place of a block, which is no call.
     fn lack_of(
         &self,
-        function: &Function,
+        frame: u32,
         block: &Block,
         trace: &Trace,
-        place: usize,
+        (place, instr): (usize, &Instr),
         state: &State,
     ) -> Option<Lack> {
-        let step = block.steps.get(place)?;
-        let effects = effects_of(function.frame, &step.instr);
-        let undefined = match effects.word_read {
-            Some(word) if state.range(word).is_none() => Some(word),
-            _ => undefined_register(effects.reads, state),
-        };
-        if let Some(location) = undefined {
+        if let Some(location) = undefined_location(&effects_of(frame, instr), state) {
             return Some(Lack::Defined(location));
         }
-        let operands = trace.at(place);
-        match operation_of(&step.instr) {
-            Operation::Divide(_, fields) => {
-                let divisor = operands[1]?;
-                if excludes_zero(divisor) {
-                    return None;
-                }
-                Some(Lack::Divisible(fields.operand2, divisor))
-            }
+        let [first, second] = trace.at(place);
+        match operation_of(instr) {
+            Operation::Divide(_, fields) => lack_of_divisor(fields.operand2, second),
             Operation::Transfer(transfer, _) => {
-                let range = range_of_address(operands[0]?, operands[1]?);
-                let origin = origin_of(function.frame, block, trace, place);
+                let Some(first) = first else {
+                    return None;
+                };
+                let Some(second) = second else {
+                    return None;
+                };
+                let range = range_of_address(first, second);
+                let origin = origin_of(frame, block, trace, place);
                 self.lack_of_access(transfer, range, origin)
             }
             _ => None,
+        }
+    }
+
+    /// What isn't shown of the end of a block.
+    fn lack_at_end(
+        &self,
+        (number, code): (usize, &Function),
+        end: &End,
+        state: &State,
+    ) -> Option<Lack> {
+        let results = self.ranges.results();
+        let left = if number < results.len() {
+            results[number].len().min(6) as u8
+        } else {
+            0
+        };
+        match undefined_register(read_at_end(code, left, end), state) {
+            Some(location) => Some(Lack::Defined(location)),
+            None => None,
         }
     }
 
@@ -176,27 +225,29 @@ impl Asking<'_> {
     /// behind the step. Of a call its slot is run before it is asked.
     fn next_lack(
         &self,
-        (function, code): (usize, &Function),
+        (number, code): (usize, &Function),
         block: &Block,
         trace: &Trace,
         place: usize,
         state: &mut State,
     ) -> Option<Lack> {
-        let results = self.ranges.results();
-        let Some(step) = block.steps.get(place) else {
-            let left = results.get(function)?.len().min(6) as u8;
-            let read = read_at_end(code, left, &block.end);
-            return Some(Lack::Defined(undefined_register(read, state)?));
-        };
-        if let Some(callee) = step.callee {
-            run_to_call(code.frame, step, state);
-            let lack = self.lack_of_call(callee, state);
-            return_from(results, callee, state);
-            return lack;
+        if place >= block.steps.len() {
+            return self.lack_at_end((number, code), &block.end, state);
         }
-        let lack = self.lack_of(code, block, trace, place, state);
-        state.transfer(code.frame, &step.instr);
-        lack
+        let (frame, step) = (code.frame, &block.steps[place]);
+        match step.callee {
+            Some(callee) => {
+                run_to_call(frame, step, state);
+                let lack = self.lack_of_call(callee, state);
+                return_from(self.ranges.results(), callee, state);
+                lack
+            }
+            None => {
+                let lack = self.lack_of(frame, block, trace, (place, &step.instr), state);
+                state.transfer(frame, &step.instr);
+                lack
+            }
+        }
     }
 
     /// Asks a block, from its beginning to its end, if control comes to it.
@@ -219,14 +270,10 @@ impl Asking<'_> {
         ranges.begin_block(program, function, number, state);
         for place in 0..block.steps.len().saturating_add(1) {
             if let Some(lack) = self.next_lack((function, code), block, &trace, place, state) {
-                let line = match block.steps.get(place) {
-                    Some(step) => step.line,
-                    None => block.line,
-                };
                 let ask = Ask {
                     block: number,
                     place,
-                    line,
+                    line: line_at(block, place),
                     lack,
                 };
                 memory.push(asks, ask);
@@ -243,15 +290,11 @@ pub fn asks_of(
 ) -> Result<Vec<Ask>, AllocError> {
     let mut asks = Vec::new(asking.alloc);
     let mut memory = Memory::new();
-    if let Some(code) = asking.program.functions.get(function) {
-        for (number, block) in code.blocks.iter().enumerate() {
-            asking.ask_block(
-                (function, code),
-                (number, block),
-                state,
-                &mut asks,
-                &mut memory,
-            );
+    if function < asking.program.functions.len() {
+        let code = &asking.program.functions[function];
+        for number in 0..code.blocks.len() {
+            let block = (number, &code.blocks[number]);
+            asking.ask_block((function, code), block, state, &mut asks, &mut memory);
         }
     }
     memory.told()?;

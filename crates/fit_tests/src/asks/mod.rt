@@ -5,4 +5,4 @@ mod asks;
 mod shifted;
 
 pub use asks::{Access, Ask, Asking, Lack, asks_of, needed_alignment};
-pub use shifted::shorten_steps;
+pub use shifted::shorten_block;

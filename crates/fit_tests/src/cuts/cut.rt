@@ -12,13 +12,14 @@ pub fn push_instrs(
 ) -> Result<(), AllocError> {
     for instr in instrs {
         if let Some(instr) = *instr {
-            steps.push(Step {
+            let step = Step {
                 instr,
                 line,
                 callee: None,
                 object: None,
                 slot: None,
-            })?;
+            };
+            steps.extend_from_slice(&[step])?;
         }
     }
     Ok(())
@@ -32,20 +33,19 @@ pub fn insert_instr(
     instr: Instr,
     line: Line,
 ) -> Result<(), AllocError> {
-    let Some(block) = function.blocks.get_mut(number) else {
+    if number >= function.blocks.len() {
         return Ok(());
-    };
+    }
+    let block = &mut function.blocks[number];
     if place <= block.steps.len() {
-        block.steps.insert(
-            place,
-            Step {
-                instr,
-                line,
-                callee: None,
-                object: None,
-                slot: None,
-            },
-        )?;
+        let step = Step {
+            instr,
+            line,
+            callee: None,
+            object: None,
+            slot: None,
+        };
+        block.steps.insert(place, step)?;
     }
     Ok(())
 }
@@ -72,17 +72,30 @@ pub fn copy_block(
     function: &mut Function,
     number: usize,
     place: usize,
-) -> Result<(), AllocError> {
-    if let Some(block) = function.blocks.get(number) {
-        let copied = Block {
-            steps: Vec::from_slice(alloc, block.steps.get(place..).unwrap_or(&[]))?,
-            end: block.end,
-            slot: block.slot,
-            line: block.line,
-        };
-        function.blocks.push(copied)?;
+    memory: &mut Memory,
+) {
+    if number >= function.blocks.len() {
+        return;
     }
-    Ok(())
+    let Block {
+        steps,
+        end,
+        slot,
+        line,
+    } = &function.blocks[number];
+    let (end, slot, line) = (*end, *slot, *line);
+    match Vec::from_slice(alloc, steps.get(place..).unwrap_or(&[])) {
+        Ok(steps) => {
+            let copied = Block {
+                steps,
+                end,
+                slot,
+                line,
+            };
+            memory.push(&mut function.blocks, copied);
+        }
+        Err(error) => memory.take(Err(error)),
+    }
 }
 
 /// Cuts a block before the step at a place. What was behind it stands in a new block, whose number this is, and to
@@ -95,8 +108,9 @@ pub fn cut_block(
     memory: &mut Memory,
 ) -> usize {
     let rest = function.blocks.len();
-    memory.take(copy_block(alloc, function, number, place));
-    if let Some(block) = function.blocks.get_mut(number) {
+    copy_block(alloc, function, number, place, memory);
+    if number < function.blocks.len() {
+        let block = &mut function.blocks[number];
         block.steps.truncate(place);
         block.end = End::Jump(rest);
         block.slot = None;

@@ -5,6 +5,15 @@ use fit_code::{End, Function, Step};
 use sbx_range::Range;
 use v8_formats::Cond;
 
+/// A block of WRY and the division.
+fn push_division(frame: &Frame, function: &mut Function, steps: &[Step; 2], memory: &mut Memory) {
+    let end = End::Jump(frame.rest);
+    memory.take(match push_block(frame.alloc, function, end, frame.line) {
+        Ok(block) => block.steps.extend_from_slice(steps),
+        Err(error) => Err(error),
+    });
+}
+
 /// The blocks of a test of a divisor, in which WRY and the division stand: twice, where the divisor may have either
 /// sign, since no range leaves out a 0 in its middle. The first one is the function's next block.
 pub fn push_divisor_test(
@@ -17,7 +26,6 @@ pub fn push_divisor_test(
 ) {
     let compare = comparing(register, 0, 0);
     let has_both = range.lo < 0 && range.hi > 0;
-    let copies = if has_both { 2 } else { 1 };
     if has_both {
         // A number above 0 goes to the second of them, behind the test of 0 and the first one.
         let second = function.blocks.len().saturating_add(3);
@@ -26,11 +34,8 @@ pub fn push_divisor_test(
     }
     let end = branch(function, Cond::Equal, frame.exit);
     frame.push(function, &compare, end, memory);
-    for _ in 0..copies {
-        let end = End::Jump(frame.rest);
-        memory.take(match push_block(frame.alloc, function, end, frame.line) {
-            Ok(block) => block.steps.extend_from_slice(steps),
-            Err(error) => Err(error),
-        });
+    if has_both {
+        push_division(frame, function, steps, memory);
     }
+    push_division(frame, function, steps, memory);
 }

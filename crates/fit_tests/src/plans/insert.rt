@@ -12,6 +12,9 @@ const FROM: u8 = 6;
 
 const REST: u8 = 7;
 
+/// No instructions.
+const NOTHING: [Option<Instr>; 3] = [None, None, None];
+
 /// The bits that are 0 in a multiple of 2 to a power from 1 to 3.
 fn low_bits(alignment: u8) -> i32 {
     match alignment {
@@ -95,6 +98,20 @@ impl Frame {
         });
     }
 
+    /// The blocks in which what is left of a word is compared, and then given back.
+    fn push_compared(
+        &self,
+        function: &mut Function,
+        (mask, difference, compare): (Option<Instr>, [Option<Instr>; 3], [Option<Instr>; 3]),
+        give_back: Option<Instr>,
+        memory: &mut Memory,
+    ) {
+        let ([a, b, c], [d, e, f]) = (difference, compare);
+        let end = branch(function, Cond::GreaterUnsigned, self.beyond);
+        self.push(function, &[mask, a, b, c, d, e, f], end, memory);
+        self.push(function, &[give_back], End::Jump(self.rest), memory);
+    }
+
     /// The blocks of a test, behind which control goes on to the rest. The first one of them is the function's next
     /// block. Before a word is compared it is made seen that its low bits are 0; what is left of it once the lower end
     /// of its bounds is subtracted is compared, and it is given back.
@@ -108,20 +125,22 @@ impl Frame {
             let end = branch(function, Cond::NotEqual, self.exit);
             self.push(function, &[test], end, memory);
         }
-        let (difference, compare, give_back) = match plan.way {
-            Way::Never => return self.push(function, &[], End::Jump(self.beyond), memory),
-            Way::Known => return self.push(function, &[mask], End::Jump(self.rest), memory),
-            Way::Above(hi) => ([None, None, None], comparing(register, hi, FROM), None),
-            Way::Within { lo, length } => (
-                subtracting(register, lo),
-                comparing(REST, length, NUMBER),
-                Some(Instr::Add(back(register, lo))),
-            ),
-        };
-        let ([a, b, c], [d, e, f]) = (difference, compare);
-        let instrs = [mask, a, b, c, d, e, f];
-        let end = branch(function, Cond::GreaterUnsigned, self.beyond);
-        self.push(function, &instrs, end, memory);
-        self.push(function, &[give_back], End::Jump(self.rest), memory);
+        match plan.way {
+            Way::Never => self.push(function, &[], End::Jump(self.beyond), memory),
+            Way::Known => self.push(function, &[mask], End::Jump(self.rest), memory),
+            Way::Above(hi) => {
+                let compare = comparing(register, hi, FROM);
+                self.push_compared(function, (mask, NOTHING, compare), None, memory);
+            }
+            Way::Within { lo, length } => {
+                let parts = (
+                    mask,
+                    subtracting(register, lo),
+                    comparing(REST, length, NUMBER),
+                );
+                let give_back = Some(Instr::Add(back(register, lo)));
+                self.push_compared(function, parts, give_back, memory);
+            }
+        }
     }
 }

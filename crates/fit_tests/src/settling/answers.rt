@@ -1,8 +1,8 @@
 //! What is put into a program for one thing that isn't shown.
 use crate::asks::{Access, Ask};
 use crate::cuts::{
-    InUse, Memory, clearing, codes_again, copy_block, cut_block, go_by, in_use, insert_instr,
-    number_in, push_block, push_instrs, register, y_writer,
+    Memory, clearing, codes_again, copy_block, cut_block, go_by, in_use, insert_instr, number_in,
+    push_block, push_instrs, register, y_writer,
 };
 use crate::plans::{Frame, Kind, Plan, Test, given_back, push_divisor_test};
 use fit_code::{Block, End, Function, Line, Step};
@@ -74,24 +74,25 @@ const NO_BOUNDS: Bounds = Bounds {
 /// Lets an access go by %g7, into which the sum of its two parts, which this is, has to be put before. Nothing of one
 /// that goes by %g7 already, and where scratch registers are in use.
 fn summed(frame: u32, block: &mut Block, place: usize) -> Option<Three> {
-    if in_use(frame, block, place).scratch {
+    if place >= block.steps.len() || in_use(frame, block, place).scratch {
         return None;
     }
-    let access = block.steps.get_mut(place)?;
-    let (rs1, operand2) = operands_of(frame, &access.instr)?;
+    let instr = &mut block.steps[place].instr;
+    let Some((rs1, operand2)) = operands_of(frame, instr) else {
+        return None;
+    };
     if rs1.number() == SUM {
         return None;
     }
     let rd = register(SUM);
-    go_by(&mut access.instr, rd);
+    go_by(instr, rd);
     Some(Three { rd, rs1, operand2 })
 }
 
 /// Puts the sum of an access's parts into one register, that may then be tested.
 fn join_address(code: &mut Function, ask: &Ask, memory: &mut Memory) -> Answer {
-    let frame = code.frame;
-    if let Some(block) = code.blocks.get_mut(ask.block)
-        && let Some(sum) = summed(frame, block, ask.place)
+    if ask.block < code.blocks.len()
+        && let Some(sum) = summed(code.frame, &mut code.blocks[ask.block], ask.place)
     {
         memory.take(insert_instr(code, ask.block, ask.place, Instr::Add(sum), ask.line));
         return None;
@@ -101,9 +102,10 @@ fn join_address(code: &mut Function, ask: &Ask, memory: &mut Memory) -> Answer {
 
 /// Sets codes again behind a block's last step, that a test before it may stand between.
 fn free_codes(code: &mut Function, ask: &Ask, memory: &mut Memory) -> Answer {
-    if let Some(block) = code.blocks.get_mut(ask.block)
-        && let Some(instr) = codes_again(code.frame, block)
+    if ask.block < code.blocks.len()
+        && let Some(instr) = codes_again(code.frame, &code.blocks[ask.block])
     {
+        let block = &mut code.blocks[ask.block];
         memory.take(push_instrs(&mut block.steps, &[Some(instr)], block.line));
         return None;
     }
@@ -113,9 +115,14 @@ fn free_codes(code: &mut Function, ask: &Ask, memory: &mut Memory) -> Answer {
 /// Takes a division, which is the last step of a block, and the WRY at a place out of it, WRY first; the block goes on
 /// to another one.
 fn take_division(code: &mut Function, number: usize, place: usize, to: usize) -> Option<[Step; 2]> {
-    let block = code.blocks.get_mut(number)?;
+    if number >= code.blocks.len() {
+        return None;
+    }
+    let block = &mut code.blocks[number];
     block.end = End::Jump(to);
-    let division = block.steps.pop()?;
+    let Some(division) = block.steps.pop() else {
+        return None;
+    };
     if place < block.steps.len() {
         Some([block.steps.remove(place), division])
     } else {
@@ -149,6 +156,12 @@ fn place_of(frame: u32, block: &Block, planned: &Planned) -> Option<usize> {
     place_of_test(frame, block, origin, origin.first)
 }
 
+/// Whether something of what tests work with is in use before the step at a place of a block.
+fn is_something_used(frame: u32, block: &Block, place: usize) -> bool {
+    let used = in_use(frame, block, place);
+    used.codes || used.y || used.scratch
+}
+
 /// The test of a load among the constants, behind which the first steps of a block stand once more, so many that the
 /// load is the last of them, or all of them, where what they leave is in use behind; gives the block that a first test
 /// goes to, by whose plan the load isn't in the data that may be written.
@@ -160,17 +173,13 @@ fn push_both(
     second: &Plan,
     memory: &mut Memory,
 ) -> usize {
-    if let Some(block) = code.blocks.get(first.rest)
-        && let InUse {
-            codes: false,
-            y: false,
-            scratch: false,
-        } = in_use(code.frame, block, count)
+    if first.rest < code.blocks.len()
+        && !is_something_used(code.frame, &code.blocks[first.rest], count)
     {
         cut_block(first.alloc, code, first.rest, count, memory);
     }
     let copy = code.blocks.len();
-    memory.take(copy_block(first.alloc, code, first.rest, 0));
+    copy_block(first.alloc, code, first.rest, 0, memory);
     let head = code.blocks.len();
     let behind = End::Jump(head.saturating_add(1));
     first.push(code, &[given_back(plan)], behind, memory);
@@ -206,25 +215,31 @@ impl Tests {
         None
     }
 
+    /// The block that ends the run where this is the exit word of a line of a function, if there is one yet.
+    fn known_exit(&self, function: usize, line: Line, word: i32) -> Option<usize> {
+        for exit in &self.exits {
+            if exit.word == word && exit.function == function && exit.line == line {
+                return Some(exit.block);
+            }
+        }
+        None
+    }
+
     /// The block that ends the run for tests of a kind in a line.
     fn exit_of(&mut self, code: &mut Function, function: usize, kind: Kind, line: Line) -> usize {
         let number = line.number.min(0xffff).cast_signed();
         let word = kind.number().saturating_mul(65_536).saturating_add(number);
-        for exit in &self.exits {
-            if exit.function == function && exit.line == line && exit.word == word {
-                return exit.block;
-            }
+        if let Some(block) = self.known_exit(function, line, word) {
+            return block;
         }
         let block = code.blocks.len();
-        self.memory.push(
-            &mut self.exits,
-            Exit {
-                function,
-                line,
-                word,
-                block,
-            },
-        );
+        let exit = Exit {
+            function,
+            line,
+            word,
+            block,
+        };
+        self.memory.push(&mut self.exits, exit);
         self.memory
             .take(match push_block(self.alloc, code, End::Exit, line) {
                 Ok(end) => push_instrs(&mut end.steps, &number_in(8, word), line),
@@ -275,8 +290,8 @@ impl Tests {
         }
         let head = code.blocks.len();
         frame.push_test(code, plan, &mut self.memory);
-        if let Some(block) = code.blocks.get_mut(ask.block) {
-            block.end = End::Jump(head);
+        if ask.block < code.blocks.len() {
+            code.blocks[ask.block].end = End::Jump(head);
         }
         let test = Test {
             line: ask.line,
@@ -299,7 +314,7 @@ impl Tests {
         function: usize,
         ask: &Ask,
         access: &Access,
-        planned: Option<Planned>,
+        planned: &Option<Planned>,
     ) -> Answer {
         let Some(planned) = planned else {
             return join_address(code, ask, &mut self.memory);
@@ -307,15 +322,13 @@ impl Tests {
         if planned.plan.says_nothing() {
             return Some("an address that can't be tested: a constant is stored to, or it wraps");
         }
-        let place = match code.blocks.get(ask.block) {
-            Some(block) => place_of(code.frame, block, &planned),
-            None => None,
-        };
-        match place {
-            Some(place) => self.test_at(code, function, place, ask, access, &planned),
-            None => return free_codes(code, ask, &mut self.memory),
+        if ask.block < code.blocks.len()
+            && let Some(place) = place_of(code.frame, &code.blocks[ask.block], planned)
+        {
+            self.test_at(code, function, place, ask, access, planned);
+            return None;
         }
-        None
+        free_codes(code, ask, &mut self.memory)
     }
 
     /// Tests a divisor: the block is cut behind the division, which goes with its WRY to the test.
@@ -328,7 +341,10 @@ impl Tests {
         range: Range,
     ) -> Answer {
         let (frame, place) = (code.frame, ask.place);
-        let block = code.blocks.get(ask.block)?;
+        if ask.block >= code.blocks.len() {
+            return None;
+        }
+        let block = &code.blocks[ask.block];
         if in_use(frame, block, place).codes {
             return free_codes(code, ask, &mut self.memory);
         }

@@ -1,14 +1,15 @@
 //! Tests put into a program until nothing is left that isn't shown.
-use crate::asks::{Access, Ask, Asking, Lack, asks_of, needed_alignment, shorten_steps};
+use crate::asks::{Access, Ask, Asking, Lack, asks_of, needed_alignment, shorten_block};
 use crate::cuts::{Memory, clearing, drop_compare, insert_instr};
 use crate::plans::{Kind, Test, plan_in};
 use crate::settling::answers::{Answer, Options, Planned, SUM, Tests};
 use fit_cells::range_in;
-use fit_code::{End, Fault, Function, NO_LINE, Program, Reason};
-use fit_ranges::{Origin, Ranges, bounds_in_constants, bounds_of, operands_of, trace_of};
+use fit_code::{Block, End, Fault, Function, NO_LINE, Program, Reason};
+use fit_ranges::{Origin, Ranges, bounds_in_constants, bounds_of, operands_of};
 use sbx_domain::State;
 use sbx_range::excludes_zero;
 use std::alloc::Global;
+use std::mem;
 use v8_formats::Operand;
 
 /// As many rounds as settling may take, and in so many of them tests that aren't needed go.
@@ -39,13 +40,17 @@ fn with_plan(program: &Program, access: &Access, origin: Origin) -> Planned {
 
 /// Whether an access goes by %g7 alone.
 fn goes_by_sum(code: &Function, ask: &Ask) -> bool {
-    if let Some(block) = code.blocks.get(ask.block)
-        && let Some(step) = block.steps.get(ask.place)
-        && let Some((first, Operand::Immediate(0))) = operands_of(code.frame, &step.instr)
-    {
-        return first.number() == SUM;
+    if ask.block >= code.blocks.len() {
+        return false;
     }
-    false
+    let block = &code.blocks[ask.block];
+    if ask.place >= block.steps.len() {
+        return false;
+    }
+    match operands_of(code.frame, &block.steps[ask.place].instr) {
+        Some((first, Operand::Immediate(0))) => first.number() == SUM,
+        _ => false,
+    }
 }
 
 /// How what isn't shown is tested, where it is an address: by what it is worked out from, if more can be known of that,
@@ -62,7 +67,7 @@ fn planned(program: &Program, function: usize, ask: &Ask) -> Option<Planned> {
         }
         object = origin.object;
     }
-    if !goes_by_sum(program.functions.get(function)?, ask) {
+    if function >= program.functions.len() || !goes_by_sum(&program.functions[function], ask) {
         return None;
     }
     let origin = Origin {
@@ -96,13 +101,39 @@ fn is_needless(test: &Test, ranges: &Ranges) -> bool {
 /// A fault of an ask that can't be answered.
 fn refused(program: &Program, function: usize, ask: &Ask, what: &'static str) -> Fault {
     let is_by_zero = matches!(ask.lack, Lack::Divisible(Operand::Immediate(_), _));
-    match program.functions.get(function) {
-        Some(code) if !is_by_zero => match code.name.clone() {
-            Ok(function) => Fault::new(ask.line, Reason::Form { function, what }),
-            Err(error) => Fault::from(error),
-        },
-        _ => Fault::new(ask.line, Reason::Unreadable(what)),
+    if is_by_zero || function >= program.functions.len() {
+        return Fault::new(ask.line, Reason::Unreadable(what));
     }
+    match program.functions[function].name.clone() {
+        Ok(function) => Fault::new(ask.line, Reason::Form { function, what }),
+        Err(error) => Fault::from(error),
+    }
+}
+
+/// Lets control go by a test.
+fn skip(program: &mut Program, test: &Test) {
+    if test.function >= program.functions.len() {
+        return;
+    }
+    let code = &mut program.functions[test.function];
+    if test.head < code.blocks.len() {
+        let block = &mut code.blocks[test.head];
+        block.steps.clear();
+        block.end = End::Jump(test.rest);
+    }
+}
+
+/// Makes a block's branch of which only one of the two ways may be open go that one alone; says whether it did.
+fn close_way(block: &mut Block, (first, second): (bool, bool)) -> bool {
+    let End::Branch { taken, next, .. } = block.end else {
+        return false;
+    };
+    if first == second {
+        return false;
+    }
+    block.end = End::Jump(if first { taken } else { next });
+    drop_compare(block);
+    true
 }
 
 impl Tests {
@@ -112,7 +143,7 @@ impl Tests {
         code: &mut Function,
         function: usize,
         ask: &Ask,
-        planned: Option<Planned>,
+        planned: &Option<Planned>,
     ) -> Answer {
         match &ask.lack {
             Lack::Defined(location) => self.clear_at_entry(code, function, *location, ask.line),
@@ -139,17 +170,43 @@ impl Tests {
             return None;
         }
         let planned = planned(program, function, ask);
-        if let Some(planned) = &planned {
-            let key = (planned.origin.register, planned.plan.bounds.object);
-            if self.keys.contains(&key) {
-                return None;
-            }
-            self.memory.push(&mut self.keys, key);
+        if let Some(planned) = &planned
+            && !self.add_key(planned)
+        {
+            return None;
         }
         if is_here {
             self.memory.push(&mut self.changed, (function, ask.block));
         }
-        self.answer(program.functions.get_mut(function)?, function, ask, planned)
+        if function >= program.functions.len() {
+            return None;
+        }
+        self.answer(&mut program.functions[function], function, ask, &planned)
+    }
+
+    /// Adds the register and the object of a test to the keys; says whether they weren't among them.
+    fn add_key(&mut self, planned: &Planned) -> bool {
+        let key = (planned.origin.register, planned.plan.bounds.object);
+        if self.keys.contains(&key) {
+            return false;
+        }
+        self.memory.push(&mut self.keys, key);
+        true
+    }
+
+    /// A fault of an ask that can't be answered, or want of memory.
+    fn check(
+        &self,
+        program: &Program,
+        function: usize,
+        ask: &Ask,
+        answer: Answer,
+    ) -> Result<(), Fault> {
+        self.memory.told()?;
+        match answer {
+            Some(what) => Err(refused(program, function, ask, what)),
+            None => Ok(()),
+        }
     }
 
     /// Answers what isn't shown of a function, once in each of its blocks, and once for each register and object.
@@ -169,11 +226,8 @@ impl Tests {
         let asks = asks_of(&asking, function, state)?;
         self.keys.clear();
         for ask in &asks {
-            let what = self.answer_once(program, function, ask);
-            self.memory.told()?;
-            if let Some(what) = what {
-                return Err(refused(program, function, ask, what));
-            }
+            let answer = self.answer_once(program, function, ask);
+            self.check(program, function, ask, answer)?;
         }
         Ok(())
     }
@@ -186,23 +240,12 @@ impl Tests {
         function: usize,
         state: &mut State,
     ) {
-        let blocks = match program.functions.get(function) {
-            Some(code) => code.blocks.len(),
-            None => 0,
-        };
-        for number in 0..blocks {
-            if ranges.begin_block(program, function, number, state)
-                && let Some(code) = program.functions.get_mut(function)
-                && let Some(block) = code.blocks.get_mut(number)
-            {
-                match trace_of(self.alloc, code.frame, ranges.results(), block, state) {
-                    Ok(trace) => {
-                        if shorten_steps(code.frame, block, &trace, ranges.live(function)) {
-                            self.memory.push(&mut self.changed, (function, number));
-                        }
-                    }
-                    Err(error) => self.memory.take(Err(error)),
-                }
+        if function >= program.functions.len() {
+            return;
+        }
+        for block in 0..program.functions[function].blocks.len() {
+            if shorten_block(program, ranges, (function, block), state) {
+                self.memory.push(&mut self.changed, (function, block));
             }
         }
     }
@@ -211,40 +254,42 @@ impl Tests {
     fn drop_needless(&mut self, program: &mut Program, ranges: &Ranges) {
         let mut kept: usize = 0;
         for place in 0..self.list.len() {
-            let Some(test) = self.list.get(place).copied() else {
-                break;
-            };
-            if !is_needless(&test, ranges) {
-                if let Some(slot) = self.list.get_mut(kept) {
-                    *slot = test;
+            if place < self.list.len() {
+                let test = self.list[place];
+                if is_needless(&test, ranges) {
+                    skip(program, &test);
+                    self.memory
+                        .push(&mut self.changed, (test.function, test.head));
+                } else if kept < self.list.len() {
+                    self.list[kept] = test;
+                    kept = kept.saturating_add(1);
                 }
-                kept = kept.saturating_add(1);
-            } else if let Some(code) = program.functions.get_mut(test.function)
-                && let Some(block) = code.blocks.get_mut(test.head)
-            {
-                block.steps.clear();
-                block.end = End::Jump(test.rest);
-                self.memory
-                    .push(&mut self.changed, (test.function, test.head));
             }
         }
         self.list.truncate(kept);
     }
 
-    /// Makes a branch of which one way can't be gone go the other one alone.
+    /// Makes a function's branches of which one way can't be gone go the other one alone.
     fn close_ways(&mut self, program: &mut Program, ranges: &Ranges, function: usize) {
-        let Some(code) = program.functions.get_mut(function) else {
+        if function >= program.functions.len() {
             return;
-        };
-        for (number, block) in code.blocks.iter_mut().enumerate() {
-            if let End::Branch { taken, next, .. } = block.end {
-                let (first, second) = ranges.open_ways(function, number);
-                if first != second {
-                    block.end = End::Jump(if first { taken } else { next });
-                    drop_compare(block);
-                    self.memory.push(&mut self.changed, (function, number));
-                }
+        }
+        let code = &mut program.functions[function];
+        for number in 0..code.blocks.len() {
+            if number < code.blocks.len()
+                && close_way(&mut code.blocks[number], ranges.open_ways(function, number))
+            {
+                self.memory.push(&mut self.changed, (function, number));
             }
+        }
+    }
+
+    /// Takes out what isn't needed: tests, and ways that can't be gone.
+    fn drop_all(&mut self, program: &mut Program, ranges: &Ranges) {
+        self.drops = self.drops.saturating_add(1);
+        self.drop_needless(program, ranges);
+        for function in 0..program.functions.len() {
+            self.close_ways(program, ranges, function);
         }
     }
 
@@ -259,13 +304,9 @@ impl Tests {
             self.answer_function(program, ranges, function, state)?;
         }
         if self.changed.is_empty() && self.options.drops && self.drops < DROPS {
-            self.drops = self.drops.saturating_add(1);
-            self.drop_needless(program, ranges);
-            for function in 0..program.functions.len() {
-                self.close_ways(program, ranges, function);
-            }
+            self.drop_all(program, ranges);
         }
-        Ok(self.memory.told()?)
+        Ok(())
     }
 
     /// Puts tests into a program, of which these are the ranges, until nothing is left that isn't shown.
@@ -275,13 +316,13 @@ impl Tests {
         ranges: &mut Ranges,
         state: &mut State,
     ) -> Result<(), Fault> {
-        self.memory.told()?;
         for _ in 0..ROUNDS {
             if !self.changed.is_empty() {
                 ranges.renew(program, self.changed.as_slice(), state)?;
                 self.changed.clear();
             }
             self.round(program, ranges, state)?;
+            self.memory.told()?;
             if self.changed.is_empty() {
                 return ranges.check_limits(program);
             }
@@ -319,6 +360,8 @@ pub fn add_tests(
     for function in 0..program.functions.len() {
         tests.shorten(program, ranges, function, state);
     }
-    tests.settle(program, ranges, state)?;
-    Ok(tests.list)
+    match tests.settle(program, ranges, state) {
+        Ok(()) => Ok(mem::replace(&mut tests.list, Vec::new(alloc))),
+        Err(fault) => Err(fault),
+    }
 }
