@@ -1,6 +1,7 @@
 //! By how much locations change along the ways of a loop.
 use crate::memory::Memory;
 use crate::task::Setting;
+use crate::ways::Way;
 use arrayvec::ArrayVec;
 use fit_cells::range_in;
 use fit_code::Function;
@@ -21,8 +22,9 @@ pub struct Change {
 #[derive(Clone, Copy)]
 pub struct Passage {
     pub location: u16,
-    pub from: usize,
-    pub to: usize,
+    /// Where a round ends it leads nowhere. It asks for as much less as the location changes at least, whichever way it
+    /// goes.
+    pub way: Way,
     pub change: Option<Change>,
 }
 
@@ -63,12 +65,23 @@ fn change_to(location: u16, cells: &[Cell], state: &State) -> Option<Change> {
     change_of(form.constant(), terms.as_slice(), location, cells)
 }
 
+/// How much less a way asks for where a location changes so; nothing where it changes otherwise.
+fn cost_of(change: Option<Change>) -> i64 {
+    match change {
+        Some(Change { least, most }) => {
+            let (one, other) = (least.saturating_neg(), most.saturating_neg());
+            least.min(one).max(most.min(other))
+        }
+        None => 0,
+    }
+}
+
 /// Adds a way of a block for each location that the head of its loop knows, where it can be gone.
 fn add_way(
     setting: &Setting<'_>,
     known: &[Cell],
     (from, way): (usize, usize),
-    to: usize,
+    to: Option<usize>,
     passages: &mut Vec<Passage>,
     state: &mut State,
     memory: &mut Memory,
@@ -79,12 +92,17 @@ fn add_way(
     }
     let cells = ranges.cells(number, from).unwrap_or(&[]);
     for cell in known {
-        let location = cell.location;
-        let passage = Passage {
-            location,
+        let change = change_to(cell.location, cells, state);
+        let way = Way {
             from,
             to,
-            change: change_to(location, cells, state),
+            is_metered: false,
+            cost: cost_of(change),
+        };
+        let passage = Passage {
+            location: cell.location,
+            way,
+            change,
         };
         memory.push(passages, passage);
     }
@@ -107,6 +125,7 @@ pub fn add_ways(
             && let Some(to) = successors_in(function, block)[way]
             && within.has(to)
         {
+            let to = if to == within.head { None } else { Some(to) };
             add_way(setting, known, (block, way), to, passages, state, memory);
         }
     }

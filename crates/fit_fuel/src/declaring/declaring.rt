@@ -98,26 +98,7 @@ fn too_great(
     Fault::new(line, Reason::Budget { turns, is_loop })
 }
 
-/// What a call of a function takes whose fuel is found, of which each block says its own then.
-fn finish(
-    function: &Function,
-    task: &Task<'_>,
-    bounds: &Bounds,
-    fuel: &mut Fuel,
-) -> Result<(u64, Total), Fault> {
-    let first = constant_at(fuel.constants.as_slice(), 0).unwrap_or(0);
-    let budget = u64::try_from(first).unwrap_or(0);
-    if budget >= BOUND {
-        return Err(too_great(function, bounds, fuel, task, budget));
-    }
-    fuel.fill(task.ranges, task.number);
-    match fuel.memory.told() {
-        Ok(()) => Ok((budget, total_of(function, Some(budget), task.known))),
-        Err(error) => Err(Fault::from(error)),
-    }
-}
-
-/// Finds the fuel of a function, and what a call takes.
+/// Finds the fuel of a function, which each of its blocks says then, and what a call takes.
 fn find_total(
     program: &mut Program,
     task: &Task<'_>,
@@ -130,9 +111,18 @@ fn find_total(
         return Err(Fault::new(NO_LINE, Reason::Unreadable("no function")));
     }
     let function = &program.functions[task.number];
-    match lack {
-        Some((line, what)) => Err(refused(function, line.unwrap_or(function.line), what)),
-        None => finish(function, task, bounds, fuel),
+    if let Some((line, what)) = lack {
+        return Err(refused(function, line.unwrap_or(function.line), what));
+    }
+    let first = constant_at(fuel.constants.as_slice(), 0).unwrap_or(0);
+    let budget = u64::try_from(first).unwrap_or(0);
+    if budget >= BOUND {
+        return Err(too_great(function, bounds, fuel, task, budget));
+    }
+    fuel.fill(task.ranges, task.number);
+    match fuel.memory.told() {
+        Ok(()) => Ok((budget, total_of(function, Some(budget), task.known))),
+        Err(error) => Err(Fault::from(error)),
     }
 }
 

@@ -29,28 +29,21 @@ fn add_term(terms: &mut Vec<Term>, term: Term, memory: &mut Memory) {
     }
 }
 
-/// The term of the meter in a block that knows it.
-fn meter_term(task: &Task<'_>, block: usize) -> Option<Term> {
-    let Some(meter) = task.meter else {
-        return None;
-    };
-    let location = meter.location();
-    let cells = task.ranges.cells(task.number, block).unwrap_or(&[]);
-    if range_in(cells, location).is_none() {
-        return None;
-    }
-    Some(Term {
-        location,
-        coefficient: i32::try_from(meter.unit).unwrap_or(i32::MAX),
-    })
-}
-
 /// Begins with the terms of the meter, in each block that knows it.
 fn begin(task: &Task<'_>, blocks: &mut [BlockNotes], memory: &mut Memory) {
     for (block, notes) in blocks.iter_mut().enumerate() {
         notes.terms.clear();
-        if let Some(term) = meter_term(task, block) {
-            memory.push(&mut notes.terms, term);
+        if let Some(meter) = task.meter {
+            let location = meter.location();
+            let cells = task.ranges.cells(task.number, block).unwrap_or(&[]);
+            if range_in(cells, location).is_some() {
+                let coefficient = i32::try_from(meter.unit).unwrap_or(i32::MAX);
+                let term = Term {
+                    location,
+                    coefficient,
+                };
+                memory.push(&mut notes.terms, term);
+            }
         }
     }
 }

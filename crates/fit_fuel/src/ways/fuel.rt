@@ -39,19 +39,12 @@ fn target_of(
     }
     let [first, second] = successors_in(&functions[number], from);
     let to = if way == 0 { first } else { second };
-    let is_asked = match within {
-        Some(within) => stays_in(within, from, to),
-        None => to.is_some() || way == 0,
+    let is_asked = match (within, to) {
+        (Some(within), Some(to)) => within.has(from) && within.has(to),
+        (Some(_), None) => false,
+        (None, _) => to.is_some() || way == 0,
     };
     if is_asked { Some(to) } else { None }
-}
-
-/// Whether a way from a block stays in a loop.
-fn stays_in(within: &Loop, from: usize, to: Option<usize>) -> bool {
-    match to {
-        Some(to) => within.has(from) && within.has(to),
-        None => false,
-    }
 }
 
 /// Where a way leads if nothing is behind the head of the loop that is looked at, where a round ends.
@@ -91,11 +84,6 @@ impl Fuel {
         }
     }
 
-    /// Whether a block is a place of the meter.
-    fn is_place(&self, block: usize) -> bool {
-        block < self.places.len() && self.places[block].is_some()
-    }
-
     /// A way out of a block in a loop, or of the function, with what it costs; nothing where it isn't looked at, or
     /// can't be gone.
     fn way_of(
@@ -115,7 +103,7 @@ impl Fuel {
         Some(Way {
             from,
             to: without_head(within, to),
-            is_metered: way == 1 && self.is_place(from),
+            is_metered: way == 1 && self.places.get(from).copied().flatten().is_some(),
             cost,
         })
     }
