@@ -7,7 +7,7 @@ use fit_ranges::{Origin, Ranges, Trace, end_of, named_object, origin_of, trace_o
 use sbx_domain::State;
 use sbx_range::{Range, excludes_zero, range_of_address};
 use std::alloc::{AllocError, Global};
-use v8_formats::{Instr, Operand};
+use v8_formats::{Instr, Operand, Reg};
 use v8_meaning::{Operation, Transfer, bytes_in, operation_of};
 
 /// An access that isn't shown to lie where it has to.
@@ -20,6 +20,8 @@ pub struct Access {
     pub writes: bool,
     /// What its address is worked out from.
     pub origin: Option<Origin>,
+    /// The parts of its address.
+    pub parts: (Reg, Operand),
 }
 
 /// What isn't shown.
@@ -139,6 +141,7 @@ impl Asking<'_> {
     fn lack_of_access(
         &self,
         transfer: Transfer,
+        parts: (Reg, Operand),
         range: Range,
         origin: Option<Origin>,
     ) -> Option<Lack> {
@@ -158,6 +161,7 @@ impl Asking<'_> {
             size,
             writes,
             origin,
+            parts,
         }))
     }
 
@@ -187,7 +191,7 @@ impl Asking<'_> {
         let [first, second] = trace.at(place);
         match operation_of(instr) {
             Operation::Divide(_, fields) => lack_of_divisor(fields.operand2, second),
-            Operation::Transfer(transfer, _) => {
+            Operation::Transfer(transfer, fields) => {
                 let Some(first) = first else {
                     return None;
                 };
@@ -196,7 +200,8 @@ impl Asking<'_> {
                 };
                 let range = range_of_address(first, second);
                 let origin = origin_of(frame, block, trace, place);
-                self.lack_of_access(transfer, range, origin)
+                let parts = (fields.rs1, fields.operand2);
+                self.lack_of_access(transfer, parts, range, origin)
             }
             _ => None,
         }

@@ -7,7 +7,7 @@ use fit_code::{Block, End, Program};
 use fit_graph::{Locations, effects_of};
 use fit_ranges::Ranges;
 use sbx_domain::State;
-use sbx_range::{Range, is_single};
+use sbx_range::is_single;
 use v8_formats::{Instr, Operand, Three};
 
 /// Numbers of at least this magnitude are looked at.
@@ -133,31 +133,8 @@ fn shorter(
     }
 }
 
-/// Lets the steps of a block add small numbers where they may; says whether one does that didn't. The state is that
-/// before the first step.
-fn shorten_steps(
-    frame: u32,
-    results: &[Vec<Range>],
-    block: &mut Block,
-    live: &[Locations],
-    state: &mut State,
-) -> bool {
-    let mut is_changed = false;
-    for place in 0..block.steps.len() {
-        let found = shorter(frame, block, place, live, state);
-        if place < block.steps.len() {
-            let step = &mut block.steps[place];
-            run_step(frame, results, step, state);
-            if let Some(fields) = found {
-                step.instr = Instr::Add(fields);
-                is_changed = true;
-            }
-        }
-    }
-    is_changed
-}
-
-/// The same of a block by the numbers of its function and its own, if control comes to it.
+/// Lets the steps of a block, by the numbers of its function and its own, add small numbers where they may, if control
+/// comes to it; says whether one does that didn't.
 pub fn shorten_block(
     program: &mut Program,
     ranges: &Ranges,
@@ -174,11 +151,17 @@ pub fn shorten_block(
         return false;
     }
     let block = &mut code.blocks[number];
-    shorten_steps(
-        code.frame,
-        ranges.results(),
-        block,
-        ranges.live(function),
-        state,
-    )
+    let mut is_changed = false;
+    for place in 0..block.steps.len() {
+        let found = shorter(code.frame, block, place, ranges.live(function), state);
+        if place < block.steps.len() {
+            let step = &mut block.steps[place];
+            run_step(code.frame, ranges.results(), step, state);
+            if let Some(fields) = found {
+                step.instr = Instr::Add(fields);
+                is_changed = true;
+            }
+        }
+    }
+    is_changed
 }

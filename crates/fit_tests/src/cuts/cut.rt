@@ -66,6 +66,20 @@ pub fn push_block(
     Ok(block)
 }
 
+/// A new block of instructions that call nobody, behind the others.
+pub fn push_made(
+    alloc: Global,
+    function: &mut Function,
+    instrs: &[Option<Instr>],
+    (end, line): (End, Line),
+    memory: &mut Memory,
+) {
+    memory.take(match push_block(alloc, function, end, line) {
+        Ok(block) => push_instrs(&mut block.steps, instrs, line),
+        Err(error) => Err(error),
+    });
+}
+
 /// Puts a copy of a block's steps from a place on, and of its end, behind the other blocks.
 pub fn copy_block(
     alloc: Global,

@@ -5,7 +5,7 @@ mod place;
 mod repeat;
 mod words;
 
-pub use cut::{copy_block, cut_block, insert_instr, push_block, push_instrs};
+pub use cut::{copy_block, cut_block, insert_instr, push_block, push_instrs, push_made};
 pub use memory::Memory;
 pub use place::{InUse, in_use, y_writer};
 pub use repeat::{codes_again, drop_compare};

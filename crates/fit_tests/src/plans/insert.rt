@@ -1,5 +1,5 @@
 //! The blocks of a test of an address.
-use crate::cuts::{Memory, by_immediate, by_register, number_in, push_block, push_instrs};
+use crate::cuts::{Memory, by_immediate, by_register, number_in, push_made};
 use crate::plans::plan::{Plan, Way};
 use fit_code::{End, Function, Line};
 use std::alloc::Global;
@@ -92,10 +92,7 @@ impl Frame {
         end: End,
         memory: &mut Memory,
     ) {
-        memory.take(match push_block(self.alloc, function, end, self.line) {
-            Ok(block) => push_instrs(&mut block.steps, instrs, self.line),
-            Err(error) => Err(error),
-        });
+        push_made(self.alloc, function, instrs, (end, self.line), memory);
     }
 
     /// The blocks in which what is left of a word is compared, and then given back.

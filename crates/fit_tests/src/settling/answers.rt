@@ -2,7 +2,7 @@
 use crate::asks::{Access, Ask};
 use crate::cuts::{
     Memory, clearing, codes_again, copy_block, cut_block, go_by, in_use, insert_instr, number_in,
-    push_block, push_instrs, register, y_writer,
+    push_instrs, push_made, register, y_writer,
 };
 use crate::plans::{Frame, Kind, Plan, Test, given_back, push_divisor_test};
 use fit_code::{Block, End, Function, Line, Step};
@@ -201,11 +201,10 @@ impl Tests {
         location: u16,
         line: Line,
     ) -> Answer {
-        let is_cleared = self.cleared.contains(&(function, location));
-        if is_cleared && self.changed.contains(&(function, 0)) {
-            return None;
-        }
-        if is_cleared {
+        if self.cleared.contains(&(function, location)) {
+            if self.changed.contains(&(function, 0)) {
+                return None;
+            }
             return Some("a register is read that a call has left undefined");
         }
         self.memory.push(&mut self.cleared, (function, location));
@@ -240,11 +239,8 @@ impl Tests {
             block,
         };
         self.memory.push(&mut self.exits, exit);
-        self.memory
-            .take(match push_block(self.alloc, code, End::Exit, line) {
-                Ok(end) => push_instrs(&mut end.steps, &number_in(8, word), line),
-                Err(error) => Err(error),
-            });
+        let (instrs, end) = (number_in(8, word), (End::Exit, line));
+        push_made(self.alloc, code, &instrs, end, &mut self.memory);
         block
     }
 

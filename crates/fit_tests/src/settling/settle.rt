@@ -5,7 +5,7 @@ use crate::plans::{Kind, Test, plan_in};
 use crate::settling::answers::{Answer, Options, Planned, SUM, Tests};
 use fit_cells::range_in;
 use fit_code::{Block, End, Fault, Function, NO_LINE, Program, Reason};
-use fit_ranges::{Origin, Ranges, bounds_in_constants, bounds_of, operands_of};
+use fit_ranges::{Origin, Ranges, bounds_in_constants, bounds_of};
 use sbx_domain::State;
 use sbx_range::excludes_zero;
 use std::alloc::Global;
@@ -38,24 +38,9 @@ fn with_plan(program: &Program, access: &Access, origin: Origin) -> Planned {
     }
 }
 
-/// Whether an access goes by %g7 alone.
-fn goes_by_sum(code: &Function, ask: &Ask) -> bool {
-    if ask.block >= code.blocks.len() {
-        return false;
-    }
-    let block = &code.blocks[ask.block];
-    if ask.place >= block.steps.len() {
-        return false;
-    }
-    match operands_of(code.frame, &block.steps[ask.place].instr) {
-        Some((first, Operand::Immediate(0))) => first.number() == SUM,
-        _ => false,
-    }
-}
-
 /// How what isn't shown is tested, where it is an address: by what it is worked out from, if more can be known of that,
 /// else by the address itself.
-fn planned(program: &Program, function: usize, ask: &Ask) -> Option<Planned> {
+fn planned(program: &Program, ask: &Ask) -> Option<Planned> {
     let Lack::Placed(access) = &ask.lack else {
         return None;
     };
@@ -67,7 +52,8 @@ fn planned(program: &Program, function: usize, ask: &Ask) -> Option<Planned> {
         }
         object = origin.object;
     }
-    if function >= program.functions.len() || !goes_by_sum(&program.functions[function], ask) {
+    let (first, second) = access.parts;
+    if first.number() != SUM || !matches!(second, Operand::Immediate(0)) {
         return None;
     }
     let origin = Origin {
@@ -169,7 +155,7 @@ impl Tests {
         if is_here && self.changed.contains(&(function, ask.block)) {
             return None;
         }
-        let planned = planned(program, function, ask);
+        let planned = planned(program, ask);
         if let Some(planned) = &planned
             && !self.add_key(planned)
         {
