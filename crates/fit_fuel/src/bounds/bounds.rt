@@ -107,18 +107,14 @@ impl Bounds {
     }
 }
 
-/// Whether a block knows a location where it begins, if control comes to it.
-fn is_known(setting: &Setting<'_>, block: usize, location: u16) -> bool {
-    match setting.task.ranges.cells(setting.task.number, block) {
-        Some(cells) => range_in(cells, location).is_some(),
-        None => true,
-    }
-}
-
 /// Whether each block of a loop knows a location where it begins.
 fn is_known_throughout(setting: &Setting<'_>, within: &Loop, location: u16) -> bool {
+    let (ranges, number) = (setting.task.ranges, setting.task.number);
     for block in 0..within.holds.len() {
-        if within.holds[block] && !is_known(setting, block, location) {
+        if within.holds[block]
+            && let Some(cells) = ranges.cells(number, block)
+            && range_in(cells, location).is_none()
+        {
             return false;
         }
     }

@@ -144,48 +144,6 @@ pub fn declare_function(
     })
 }
 
-/// The meter of a function, by its number.
-fn meter_of(meters: &[Option<Meter>], number: usize) -> Option<&Meter> {
-    match meters.get(number) {
-        Some(Some(meter)) => Some(meter),
-        _ => None,
-    }
-}
-
-/// Adds what the functions of a program declare, and checks it.
-fn declare_all(
-    alloc: Global,
-    program: &mut Program,
-    ranges: &Ranges,
-    meters: &[Option<Meter>],
-    known: &mut [Option<Total>],
-    annotations: &mut Annotations,
-    state: &mut State,
-) -> Result<(), Fault> {
-    // the last one first, since each calls those behind it alone
-    for number in (0..known.len()).rev() {
-        let task = Task {
-            alloc,
-            ranges,
-            number,
-            meter: meter_of(meters, number),
-            known: &*known,
-            spared: &[],
-        };
-        let notes = declare_function(program, &task, state)?;
-        if number < known.len() {
-            known[number] = Some(Total {
-                budget: Some(notes.budget),
-                room: notes.room,
-                depth: notes.depth,
-            });
-        }
-        annotations.functions.push(notes)?;
-    }
-    annotations.functions.reverse();
-    check_limits(program, annotations)
-}
-
 /// What a program declares whose blocks stand in their places: cells, fuel, budgets, stack room, depths. The places of
 /// the meters take what the dearest way to the next one weighs. A budget of 2^40 turns or more is refused, and what
 /// passes a limit of images.
@@ -200,15 +158,30 @@ pub fn declare(
     let mut annotations = Annotations {
         functions: Vec::new(alloc),
     };
-    let known = known.as_mut_slice();
-    declare_all(
-        alloc,
-        program,
-        ranges,
-        meters,
-        known,
-        &mut annotations,
-        state,
-    )?;
+    // the last one first, since each calls those behind it alone
+    for number in (0..known.len()).rev() {
+        let task = Task {
+            alloc,
+            ranges,
+            number,
+            meter: match meters.get(number) {
+                Some(Some(meter)) => Some(meter),
+                _ => None,
+            },
+            known: known.as_slice(),
+            spared: &[],
+        };
+        let notes = declare_function(program, &task, state)?;
+        if number < known.len() {
+            known[number] = Some(Total {
+                budget: Some(notes.budget),
+                room: notes.room,
+                depth: notes.depth,
+            });
+        }
+        annotations.functions.push(notes)?;
+    }
+    annotations.functions.reverse();
+    check_limits(program, &annotations)?;
     Ok(annotations)
 }

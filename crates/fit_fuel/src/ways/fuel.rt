@@ -47,14 +47,6 @@ fn target_of(
     if is_asked { Some(to) } else { None }
 }
 
-/// Where a way leads if nothing is behind the head of the loop that is looked at, where a round ends.
-fn without_head(within: Option<&Loop>, to: Option<usize>) -> Option<usize> {
-    match within {
-        Some(within) if to == Some(within.head) => None,
-        _ => to,
-    }
-}
-
 impl Fuel {
     /// Nothing is known.
     pub fn none(alloc: Global) -> Fuel {
@@ -102,7 +94,10 @@ impl Fuel {
         };
         Some(Way {
             from,
-            to: without_head(within, to),
+            to: match within {
+                Some(within) if to == Some(within.head) => None,
+                _ => to,
+            },
             is_metered: way == 1 && self.places.get(from).copied().flatten().is_some(),
             cost,
         })

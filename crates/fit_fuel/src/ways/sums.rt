@@ -61,25 +61,19 @@ impl Sum {
         }
     }
 
-    /// Adds what depends on locations in a term of a block at its beginning, where the state is that on the way there;
-    /// gives what doesn't.
-    fn add_term(&mut self, state: &State, term: &Term) -> i64 {
-        let times = i64::from(term.coefficient);
-        if let Some(form) = state.form(term.location) {
-            let others: ArrayVec<FormTerm, 8> = form.terms();
-            self.add_form(times, others.as_slice());
-            return times.saturating_mul(form.constant());
-        }
-        match state.range(term.location) {
-            Some(range) => greatest_of(times, range),
-            None => i64::MAX,
-        }
-    }
-
     /// Adds what a block's terms come to at its beginning, where the state is that on the way there.
     pub fn add_terms(&mut self, state: &State, terms: &[Term]) {
         for term in terms {
-            let more = self.add_term(state, term);
+            let times = i64::from(term.coefficient);
+            let more = if let Some(form) = state.form(term.location) {
+                let others: ArrayVec<FormTerm, 8> = form.terms();
+                self.add_form(times, others.as_slice());
+                times.saturating_mul(form.constant())
+            } else if let Some(range) = state.range(term.location) {
+                greatest_of(times, range)
+            } else {
+                i64::MAX
+            };
             self.constant = self.constant.saturating_add(more);
         }
     }
