@@ -4,6 +4,7 @@
 
 mod bounds;
 mod declaring;
+mod memory;
 mod meter;
 mod task;
 mod totals;

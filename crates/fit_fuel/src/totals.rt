@@ -14,7 +14,8 @@ pub struct Total {
 fn add_calls(found: &mut Total, block: &Block, known: &[Option<Total>]) {
     for step in block.steps.as_slice() {
         if let Some(callee) = step.callee
-            && let Some(Some(total)) = known.get(callee)
+            && callee < known.len()
+            && let Some(total) = known[callee]
         {
             found.room = found.room.max(total.room);
             found.depth = found.depth.max(total.depth.saturating_add(1));

@@ -1,6 +1,7 @@
 //! The counters of loops.
-use crate::bounds::changes::{Candidate, add_ways, candidates_of};
+use crate::bounds::changes::{Passage, add_ways};
 use crate::bounds::rounds::least_of_round;
+use crate::memory::Memory;
 use crate::task::{Setting, Task};
 use fit_code::{Function, Program};
 use fit_graph::{Loop, enters_beside_head, loops_of, range_in};
@@ -31,9 +32,10 @@ pub struct Bounds {
 impl Bounds {
     /// The bound of the loop at a place; none where none was found.
     pub fn at(&self, place: usize) -> Option<Bound> {
-        match self.bounds.get(place) {
-            Some(bound) => *bound,
-            None => None,
+        if place < self.bounds.len() {
+            self.bounds[place]
+        } else {
+            None
         }
     }
 
@@ -54,14 +56,16 @@ impl Bounds {
     ) -> Result<(), AllocError> {
         let is_plain = enters_beside_head(setting.task.alloc, function)?.is_none();
         self.loops = loops_of(setting.task.alloc, function)?;
+        let mut memory = Memory::new();
         for within in self.loops.as_slice() {
-            self.bounds.push(if is_plain {
-                bound_of(setting, function, within, state)?
+            let bound = if is_plain {
+                bound_of(setting, function, within, state, &mut memory)
             } else {
                 None
-            })?;
+            };
+            memory.push(&mut self.bounds, bound);
         }
-        Ok(())
+        memory.told()
     }
 
     /// Leaves the bounds of those loops alone that have a steady one of at most so many rounds, and only such loops in
@@ -69,17 +73,25 @@ impl Bounds {
     pub fn limit(&mut self, most: u64) {
         // an inner loop stands behind those around it, which are as unbounded as it is
         for place in (0..self.loops.len()).rev() {
-            match self.bounds.get_mut(place) {
-                Some(Some(bound)) if bound.is_steady && bound.rounds <= most => continue,
-                Some(bound) => *bound = None,
-                None => {}
-            }
-            if let Some(within) = self.loops.get(place)
-                && let Some(parent) = within.parent
-                && let Some(around) = self.bounds.get_mut(parent)
+            if let Some(bound) = self.at(place)
+                && bound.is_steady
+                && bound.rounds <= most
             {
-                *around = None;
+                continue;
             }
+            self.forget(place);
+            if place < self.loops.len()
+                && let Some(parent) = self.loops[place].parent
+            {
+                self.forget(parent);
+            }
+        }
+    }
+
+    /// Forgets the bound of the loop at a place.
+    fn forget(&mut self, place: usize) {
+        if place < self.bounds.len() {
+            self.bounds[place] = None;
         }
     }
 
@@ -96,9 +108,10 @@ impl Bounds {
 
 /// Whether each block of a loop knows a location where it begins.
 fn is_known_throughout(setting: &Setting<'_>, within: &Loop, location: u16) -> bool {
-    for (block, is_in) in within.holds.iter().enumerate() {
-        if *is_in
-            && let Some(cells) = setting.task.ranges.cells(setting.task.number, block)
+    let (ranges, number) = (setting.task.ranges, setting.task.number);
+    for block in 0..within.holds.len() {
+        if within.holds[block]
+            && let Some(cells) = ranges.cells(number, block)
             && range_in(cells, location).is_none()
         {
             return false;
@@ -107,46 +120,97 @@ fn is_known_throughout(setting: &Setting<'_>, within: &Loop, location: u16) -> b
     true
 }
 
-/// The bound that a candidate gives; none where it doesn't change one way, or isn't known throughout the loop.
-fn bound_by(
-    setting: &Setting<'_>,
-    within: &Loop,
-    candidate: &Candidate,
-) -> Result<Option<Bound>, AllocError> {
-    let Cell { location, range } = candidate.cell;
-    let is_one_way = candidate.falls || candidate.rises;
-    if !is_one_way || !is_known_throughout(setting, within, location) {
-        return Ok(None);
+/// How a location changes on the ways of a loop.
+#[derive(Clone, Copy)]
+struct Course {
+    /// Whether no way raises it, or may.
+    falls: bool,
+    /// Whether no way lowers it, or may.
+    rises: bool,
+    /// Whether it changes by one number on each way.
+    is_steady: bool,
+}
+
+/// How a location changes on these ways; nothing where it does otherwise than by a number on one of them.
+fn course_of(passages: &[Passage], location: u16) -> Option<Course> {
+    let mut course = Course {
+        falls: true,
+        rises: true,
+        is_steady: true,
+    };
+    for passage in passages {
+        if passage.location == location {
+            let Some(change) = passage.change else {
+                return None;
+            };
+            course.falls &= change.most <= 0;
+            course.rises &= change.least >= 0;
+            course.is_steady &= change.least == change.most;
+        }
     }
-    let passages = candidate.passages.as_slice();
-    let blocks = within.holds.len();
-    let least = least_of_round(setting.task.alloc, passages, within.head, blocks)?;
+    if course.falls || course.rises {
+        Some(course)
+    } else {
+        None
+    }
+}
+
+/// The bound that a location gives that changes by so much in a round at least; none where that may be nothing.
+fn bound_with(cell: &Cell, course: Course, least: u64) -> Option<Bound> {
+    let Cell { location, range } = *cell;
     let change = match i64::try_from(least) {
-        Ok(0) | Err(_) => return Ok(None),
-        Ok(amount) if candidate.falls => amount.saturating_neg(),
+        Ok(0) | Err(_) => return None,
+        Ok(amount) if course.falls => amount.saturating_neg(),
         Ok(amount) => amount,
     };
     let width = i64::from(range.hi).saturating_sub(i64::from(range.lo));
     let rounds = width.unsigned_abs() / change.unsigned_abs();
-    Ok(Some(Bound {
+    Some(Bound {
         location,
         change,
         rounds: rounds.saturating_add(1),
-        is_steady: candidate.is_steady,
-    }))
+        is_steady: course.is_steady,
+    })
 }
 
-/// The better bound: a steady one before others, and then that of fewer rounds.
-fn better(found: Option<Bound>, other: Bound) -> Bound {
-    let Some(found) = found else {
+/// The bound that a location of a loop's head gives; none where it doesn't change one way, or isn't known throughout
+/// the loop.
+fn bound_by(
+    setting: &Setting<'_>,
+    within: &Loop,
+    passages: &[Passage],
+    cell: &Cell,
+    memory: &mut Memory,
+) -> Option<Bound> {
+    let Some(course) = course_of(passages, cell.location) else {
+        return None;
+    };
+    if !is_known_throughout(setting, within, cell.location) {
+        return None;
+    }
+    let (alloc, blocks) = (setting.task.alloc, within.holds.len());
+    let least = least_of_round(alloc, passages, cell.location, within.head, blocks, memory);
+    bound_with(cell, course, least)
+}
+
+/// Whether a bound is better than another one: a steady one than others, and then that of fewer rounds.
+fn is_better(bound: &Bound, other: &Bound) -> bool {
+    if bound.is_steady == other.is_steady {
+        bound.rounds < other.rounds
+    } else {
+        bound.is_steady
+    }
+}
+
+/// The better bound of two, the first where none is; none where there is none.
+fn better(found: Option<Bound>, other: Option<Bound>) -> Option<Bound> {
+    let Some(bound) = found else {
         return other;
     };
-    let is_better = if other.is_steady == found.is_steady {
-        other.rounds < found.rounds
-    } else {
-        other.is_steady
-    };
-    if is_better { other } else { found }
+    match other {
+        Some(more) if is_better(&more, &bound) => other,
+        _ => found,
+    }
 }
 
 /// The bound of a loop by the counter that changes by one number and gives the fewest rounds, else by another; none
@@ -156,20 +220,28 @@ fn bound_of(
     function: &Function,
     within: &Loop,
     state: &mut State,
-) -> Result<Option<Bound>, AllocError> {
+    memory: &mut Memory,
+) -> Option<Bound> {
     let task = setting.task;
     let Some(cells) = task.ranges.cells(task.number, within.head) else {
-        return Ok(None);
+        return None;
     };
-    let mut candidates = candidates_of(task.alloc, cells)?;
-    add_ways(setting, function, within, candidates.as_mut_slice(), state)?;
+    let mut passages = Vec::new(task.alloc);
+    add_ways(
+        setting,
+        function,
+        within,
+        cells,
+        &mut passages,
+        state,
+        memory,
+    );
     let mut found = None;
-    for candidate in candidates.as_slice() {
-        if let Some(other) = bound_by(setting, within, candidate)? {
-            found = Some(better(found, other));
-        }
+    for cell in cells {
+        let other = bound_by(setting, within, passages.as_slice(), cell, memory);
+        found = better(found, other);
     }
-    Ok(found)
+    found
 }
 
 /// The loops of a function with their bounds. Of a function with a loop that is entered beside its head no bounds are
@@ -182,7 +254,7 @@ pub fn bounds_of(
     state: &mut State,
 ) -> Result<Bounds, AllocError> {
     let mut found = Bounds::none(alloc);
-    if let Some(function) = program.functions.get(number) {
+    if number < program.functions.len() {
         let task = Task {
             alloc,
             ranges,
@@ -195,7 +267,7 @@ pub fn bounds_of(
             program,
             task: &task,
         };
-        found.find(&setting, function, state)?;
+        found.find(&setting, &program.functions[number], state)?;
     }
     Ok(found)
 }

@@ -1,40 +1,30 @@
 //! By how much locations change along the ways of a loop.
+use crate::memory::Memory;
 use crate::task::Setting;
+use crate::ways::Way;
 use arrayvec::ArrayVec;
 use fit_code::Function;
 use fit_graph::{Loop, range_in, successors_in};
 use sbx_domain::State;
 use sbx_form::FormTerm;
 use sbx_parts::Cell;
-use std::alloc::{AllocError, Global};
 
 /// By how much a location changes: from the least number to the greatest.
 #[derive(Clone, Copy)]
-struct Change {
-    least: i64,
-    most: i64,
+pub struct Change {
+    pub least: i64,
+    pub most: i64,
 }
 
-/// A way from a block of a loop to another one, and how much a location changes there at least, whichever way it goes.
+/// A way from a block of a loop to another one, and by how much a location that the loop's head knows changes there;
+/// nothing where it is something else.
 #[derive(Clone, Copy)]
 pub struct Passage {
-    pub from: usize,
-    pub to: usize,
-    pub amount: u64,
-}
-
-/// A location that may count the rounds of a loop: what the head knows of it, and how it changes along the ways that
-/// stay in the loop.
-#[derive(Drop)]
-pub struct Candidate {
-    pub cell: Cell,
-    /// Whether no way raises it, or may.
-    pub falls: bool,
-    /// Whether no way lowers it, or may.
-    pub rises: bool,
-    /// Whether it changes by one number on each way.
-    pub is_steady: bool,
-    pub passages: Vec<Passage>,
+    pub location: u16,
+    /// Where a round ends it leads nowhere. It asks for as much less as the location changes at least, whichever way it
+    /// goes.
+    pub way: Way,
+    pub change: Option<Change>,
 }
 
 /// By how much a form of these terms is more than the number that the location began with, where its other terms lie
@@ -50,7 +40,9 @@ fn change_of(constant: i64, terms: &[FormTerm], location: u16, cells: &[Cell]) -
             is_found = times == 1;
             continue;
         }
-        let range = range_in(cells, term.location)?;
+        let Some(range) = range_in(cells, term.location) else {
+            return None;
+        };
         let low = times.saturating_mul(i64::from(range.lo));
         let high = times.saturating_mul(i64::from(range.hi));
         least = least.saturating_add(low.min(high));
@@ -63,62 +55,68 @@ fn change_of(constant: i64, terms: &[FormTerm], location: u16, cells: &[Cell]) -
     }
 }
 
-impl Candidate {
-    /// Adds a way, behind which the state is this.
-    fn add(
-        &mut self,
-        (from, to): (usize, usize),
-        cells: &[Cell],
-        state: &State,
-    ) -> Result<(), AllocError> {
-        let location = self.cell.location;
-        let change = match state.form(location) {
-            Some(form) => {
-                let terms: ArrayVec<FormTerm, 8> = form.terms();
-                change_of(form.constant(), terms.as_slice(), location, cells)
-            }
-            None => None,
-        };
-        let Some(Change { least, most }) = change else {
-            (self.falls, self.rises) = (false, false);
-            return Ok(());
-        };
-        self.falls &= most <= 0;
-        self.rises &= least >= 0;
-        self.is_steady &= least == most;
-        let amount = least.unsigned_abs().min(most.unsigned_abs());
-        self.passages.push(Passage { from, to, amount })?;
-        Ok(())
+/// By how much a location changes on a way of a block that begins with these cells, behind which the state is this.
+fn change_to(location: u16, cells: &[Cell], state: &State) -> Option<Change> {
+    let Some(form) = state.form(location) else {
+        return None;
+    };
+    let terms: ArrayVec<FormTerm, 8> = form.terms();
+    change_of(form.constant(), terms.as_slice(), location, cells)
+}
+
+/// How much less a way asks for where a location changes so; nothing where it changes otherwise.
+fn cost_of(change: Option<Change>) -> i64 {
+    match change {
+        Some(Change { least, most }) => {
+            let (one, other) = (least.saturating_neg(), most.saturating_neg());
+            least.min(one).max(most.min(other))
+        }
+        None => 0,
     }
 }
 
-/// Adds to each candidate a way of a block, where it can be gone.
+/// Adds a way of a block for each location that the head of its loop knows, where it can be gone.
 fn add_way(
     setting: &Setting<'_>,
-    candidates: &mut [Candidate],
+    known: &[Cell],
     (from, way): (usize, usize),
-    to: usize,
+    to: Option<usize>,
+    passages: &mut Vec<Passage>,
     state: &mut State,
-) -> Result<(), AllocError> {
+    memory: &mut Memory,
+) {
     let (ranges, number) = (setting.task.ranges, setting.task.number);
     if !ranges.run_block(setting.program, number, from, way, state) {
-        return Ok(());
+        return;
     }
     let cells = ranges.cells(number, from).unwrap_or(&[]);
-    for candidate in candidates.iter_mut() {
-        candidate.add((from, to), cells, state)?;
+    for cell in known {
+        let change = change_to(cell.location, cells, state);
+        let way = Way {
+            from,
+            to,
+            is_metered: false,
+            cost: cost_of(change),
+        };
+        let passage = Passage {
+            location: cell.location,
+            way,
+            change,
+        };
+        memory.push(passages, passage);
     }
-    Ok(())
 }
 
-/// Adds to each candidate the ways that stay in a loop of a function.
+/// Adds the ways that stay in a loop of a function, for each location that its head knows.
 pub fn add_ways(
     setting: &Setting<'_>,
     function: &Function,
     within: &Loop,
-    candidates: &mut [Candidate],
+    known: &[Cell],
+    passages: &mut Vec<Passage>,
     state: &mut State,
-) -> Result<(), AllocError> {
+    memory: &mut Memory,
+) {
     // a block has two ways at most
     for place in 0..within.holds.len().saturating_mul(2) {
         let (block, way) = (place / 2, place % 2);
@@ -126,23 +124,8 @@ pub fn add_ways(
             && let Some(to) = successors_in(function, block)[way]
             && within.has(to)
         {
-            add_way(setting, candidates, (block, way), to, state)?;
+            let to = if to == within.head { None } else { Some(to) };
+            add_way(setting, known, (block, way), to, passages, state, memory);
         }
     }
-    Ok(())
-}
-
-/// The locations of these cells, without ways.
-pub fn candidates_of(alloc: Global, cells: &[Cell]) -> Result<Vec<Candidate>, AllocError> {
-    let mut candidates = Vec::new(alloc);
-    for cell in cells {
-        candidates.push(Candidate {
-            cell: *cell,
-            falls: true,
-            rises: true,
-            is_steady: true,
-            passages: Vec::new(alloc),
-        })?;
-    }
-    Ok(candidates)
 }

@@ -36,9 +36,14 @@ fn turns_of(fuel: &Fuel, meter: Option<&Meter>, within: &Loop) -> i64 {
 
 /// The line of a loop: that from which it goes back to its head.
 fn line_of(function: &Function, within: &Loop) -> Option<Line> {
-    let latch = within.latches.first()?;
-    let block = function.blocks.get(*latch)?;
-    Some(block.line)
+    let Some(latch) = within.latches.first() else {
+        return None;
+    };
+    if *latch < function.blocks.len() {
+        Some(function.blocks[*latch].line)
+    } else {
+        None
+    }
 }
 
 /// The line of that of a function's loops that may take the most turns, the first and outermost of those. None in a

@@ -2,7 +2,7 @@
 use crate::bounds::Bounds;
 use crate::declaring::dearest::dearest_loop;
 use crate::declaring::limits::check_limits;
-use crate::declaring::metering::set_weights;
+use crate::declaring::metering::{Weighed, set_weights};
 use crate::declaring::terms::find_fuel;
 use crate::meter::Meter;
 use crate::task::{Setting, Task};
@@ -20,6 +20,10 @@ const BOUND: u64 = 1 << 40;
 /// So often weights are set anew: each time some places take more.
 const ROUNDS: u32 = 64;
 
+/// What is said of a place of the meter that would have to take too much.
+const TOO_MUCH: &str =
+    "a round of a loop may take more turns than there are: ask for more, or bound what it calls";
+
 /// A fault of a function.
 pub fn refused(function: &Function, line: Line, what: &'static str) -> Fault {
     match function.name.clone() {
@@ -28,31 +32,56 @@ pub fn refused(function: &Function, line: Line, what: &'static str) -> Fault {
     }
 }
 
-/// Finds the fuel of a function with these bounds, whose meter takes as much as has to be paid for; says whether there
-/// is some. Which bounds its loops have doesn't depend on what the meter takes.
+/// Lets the places of a function's meter, if it has one, take as much as has to be paid for.
+fn weighed_anew(program: &mut Program, task: &Task<'_>, fuel: &mut Fuel) -> Weighed {
+    let Some(meter) = task.meter else {
+        return Weighed::Same;
+    };
+    if task.number >= program.functions.len() {
+        return Weighed::Same;
+    }
+    set_weights(&mut program.functions[task.number], meter, fuel)
+}
+
+/// Finds the bounds of a function's loops, and its fuel, where its meter takes as much as has to be paid for; says
+/// where there is none why, and of which line, if it is of one. Which bounds there are doesn't depend on what the
+/// meter takes.
 fn settle(
     program: &mut Program,
     task: &Task<'_>,
-    bounds: &Bounds,
+    bounds: &mut Bounds,
     fuel: &mut Fuel,
     state: &mut State,
-) -> Result<bool, Fault> {
-    for _ in 0..ROUNDS {
-        if !find_fuel(&Setting { program, task }, bounds, fuel, state)? {
-            return Ok(false);
-        }
-        let is_more = match (task.meter, program.functions.get_mut(task.number)) {
-            (Some(meter), Some(function)) => {
-                let (ways, constants) = (fuel.ways.as_slice(), fuel.constants.as_slice());
-                set_weights(function, meter, ways, constants, fuel.places.as_mut_slice())?
-            }
-            _ => false,
+) -> Result<Option<(Option<Line>, &'static str)>, AllocError> {
+    if task.number < program.functions.len() {
+        let function = &program.functions[task.number];
+        fuel.take_blocks(task.alloc, function, task.meter);
+        let setting = Setting {
+            program,
+            task: &*task,
         };
-        if !is_more {
-            return Ok(true);
+        bounds.find(&setting, function, state)?;
+    }
+    for _ in 0..ROUNDS {
+        let setting = Setting {
+            program,
+            task: &*task,
+        };
+        let is_found = find_fuel(&setting, bounds, fuel, state);
+        let weighed = if is_found {
+            weighed_anew(program, task, fuel)
+        } else {
+            Weighed::Same
+        };
+        fuel.memory.told()?;
+        match weighed {
+            Weighed::Same if is_found => return Ok(None),
+            Weighed::Same => break,
+            Weighed::More => {}
+            Weighed::TooMuch(line) => return Ok(Some((Some(line), TOO_MUCH))),
         }
     }
-    Ok(false)
+    Ok(Some((None, "no fuel was found for its loops")))
 }
 
 /// A budget that is too great, told at the loop that takes the most of it, or at the function if it has none.
@@ -60,16 +89,16 @@ fn too_great(
     function: &Function,
     bounds: &Bounds,
     fuel: &Fuel,
-    meter: Option<&Meter>,
+    task: &Task<'_>,
     turns: u64,
 ) -> Fault {
-    let dearest = dearest_loop(function, bounds.loops.as_slice(), fuel, meter);
+    let dearest = dearest_loop(function, bounds.loops.as_slice(), fuel, task.meter);
     let is_loop = dearest.is_some();
     let line = dearest.unwrap_or(function.line);
     Fault::new(line, Reason::Budget { turns, is_loop })
 }
 
-/// Finds the fuel of a function, and what a call takes.
+/// Finds the fuel of a function, which each of its blocks says then, and what a call takes.
 fn find_total(
     program: &mut Program,
     task: &Task<'_>,
@@ -77,28 +106,24 @@ fn find_total(
     fuel: &mut Fuel,
     state: &mut State,
 ) -> Result<(u64, Total), Fault> {
-    if let Some(function) = program.functions.get(task.number) {
-        fuel.take_blocks(task.alloc, function, task.meter)?;
-        let setting = Setting {
-            program,
-            task: &*task,
-        };
-        bounds.find(&setting, function, state)?;
-    }
-    let is_found = settle(program, task, bounds, fuel, state)?;
-    let Some(function) = program.functions.get(task.number) else {
+    let lack = settle(program, task, bounds, fuel, state)?;
+    if task.number >= program.functions.len() {
         return Err(Fault::new(NO_LINE, Reason::Unreadable("no function")));
-    };
-    if !is_found {
-        return Err(refused(function, function.line, "no fuel was found for its loops"));
+    }
+    let function = &program.functions[task.number];
+    if let Some((line, what)) = lack {
+        return Err(refused(function, line.unwrap_or(function.line), what));
     }
     let first = constant_at(fuel.constants.as_slice(), 0).unwrap_or(0);
     let budget = u64::try_from(first).unwrap_or(0);
     if budget >= BOUND {
-        return Err(too_great(function, bounds, fuel, task.meter, budget));
+        return Err(too_great(function, bounds, fuel, task, budget));
     }
-    fuel.fill(task.ranges, task.number)?;
-    Ok((budget, total_of(function, Some(budget), task.known)))
+    fuel.fill(task.ranges, task.number);
+    match fuel.memory.told() {
+        Ok(()) => Ok((budget, total_of(function, Some(budget), task.known))),
+        Err(error) => Err(Fault::from(error)),
+    }
 }
 
 /// What one function declares. The places of a meter take what the dearest way to the next one weighs. A loop that
@@ -129,35 +154,34 @@ pub fn declare(
     meters: &[Option<Meter>],
     state: &mut State,
 ) -> Result<Annotations, Fault> {
-    let count = program.functions.len();
-    let mut known: Vec<Option<Total>> = vec![in alloc; None; count]?;
-    let mut functions = Vec::new(alloc);
+    let mut known: Vec<Option<Total>> = vec![in alloc; None; program.functions.len()]?;
+    let mut annotations = Annotations {
+        functions: Vec::new(alloc),
+    };
     // the last one first, since each calls those behind it alone
-    for number in (0..count).rev() {
-        let meter = match meters.get(number) {
-            Some(Some(meter)) => Some(meter),
-            _ => None,
-        };
+    for number in (0..known.len()).rev() {
         let task = Task {
             alloc,
             ranges,
             number,
-            meter,
+            meter: match meters.get(number) {
+                Some(Some(meter)) => Some(meter),
+                _ => None,
+            },
             known: known.as_slice(),
             spared: &[],
         };
         let notes = declare_function(program, &task, state)?;
-        if let Some(place) = known.get_mut(number) {
-            *place = Some(Total {
+        if number < known.len() {
+            known[number] = Some(Total {
                 budget: Some(notes.budget),
                 room: notes.room,
                 depth: notes.depth,
             });
         }
-        functions.push(notes)?;
+        annotations.functions.push(notes)?;
     }
-    functions.reverse();
-    let annotations = Annotations { functions };
+    annotations.functions.reverse();
     check_limits(program, &annotations)?;
     Ok(annotations)
 }

@@ -8,13 +8,22 @@ const WORDS: u64 = 65_536;
 /// The most bytes of stack.
 const STACK: u64 = 16 * 4096 - 64;
 
-/// A fault where there is more of something than there may be.
-fn check(line: Line, what: &'static str, count: u64, most: u64) -> Result<(), Fault> {
-    if count > most {
-        Err(Fault::new(line, Reason::TooGreat { what, count, most }))
-    } else {
-        Ok(())
-    }
+/// More of something than there may be.
+#[derive(Clone, Copy)]
+struct Excess {
+    line: Line,
+    what: &'static str,
+    count: u64,
+    most: u64,
+}
+
+/// What is found of a program's numbers.
+#[derive(Clone, Copy)]
+struct Found {
+    /// The words of code.
+    words: u64,
+    /// The first of them that passes a limit.
+    excess: Option<Excess>,
 }
 
 /// How many words a block has.
@@ -29,35 +38,55 @@ fn words_of(block: &Block) -> u64 {
     words
 }
 
-/// Checks a function, and gives how many words it has.
-fn check_function(function: &Function, notes: &FunctionNotes) -> Result<u64, Fault> {
-    let blocks = function.blocks.len() as u64;
-    check(function.line, "the blocks of a function", blocks, 4096)?;
-    check(
-        function.line,
-        "the stack that calls take",
-        notes.room,
-        STACK,
-    )?;
-    let mut words: u64 = 1;
-    for (number, block) in function.blocks.iter().enumerate() {
-        if let Some(notes) = notes.blocks.get(number) {
-            let terms = notes.terms.len() as u64;
-            check(block.line, "the loops around a block", terms, 8)?;
-            words = words.saturating_add(words_of(block));
+impl Found {
+    /// Takes in how much there is of something, and how much there may be.
+    fn check(&mut self, line: Line, what: &'static str, count: u64, most: u64) {
+        if count > most && self.excess.is_none() {
+            self.excess = Some(Excess {
+                line,
+                what,
+                count,
+                most,
+            });
         }
     }
-    Ok(words)
+
+    /// Takes in a function.
+    fn check_function(&mut self, function: &Function, notes: &FunctionNotes) {
+        let (line, blocks) = (function.line, function.blocks.len() as u64);
+        self.check(line, "the blocks of a function", blocks, 4096);
+        self.check(line, "the stack that calls take", notes.room, STACK);
+        self.words = self.words.saturating_add(1);
+        for (number, block) in function.blocks.iter().enumerate() {
+            if number < notes.blocks.len() {
+                let terms = notes.blocks[number].terms.len() as u64;
+                self.check(block.line, "the loops around a block", terms, 8);
+                self.words = self.words.saturating_add(words_of(block));
+            }
+        }
+        self.check(line, "the words of code", self.words, WORDS);
+    }
 }
 
 /// Whether a program is within the limits of an image; else the first one that it passes, with its line.
 pub fn check_limits(program: &Program, annotations: &Annotations) -> Result<(), Fault> {
-    let mut words: u64 = 0;
+    let mut found = Found {
+        words: 0,
+        excess: None,
+    };
     for (number, function) in program.functions.iter().enumerate() {
-        if let Some(notes) = annotations.functions.get(number) {
-            words = words.saturating_add(check_function(function, notes)?);
-            check(function.line, "the words of code", words, WORDS)?;
+        if number < annotations.functions.len() {
+            found.check_function(function, &annotations.functions[number]);
         }
     }
-    Ok(())
+    let Some(excess) = found.excess else {
+        return Ok(());
+    };
+    let Excess {
+        line,
+        what,
+        count,
+        most,
+    } = excess;
+    Err(Fault::new(line, Reason::TooGreat { what, count, most }))
 }

@@ -1,13 +1,20 @@
 //! What the places of a meter take.
-use crate::declaring::declaring::refused;
+use crate::memory::Memory;
 use crate::meter::{Meter, set_weight};
-use crate::ways::{Way, constant_at};
-use fit_code::{Fault, Function};
+use crate::ways::{Fuel, Way, constant_at};
+use fit_code::{Block, Function, Line};
 
 /// What a place that takes so much has to take so that the way on is paid for; none where it is.
 fn wanted(meter: &Meter, taken: u32, way: &Way, constants: &[Option<i64>]) -> Option<i64> {
-    let here = constant_at(constants, way.from)?;
-    let there = constant_at(constants, way.to?)?;
+    let Some(here) = constant_at(constants, way.from) else {
+        return None;
+    };
+    let Some(to) = way.to else {
+        return None;
+    };
+    let Some(there) = constant_at(constants, to) else {
+        return None;
+    };
     let short = way.cost.saturating_add(there).saturating_sub(here);
     if short <= 0 {
         return None;
@@ -17,36 +24,56 @@ fn wanted(meter: &Meter, taken: u32, way: &Way, constants: &[Option<i64>]) -> Op
     Some(i64::from(taken).saturating_add(more))
 }
 
-/// Lets each place take as much as the dearest way to the next one weighs; says whether one takes more than before. One
-/// that would have to take more than the meter ever has is a fault.
-pub fn set_weights(
-    function: &mut Function,
+/// How places that take as much as they have to differ from before.
+#[derive(Clone, Copy)]
+pub enum Weighed {
+    Same,
+    /// One takes more.
+    More,
+    /// One in this line would have to take more than the meter ever has.
+    TooMuch(Line),
+}
+
+/// Lets a place that takes so much take as much as the way on from it weighs.
+fn weigh(
+    block: &mut Block,
     meter: &Meter,
-    ways: &[Way],
+    way: &Way,
     constants: &[Option<i64>],
-    places: &mut [Option<u32>],
-) -> Result<bool, Fault> {
-    let mut is_more = false;
-    for way in ways {
+    taken: &mut u32,
+    memory: &mut Memory,
+) -> Weighed {
+    let Some(weight) = wanted(meter, *taken, way, constants) else {
+        return Weighed::Same;
+    };
+    match u32::try_from(weight) {
+        Ok(weight) if weight <= meter.count => {
+            set_weight(meter, block, *taken, weight, memory);
+            *taken = weight;
+            Weighed::More
+        }
+        _ => Weighed::TooMuch(block.line),
+    }
+}
+
+/// Lets each place take as much as the dearest way to the next one weighs, where these are the fuel's ways.
+pub fn set_weights(function: &mut Function, meter: &Meter, fuel: &mut Fuel) -> Weighed {
+    let mut weighed = Weighed::Same;
+    let constants = fuel.constants.as_slice();
+    for way in fuel.ways.as_slice() {
+        let from = way.from;
         if way.is_metered
-            && let Some(block) = function.blocks.get_mut(way.from)
-            && let Some(Some(taken)) = places.get_mut(way.from)
-            && let Some(weight) = wanted(meter, *taken, way, constants)
+            && from < function.blocks.len()
+            && from < fuel.places.len()
+            && let Some(taken) = &mut fuel.places[from]
         {
-            match u32::try_from(weight) {
-                Ok(weight) if weight <= meter.count => {
-                    set_weight(meter, block, *taken, weight)?;
-                    *taken = weight;
-                }
-                _ => {
-                    let line = block.line;
-                    let what =
-                        "a round of a loop may take more turns than there are: ask for more, or bound what it calls";
-                    return Err(refused(function, line, what));
-                }
+            let block = &mut function.blocks[from];
+            match weigh(block, meter, way, constants, taken, &mut fuel.memory) {
+                Weighed::Same => {}
+                Weighed::More => weighed = Weighed::More,
+                refused => return refused,
             }
-            is_more = true;
         }
     }
-    Ok(is_more)
+    weighed
 }

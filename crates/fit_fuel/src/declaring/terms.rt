@@ -1,5 +1,6 @@
 //! The terms of blocks: what is left in the meter, and so many turns for each round that is left to a counter.
 use crate::bounds::{Bound, Bounds};
+use crate::memory::Memory;
 use crate::task::{Setting, Task};
 use crate::ways::{Fuel, constant_at};
 use fit_graph::{Loop, range_in};
@@ -9,59 +10,56 @@ use sbx_parts::Term;
 use std::alloc::AllocError;
 
 /// Adds a term to those of a block, which stand by location.
-fn add_term(terms: &mut Vec<Term>, location: u16, coefficient: i32) -> Result<(), AllocError> {
+fn add_term(terms: &mut Vec<Term>, term: Term, memory: &mut Memory) {
     let mut place: usize = 0;
-    for term in terms.iter_mut() {
-        if term.location == location {
-            term.coefficient = term.coefficient.saturating_add(coefficient);
-            return Ok(());
+    for other in terms.iter_mut() {
+        if other.location == term.location {
+            other.coefficient = other.coefficient.saturating_add(term.coefficient);
+            return;
         }
-        if term.location < location {
+        if other.location < term.location {
             place = place.saturating_add(1);
         }
     }
-    if place <= terms.len() {
-        terms.insert(
-            place,
-            Term {
-                location,
-                coefficient,
-            },
-        )?;
+    if place <= terms.len()
+        && let Err(failed) = terms.insert(place, term)
+    {
+        memory.take(Err(AllocError::from(failed)));
     }
-    Ok(())
 }
 
 /// Begins with the terms of the meter, in each block that knows it.
-fn begin(task: &Task<'_>, blocks: &mut [BlockNotes]) -> Result<(), AllocError> {
+fn begin(task: &Task<'_>, blocks: &mut [BlockNotes], memory: &mut Memory) {
     for (block, notes) in blocks.iter_mut().enumerate() {
         notes.terms.clear();
-        if let Some(meter) = task.meter
-            && let location = meter.location()
-            && let Some(cells) = task.ranges.cells(task.number, block)
-            && range_in(cells, location).is_some()
-        {
-            notes.terms.push(Term {
-                location,
-                coefficient: i32::try_from(meter.unit).unwrap_or(i32::MAX),
-            })?;
+        if let Some(meter) = task.meter {
+            let location = meter.location();
+            let cells = task.ranges.cells(task.number, block).unwrap_or(&[]);
+            if range_in(cells, location).is_some() {
+                let coefficient = i32::try_from(meter.unit).unwrap_or(i32::MAX);
+                let term = Term {
+                    location,
+                    coefficient,
+                };
+                memory.push(&mut notes.terms, term);
+            }
         }
     }
-    Ok(())
 }
 
-/// How many turns pay for a round: so many for each number that the counter changes by, above 0 where it falls.
-fn coefficient_of(bound: &Bound, weight: i64) -> Option<i32> {
-    let change = i64::try_from(bound.change.unsigned_abs())
-        .unwrap_or(i64::MAX)
-        .max(1);
-    let rounds: i64 = weight.max(1).saturating_sub(1) / change;
-    let each = i32::try_from(rounds.saturating_add(1)).ok()?;
-    Some(if bound.change < 0 {
-        each
-    } else {
-        each.saturating_neg()
-    })
+/// How many turns pay for a round, where its weight is known: so many for each number that the counter changes by,
+/// above 0 where it falls.
+fn coefficient_of(bound: &Bound, weight: Option<i64>) -> Option<i32> {
+    let Some(weight) = weight else {
+        return None;
+    };
+    let change = i64::try_from(bound.change.unsigned_abs()).unwrap_or(i64::MAX);
+    let rounds: i64 = weight.max(1).saturating_sub(1) / change.max(1);
+    match i32::try_from(rounds.saturating_add(1)) {
+        Ok(each) if bound.change < 0 => Some(each),
+        Ok(each) => Some(each.saturating_neg()),
+        Err(_) => None,
+    }
 }
 
 /// Whether a place of the meter stands in a loop.
@@ -82,25 +80,27 @@ fn add_rounds(
     within: &Loop,
     bound: Option<Bound>,
     state: &mut State,
-) -> Result<bool, AllocError> {
+) -> bool {
     let Some(bound) = bound else {
-        return Ok(false);
+        return false;
     };
-    if !fuel.pay(setting, Some(within), state)? {
-        return Ok(false);
+    if !fuel.pay(setting, Some(within), state) {
+        return false;
     }
-    let Some(weight) = constant_at(fuel.constants.as_slice(), within.head) else {
-        return Ok(false);
-    };
+    let weight = constant_at(fuel.constants.as_slice(), within.head);
     let Some(coefficient) = coefficient_of(&bound, weight) else {
-        return Ok(false);
+        return false;
+    };
+    let term = Term {
+        location: bound.location,
+        coefficient,
     };
     for (block, notes) in fuel.blocks.iter_mut().enumerate() {
         if within.has(block) {
-            add_term(&mut notes.terms, bound.location, coefficient)?;
+            add_term(&mut notes.terms, term, &mut fuel.memory);
         }
     }
-    Ok(true)
+    true
 }
 
 /// Finds the terms of each block of a function with these loops and bounds, and then the constants; says whether there
@@ -110,15 +110,15 @@ pub fn find_fuel(
     bounds: &Bounds,
     fuel: &mut Fuel,
     state: &mut State,
-) -> Result<bool, AllocError> {
-    begin(setting.task, fuel.blocks.as_mut_slice())?;
+) -> bool {
+    begin(setting.task, fuel.blocks.as_mut_slice(), &mut fuel.memory);
     // an inner loop stands behind those around it
     for place in (0..bounds.loops.len()).rev() {
-        if let Some(within) = bounds.loops.get(place)
-            && !has_place(within, fuel.places.as_slice())
-            && !add_rounds(setting, fuel, within, bounds.at(place), state)?
+        let within = &bounds.loops[place];
+        if !has_place(within, fuel.places.as_slice())
+            && !add_rounds(setting, fuel, within, bounds.at(place), state)
         {
-            return Ok(false);
+            return false;
         }
     }
     fuel.pay(setting, None, state)

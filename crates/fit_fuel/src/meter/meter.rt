@@ -1,6 +1,6 @@
 //! The places of a meter, and what they take.
+use crate::memory::Memory;
 use fit_code::{Block, End, Step};
-use std::alloc::AllocError;
 use v8_formats::{Cond, Instr, Operand, Reg, Three, Upper};
 
 /// What a function counts its turns by.
@@ -92,12 +92,7 @@ pub fn taken_by(meter: &Meter, block: &Block) -> Option<u32> {
 }
 
 /// Lets a place that takes so much take another weight from now on.
-pub fn set_weight(
-    meter: &Meter,
-    block: &mut Block,
-    taken: u32,
-    weight: u32,
-) -> Result<(), AllocError> {
+pub fn set_weight(meter: &Meter, block: &mut Block, taken: u32, weight: u32, memory: &mut Memory) {
     // what is above the greatest immediate is put into a register by two steps
     let count = if taken > MOST { 3 } else { 1 };
     block
@@ -105,14 +100,14 @@ pub fn set_weight(
         .truncate(block.steps.len().saturating_sub(count));
     for instr in &counting(meter, weight) {
         if let Some(instr) = *instr {
-            block.steps.push(Step {
+            let step = Step {
                 instr,
                 line: block.line,
                 callee: None,
                 object: None,
                 slot: None,
-            })?;
+            };
+            memory.push(&mut block.steps, step);
         }
     }
-    Ok(())
 }

@@ -1,11 +1,11 @@
 //! By how much the constant of a block's fuel has to exceed that of the block behind it.
+use crate::memory::Memory;
 use crate::task::Setting;
 use crate::ways::sums::Sum;
 use crate::ways::weights::weight_of_block;
 use fit_text::BlockNotes;
 use sbx_domain::State;
 use sbx_parts::Term;
-use std::alloc::AllocError;
 
 /// A way out of a block.
 #[derive(Clone, Copy)]
@@ -21,9 +21,10 @@ pub struct Way {
 
 /// The terms of a block, by its number.
 fn terms_at(blocks: &[BlockNotes], block: usize) -> &[Term] {
-    match blocks.get(block) {
-        Some(notes) => notes.terms.as_slice(),
-        None => &[],
+    if block < blocks.len() {
+        blocks[block].terms.as_slice()
+    } else {
+        &[]
     }
 }
 
@@ -34,21 +35,18 @@ pub fn cost_of_way(
     (from, way): (usize, usize),
     to: Option<usize>,
     state: &mut State,
-) -> Result<Option<i64>, AllocError> {
-    let task = setting.task;
-    if to.is_some()
-        && !task
-            .ranges
-            .run_block(setting.program, task.number, from, way, state)
-    {
-        return Ok(None);
-    }
-    let mut sum = Sum::of(task.alloc, weight_of_block(setting, from));
-    sum.take_terms(terms_at(blocks, from))?;
+    memory: &mut Memory,
+) -> Option<i64> {
+    let (ranges, number) = (setting.task.ranges, setting.task.number);
+    let mut sum = Sum::of(setting.task.alloc, weight_of_block(setting, from));
+    sum.take_terms(terms_at(blocks, from));
     if let Some(to) = to {
-        sum.add_terms(state, terms_at(blocks, to))?;
+        if !ranges.run_block(setting.program, number, from, way, state) {
+            return None;
+        }
+        sum.add_terms(state, terms_at(blocks, to));
     }
+    memory.take(sum.memory.told());
     // nothing is known of a function's first block, whose fuel has no terms
-    let cells = task.ranges.cells(task.number, from).unwrap_or(&[]);
-    Ok(Some(sum.greatest(cells)))
+    Some(sum.greatest(ranges.cells(number, from).unwrap_or(&[])))
 }

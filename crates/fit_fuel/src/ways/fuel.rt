@@ -1,4 +1,5 @@
 //! The fuel of a function's blocks while it is looked for.
+use crate::memory::Memory;
 use crate::meter::{Meter, taken_by};
 use crate::task::Setting;
 use crate::ways::costs::{Way, cost_of_way};
@@ -8,7 +9,7 @@ use fit_graph::{Loop, successors_in};
 use fit_ranges::Ranges;
 use fit_text::BlockNotes;
 use sbx_domain::State;
-use std::alloc::{AllocError, Global};
+use std::alloc::Global;
 
 /// Constants and terms of the blocks of a function, and the ways that they pay for.
 #[derive(Drop)]
@@ -21,18 +22,22 @@ pub struct Fuel {
     pub ways: Vec<Way>,
     /// The least constants that pay for these ways; none of a block from which no way on is known.
     pub constants: Vec<Option<i64>>,
+    /// Whether memory was refused for one of these.
+    pub memory: Memory,
 }
 
 /// Where a way out of a block goes; nothing where it isn't looked at: of a loop's block where it leaves the loop, and
 /// of one at which the function or the run ends the second.
-fn way_of(
+fn target_of(
     setting: &Setting<'_>,
     within: Option<&Loop>,
-    from: usize,
-    way: usize,
+    (from, way): (usize, usize),
 ) -> Option<Option<usize>> {
-    let function = setting.program.functions.get(setting.task.number)?;
-    let [first, second] = successors_in(function, from);
+    let (functions, number) = (setting.program.functions.as_slice(), setting.task.number);
+    if number >= functions.len() {
+        return None;
+    }
+    let [first, second] = successors_in(&functions[number], from);
     let to = if way == 0 { first } else { second };
     let is_asked = match (within, to) {
         (Some(within), Some(to)) => within.has(from) && within.has(to),
@@ -50,71 +55,79 @@ impl Fuel {
             blocks: Vec::new(alloc),
             ways: Vec::new(alloc),
             constants: Vec::new(alloc),
+            memory: Memory::new(),
         }
     }
 
     /// Takes in the blocks of a function, of which nothing is known but which are places of its meter.
-    pub fn take_blocks(
-        &mut self,
-        alloc: Global,
-        function: &Function,
-        meter: Option<&Meter>,
-    ) -> Result<(), AllocError> {
+    pub fn take_blocks(&mut self, alloc: Global, function: &Function, meter: Option<&Meter>) {
         for block in function.blocks.as_slice() {
-            self.places.push(match meter {
+            let taken = match meter {
                 Some(meter) => taken_by(meter, block),
                 None => None,
-            })?;
-            self.blocks.push(BlockNotes {
+            };
+            self.memory.push(&mut self.places, taken);
+            let notes = BlockNotes {
                 cells: Vec::new(alloc),
                 fuel: 0,
                 terms: Vec::new(alloc),
-            })?;
+            };
+            self.memory.push(&mut self.blocks, notes);
         }
-        Ok(())
     }
 
-    /// Finds what the ways in a loop cost, or all ways of the function, and the least constants that pay for them; says
-    /// whether there are some, and no round gains. Nothing is behind the head of the loop, where a round ends.
-    pub fn pay(
+    /// A way out of a block in a loop, or of the function, with what it costs; nothing where it isn't looked at, or
+    /// can't be gone.
+    fn way_of(
         &mut self,
         setting: &Setting<'_>,
         within: Option<&Loop>,
+        (from, way): (usize, usize),
         state: &mut State,
-    ) -> Result<bool, AllocError> {
+    ) -> Option<Way> {
+        let Some(to) = target_of(setting, within, (from, way)) else {
+            return None;
+        };
+        let (blocks, memory) = (self.blocks.as_slice(), &mut self.memory);
+        let Some(cost) = cost_of_way(setting, blocks, (from, way), to, state, memory) else {
+            return None;
+        };
+        Some(Way {
+            from,
+            to: match within {
+                Some(within) if to == Some(within.head) => None,
+                _ => to,
+            },
+            is_metered: way == 1 && self.places.get(from).copied().flatten().is_some(),
+            cost,
+        })
+    }
+
+    /// Finds what the ways in a loop cost, or all ways of the function, and the least constants that pay for them; says
+    /// whether there are some, and no round gains.
+    pub fn pay(&mut self, setting: &Setting<'_>, within: Option<&Loop>, state: &mut State) -> bool {
         self.ways.clear();
         // a block has two ways at most
         for place in 0..self.blocks.len().saturating_mul(2) {
-            let (from, way) = (place / 2, place % 2);
-            if let Some(to) = way_of(setting, within, from, way)
-                && let Some(cost) = cost_of_way(setting, &self.blocks, (from, way), to, state)?
-            {
-                self.ways.push(Way {
-                    from,
-                    to: match within {
-                        Some(within) if to == Some(within.head) => None,
-                        _ => to,
-                    },
-                    is_metered: way == 1 && matches!(self.places.get(from), Some(Some(_))),
-                    cost,
-                })?;
+            if let Some(way) = self.way_of(setting, within, (place / 2, place % 2), state) {
+                self.memory.push(&mut self.ways, way);
             }
         }
         self.constants.clear();
-        self.constants.resize(self.blocks.len(), None)?;
-        Ok(settle(self.constants.as_mut_slice(), self.ways.as_slice()))
+        self.memory
+            .take(self.constants.resize(self.blocks.len(), None));
+        settle(self.constants.as_mut_slice(), self.ways.as_slice())
     }
 
     /// Says of each block its constant, and what is known where it begins, but of the first one.
-    pub fn fill(&mut self, ranges: &Ranges, number: usize) -> Result<(), AllocError> {
+    pub fn fill(&mut self, ranges: &Ranges, number: usize) {
         for (block, notes) in self.blocks.iter_mut().enumerate() {
             notes.fuel = constant_at(self.constants.as_slice(), block).unwrap_or(0);
             if block > 0
                 && let Some(cells) = ranges.cells(number, block)
             {
-                notes.cells.extend_from_slice(cells)?;
+                self.memory.take(notes.cells.extend_from_slice(cells));
             }
         }
-        Ok(())
     }
 }

@@ -3,17 +3,21 @@ use crate::ways::costs::Way;
 
 /// The constant of a block; none where no way on is known.
 pub fn constant_at(constants: &[Option<i64>], block: usize) -> Option<i64> {
-    match constants.get(block) {
-        Some(constant) => *constant,
-        None => None,
+    if block < constants.len() {
+        constants[block]
+    } else {
+        None
     }
 }
 
 /// What a way asks of its block's constant; none where that isn't known yet.
 fn asked(constants: &[Option<i64>], way: &Way) -> Option<i64> {
-    match way.to {
-        Some(to) => Some(way.cost.saturating_add(constant_at(constants, to)?)),
-        None => Some(way.cost),
+    let Some(to) = way.to else {
+        return Some(way.cost);
+    };
+    match constant_at(constants, to) {
+        Some(there) => Some(way.cost.saturating_add(there)),
+        None => None,
     }
 }
 
@@ -21,22 +25,15 @@ fn asked(constants: &[Option<i64>], way: &Way) -> Option<i64> {
 /// out.
 fn raise(constants: &mut [Option<i64>], ways: &[Way]) -> bool {
     let mut has_risen = false;
-    for way in ways.iter().rev() {
-        if way.is_metered {
-            continue;
-        }
-        let wanted = asked(constants, way);
-        let Some(constant) = constants.get_mut(way.from) else {
-            continue;
-        };
-        let is_more = match (wanted, *constant) {
-            (Some(wanted), Some(constant)) => wanted > constant,
-            (Some(_), None) => true,
-            (None, _) => false,
-        };
-        if is_more {
-            *constant = wanted;
-            has_risen = true;
+    for place in (0..ways.len()).rev() {
+        let way = &ways[place];
+        if !way.is_metered && way.from < constants.len() {
+            let wanted = asked(constants, way);
+            // what isn't known is less than all that is
+            if wanted > constants[way.from] {
+                constants[way.from] = wanted;
+                has_risen = true;
+            }
         }
     }
     has_risen

@@ -7,4 +7,4 @@ mod weights;
 
 pub use costs::Way;
 pub use fuel::Fuel;
-pub use longest::constant_at;
+pub use longest::{constant_at, settle};

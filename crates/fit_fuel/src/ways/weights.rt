@@ -7,52 +7,63 @@ use v8_formats::Instr;
 /// What SAVE weighs, and RESTORE.
 const WINDOW: u64 = 25;
 
+/// The budget of a function that is called, where it is known; else nothing.
+fn budget_of(known: &[Option<Total>], callee: usize) -> u64 {
+    if callee < known.len()
+        && let Some(total) = known[callee]
+    {
+        total.budget.unwrap_or(0)
+    } else {
+        0
+    }
+}
+
 /// What a step weighs; a call its slot and the callee's budget, too.
 fn weight_of_step(known: &[Option<Total>], step: &Step) -> u64 {
-    match (step.callee, step.instr) {
-        (Some(callee), _) => match known.get(callee) {
-            Some(
-                Some(
-                    Total {
-                        budget: Some(budget),
-                        ..
-                    },
-                ),
-            ) => budget.saturating_add(2),
-            _ => 2,
-        },
-        (None, Instr::Ticc(_)) => 5,
-        (None, _) => 1,
+    match step.callee {
+        Some(callee) => budget_of(known, callee).saturating_add(2),
+        None if matches!(step.instr, Instr::Ticc(_)) => 5,
+        None => 1,
     }
+}
+
+/// What the end of a block weighs, by its place in the function, and the SAVE before the first one.
+fn weight_of_ends(framed: bool, place: usize, end: &End) -> u64 {
+    let weight = match *end {
+        End::Jump(to) if to == place.saturating_add(1) => 0,
+        End::Jump(_) | End::Branch { .. } => 2,
+        End::Return(_) if framed => 1 + WINDOW,
+        End::Return(_) => 2,
+        End::Exit => 3,
+    };
+    if place == 0 && framed {
+        weight + WINDOW
+    } else {
+        weight
+    }
+}
+
+/// A number of turns that may be too great for one with a sign.
+fn signed(turns: u64) -> i64 {
+    i64::try_from(turns).unwrap_or(i64::MAX)
 }
 
 /// What a block weighs, by its place in the function and what is known of what it calls, without what is spared.
 pub fn weight_of_block(setting: &Setting<'_>, place: usize) -> i64 {
     let task = setting.task;
-    let Some(function) = setting.program.functions.get(task.number) else {
+    let functions = setting.program.functions.as_slice();
+    if task.number >= functions.len() {
         return 0;
-    };
-    let Some(block) = function.blocks.get(place) else {
-        return 0;
-    };
-    let mut weight = match block.end {
-        End::Jump(to) if to == place.saturating_add(1) => 0,
-        End::Jump(_) | End::Branch { .. } => 2,
-        End::Return(_) if function.framed => 1 + WINDOW,
-        End::Return(_) => 2,
-        End::Exit => 3,
-    };
-    if place == 0 && function.framed {
-        weight = weight.saturating_add(WINDOW);
     }
+    let function = &functions[task.number];
+    if place >= function.blocks.len() {
+        return 0;
+    }
+    let block = &function.blocks[place];
+    let mut weight = weight_of_ends(function.framed, place, &block.end);
     for step in block.steps.as_slice() {
         weight = weight.saturating_add(weight_of_step(task.known, step));
     }
-    let spared = match task.spared.get(place) {
-        Some(spared) => i64::try_from(*spared).unwrap_or(i64::MAX),
-        None => 0,
-    };
-    i64::try_from(weight)
-        .unwrap_or(i64::MAX)
-        .saturating_sub(spared)
+    let spared = task.spared.get(place).copied().unwrap_or(0);
+    signed(weight).saturating_sub(signed(spared))
 }

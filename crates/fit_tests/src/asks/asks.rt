@@ -1,11 +1,13 @@
 //! What isn't shown of a function's steps.
-use fit_code::{Block, Function, Line, Program, Region};
-use fit_graph::{effects_of, read_at_end, return_from, run_to_call};
+use crate::cuts::Memory;
+use fit_graph::{return_from, run_to_call};
+use fit_code::{Block, End, Function, Line, Program, Region};
+use fit_graph::{Effects, effects_of, read_at_end};
 use fit_ranges::{Origin, Ranges, Trace, end_of, named_object, origin_of, trace_of};
 use sbx_domain::State;
 use sbx_range::{Range, excludes_zero, range_of_address};
 use std::alloc::{AllocError, Global};
-use v8_formats::Operand;
+use v8_formats::{Instr, Operand, Reg};
 use v8_meaning::{Operation, Transfer, bytes_in, operation_of};
 
 /// An access that isn't shown to lie where it has to.
@@ -18,6 +20,8 @@ pub struct Access {
     pub writes: bool,
     /// What its address is worked out from.
     pub origin: Option<Origin>,
+    /// The parts of its address.
+    pub parts: (Reg, Operand),
 }
 
 /// What isn't shown.
@@ -64,15 +68,38 @@ fn is_in_region(regions: &[Region], from: i64, to: i64, writes: bool) -> bool {
     false
 }
 
-/// The first register that is read and isn't defined. %sp, %fp and the addresses of calls are never asked for.
+/// %sp, %fp and the addresses of calls, which are never asked for, each of which has a bit.
+const RESERVED: u32 = 0xc000_c000;
+
+/// The first register that is read and isn't defined.
 fn undefined_register(reads: u32, state: &State) -> Option<u16> {
+    let asked = reads & !RESERVED;
     for register in 1..32u16 {
-        let is_reserved = matches!(register, 14 | 15 | 30 | 31);
-        if reads >> register & 1 == 1 && !is_reserved && state.range(register).is_none() {
+        if asked >> register & 1 == 1 && state.range(register).is_none() {
             return Some(register);
         }
     }
     None
+}
+
+/// The first location that is read and isn't defined: a frame word before registers.
+fn undefined_location(effects: &Effects, state: &State) -> Option<u16> {
+    match effects.word_read {
+        Some(word) if state.range(word).is_none() => Some(word),
+        _ => undefined_register(effects.reads, state),
+    }
+}
+
+/// What isn't shown of a divisor, of which this is known.
+fn lack_of_divisor(operand: Operand, known: Option<Range>) -> Option<Lack> {
+    let Some(range) = known else {
+        return None;
+    };
+    if excludes_zero(range) {
+        None
+    } else {
+        Some(Lack::Divisible(operand, range))
+    }
 }
 
 /// How many low bits of an address of so many bytes are 0.
@@ -85,22 +112,36 @@ pub fn needed_alignment(size: u32) -> u8 {
     }
 }
 
+/// The line of the step at a place of a block, or behind the last one of its end.
+fn line_at(block: &Block, place: usize) -> Line {
+    if place < block.steps.len() {
+        block.steps[place].line
+    } else {
+        block.line
+    }
+}
+
 impl Asking<'_> {
     /// Whether an access lies outside of the object that its base names.
     fn is_outside(&self, origin: Option<Origin>, from: i64, to: i64) -> bool {
-        if let Some(origin) = origin
-            && let Some(number) = named_object(self.program, &origin)
-            && let Some(object) = self.program.objects.get(number)
-        {
-            return from < i64::from(object.start) || to > end_of(object);
+        let Some(origin) = origin else {
+            return false;
+        };
+        let Some(number) = named_object(self.program, &origin) else {
+            return false;
+        };
+        if number >= self.program.objects.len() {
+            return false;
         }
-        false
+        let object = &self.program.objects[number];
+        from < i64::from(object.start) || to > end_of(object)
     }
 
     /// What isn't shown of an access.
     fn lack_of_access(
         &self,
         transfer: Transfer,
+        parts: (Reg, Operand),
         range: Range,
         origin: Option<Origin>,
     ) -> Option<Lack> {
@@ -120,6 +161,7 @@ impl Asking<'_> {
             size,
             writes,
             origin,
+            parts,
         }))
     }
 
@@ -134,106 +176,114 @@ impl Asking<'_> {
         None
     }
 
-    /// What isn't shown of the step at a place of a block, which is no call.
+    /// What isn't shown of a step at a place of a block, which is no call.
     fn lack_of(
         &self,
-        function: &Function,
+        frame: u32,
         block: &Block,
         trace: &Trace,
-        place: usize,
+        (place, instr): (usize, &Instr),
         state: &State,
     ) -> Option<Lack> {
-        let step = block.steps.get(place)?;
-        let effects = effects_of(function.frame, &step.instr);
-        let undefined = match effects.word_read {
-            Some(word) if state.range(word).is_none() => Some(word),
-            _ => undefined_register(effects.reads, state),
-        };
-        if let Some(location) = undefined {
+        if let Some(location) = undefined_location(&effects_of(frame, instr), state) {
             return Some(Lack::Defined(location));
         }
-        let operands = trace.at(place);
-        match operation_of(&step.instr) {
-            Operation::Divide(_, fields) => {
-                let divisor = operands[1]?;
-                if excludes_zero(divisor) {
+        let [first, second] = trace.at(place);
+        match operation_of(instr) {
+            Operation::Divide(_, fields) => lack_of_divisor(fields.operand2, second),
+            Operation::Transfer(transfer, fields) => {
+                let Some(first) = first else {
                     return None;
-                }
-                Some(Lack::Divisible(fields.operand2, divisor))
-            }
-            Operation::Transfer(transfer, _) => {
-                let range = range_of_address(operands[0]?, operands[1]?);
-                let origin = origin_of(function.frame, block, trace, place);
-                self.lack_of_access(transfer, range, origin)
+                };
+                let Some(second) = second else {
+                    return None;
+                };
+                let range = range_of_address(first, second);
+                let origin = origin_of(frame, block, trace, place);
+                let parts = (fields.rs1, fields.operand2);
+                self.lack_of_access(transfer, parts, range, origin)
             }
             _ => None,
         }
     }
 
-    /// Asks the steps of a block one after the other. Of a call its slot is run before it is asked.
-    fn ask_steps(
+    /// What isn't shown of the end of a block.
+    fn lack_at_end(
         &self,
-        code: &Function,
-        (number, block): (usize, &Block),
-        trace: &Trace,
-        state: &mut State,
-        asks: &mut Vec<Ask>,
-    ) -> Result<(), AllocError> {
-        for (place, step) in block.steps.iter().enumerate() {
-            let lack = match step.callee {
-                Some(callee) => {
-                    run_to_call(code.frame, step, state);
-                    let lack = self.lack_of_call(callee, state);
-                    return_from(self.ranges.results(), callee, state);
-                    lack
-                }
-                None => {
-                    let lack = self.lack_of(code, block, trace, place, state);
-                    state.transfer(code.frame, &step.instr);
-                    lack
-                }
-            };
-            if let Some(lack) = lack {
-                asks.push(Ask {
-                    block: number,
-                    place,
-                    line: step.line,
-                    lack,
-                })?;
-            }
+        (number, code): (usize, &Function),
+        end: &End,
+        state: &State,
+    ) -> Option<Lack> {
+        let results = self.ranges.results();
+        let left = if number < results.len() {
+            results[number].len().min(6) as u8
+        } else {
+            0
+        };
+        match undefined_register(read_at_end(code, left, end), state) {
+            Some(location) => Some(Lack::Defined(location)),
+            None => None,
         }
-        Ok(())
     }
 
-    /// Asks a block, from its beginning on, and then its end, if control comes to it.
+    /// What isn't shown of the step at a place of a block, or of its end behind the last one; the state is then that
+    /// behind the step. Of a call its slot is run before it is asked.
+    fn next_lack(
+        &self,
+        (number, code): (usize, &Function),
+        block: &Block,
+        trace: &Trace,
+        place: usize,
+        state: &mut State,
+    ) -> Option<Lack> {
+        if place >= block.steps.len() {
+            return self.lack_at_end((number, code), &block.end, state);
+        }
+        let (frame, step) = (code.frame, &block.steps[place]);
+        match step.callee {
+            Some(callee) => {
+                run_to_call(frame, step, state);
+                let lack = self.lack_of_call(callee, state);
+                return_from(self.ranges.results(), callee, state);
+                lack
+            }
+            None => {
+                let lack = self.lack_of(frame, block, trace, (place, &step.instr), state);
+                state.transfer(frame, &step.instr);
+                lack
+            }
+        }
+    }
+
+    /// Asks a block, from its beginning to its end, if control comes to it.
     fn ask_block(
         &self,
         (function, code): (usize, &Function),
         (number, block): (usize, &Block),
         state: &mut State,
         asks: &mut Vec<Ask>,
-    ) -> Result<(), AllocError> {
+        memory: &mut Memory,
+    ) {
         let (program, ranges) = (self.program, self.ranges);
         if !ranges.begin_block(program, function, number, state) {
-            return Ok(());
+            return;
         }
-        let trace = trace_of(self.alloc, code.frame, ranges.results(), block, state)?;
-        ranges.begin_block(program, function, number, state);
-        self.ask_steps(code, (number, block), &trace, state, asks)?;
-        let results = match ranges.results().get(function) {
-            Some(results) => results.len().min(6) as u8,
-            None => 0,
+        let trace = match trace_of(self.alloc, code.frame, ranges.results(), block, state) {
+            Ok(trace) => trace,
+            Err(error) => return memory.take(Err(error)),
         };
-        let read = read_at_end(code, results, &block.end);
-        if let Some(location) = undefined_register(read, state) {
-            asks.push(Ask {
-                block: number,
-                place: block.steps.len(),
-                line: block.line,
-                lack: Lack::Defined(location),
-            })?;
+        ranges.begin_block(program, function, number, state);
+        for place in 0..block.steps.len().saturating_add(1) {
+            if let Some(lack) = self.next_lack((function, code), block, &trace, place, state) {
+                let ask = Ask {
+                    block: number,
+                    place,
+                    line: line_at(block, place),
+                    lack,
+                };
+                memory.push(asks, ask);
+            }
         }
-        Ok(())
     }
 }
 
@@ -244,10 +294,14 @@ pub fn asks_of(
     state: &mut State,
 ) -> Result<Vec<Ask>, AllocError> {
     let mut asks = Vec::new(asking.alloc);
-    if let Some(code) = asking.program.functions.get(function) {
-        for (number, block) in code.blocks.iter().enumerate() {
-            asking.ask_block((function, code), (number, block), state, &mut asks)?;
+    let mut memory = Memory::new();
+    if function < asking.program.functions.len() {
+        let code = &asking.program.functions[function];
+        for number in 0..code.blocks.len() {
+            let block = (number, &code.blocks[number]);
+            asking.ask_block((function, code), block, state, &mut asks, &mut memory);
         }
     }
+    memory.told()?;
     Ok(asks)
 }

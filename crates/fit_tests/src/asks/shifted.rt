@@ -2,12 +2,12 @@
 //! number there whose low bits are right, as 1,073,741,823 for -1 before a shift by 2; with the small one the sum
 //! doesn't overflow.
 use crate::cuts::by_immediate;
+use fit_graph::run_step;
 use fit_code::{Block, End, Program};
 use fit_graph::{Locations, effects_of};
-use fit_ranges::{Ranges, Trace, trace_of};
+use fit_ranges::Ranges;
 use sbx_domain::State;
-use sbx_range::{Range, is_single};
-use std::alloc::{AllocError, Global};
+use sbx_range::is_single;
 use v8_formats::{Instr, Operand, Three};
 
 /// Numbers of at least this magnitude are looked at.
@@ -16,20 +16,34 @@ const GREAT: u32 = 1 << 24;
 /// No shift is so far.
 const NONE: u32 = 32;
 
-/// Whether a register is live behind a block's steps, or may be, where these locations are where blocks begin.
+/// Whether a register is live where a block begins, where these locations are.
+fn is_live_at(live: &[Locations], block: usize, register: u8) -> bool {
+    block < live.len() && live[block].has(u16::from(register))
+}
+
+/// The same behind a block's steps, or whether it may be.
 fn is_live_behind(block: &Block, live: &[Locations], register: u8) -> bool {
-    if matches!(block.end, End::Return(_) | End::Exit) {
-        return true;
-    }
-    for to in &block.end.ways() {
-        if let Some(to) = to
-            && let Some(set) = live.get(*to)
-            && set.has(u16::from(register))
-        {
-            return true;
+    match block.end {
+        End::Jump(to) => is_live_at(live, to, register),
+        End::Branch { taken, next, .. } => {
+            is_live_at(live, taken, register) || is_live_at(live, next, register)
         }
+        End::Return(_) | End::Exit => true,
     }
-    false
+}
+
+/// How far a step shifts a register's word to the left, if that is what it does.
+fn shift_of(instr: &Instr, register: u8) -> Option<u32> {
+    match instr {
+        Instr::Sll(
+            Three {
+                rs1,
+                operand2: Operand::Immediate(count),
+                ..
+            },
+        ) if rs1.number() == register => Some(count % 32),
+        _ => None,
+    }
 }
 
 /// The least of the shifts that read a register from a place of a block on, before it is written again; nothing where
@@ -39,62 +53,79 @@ fn least_shift(
     block: &Block,
     place: usize,
     register: u8,
-    is_live: bool,
+    live: &[Locations],
 ) -> Option<u32> {
     let bit = 1u32 << (register % 32);
-    let mut is_live = is_live;
     let mut least = NONE;
-    for step in block.steps.get(place..).unwrap_or(&[]) {
+    for at in place..block.steps.len() {
+        let step = &block.steps[at];
         let effects = effects_of(frame, &step.instr);
         if step.callee.is_some() && bit & 0xfffe != 0 {
             return None;
         }
         if effects.reads & bit != 0 {
-            match step.instr {
-                Instr::Sll(
-                    Three {
-                        rs1,
-                        operand2: Operand::Immediate(count),
-                        ..
-                    },
-                ) if rs1.number() == register => least = least.min(count % 32),
-                _ => return None,
-            }
+            let Some(count) = shift_of(&step.instr, register) else {
+                return None;
+            };
+            least = least.min(count);
         }
         if effects.writes & bit != 0 {
-            is_live = false;
-            break;
+            return if least == NONE { None } else { Some(least) };
         }
     }
-    if is_live || least == NONE {
+    if least == NONE || is_live_behind(block, live, register) {
         None
     } else {
         Some(least)
     }
 }
 
+/// The number that has the same low bits as another one, but for so many high ones that a shift pushes out.
+fn small_for(number: i32, count: u32) -> i32 {
+    let count = count % 32;
+    let shifted = number.cast_unsigned().wrapping_mul(1u32 << count);
+    shifted.cast_signed() >> count
+}
+
+/// The great number that is known of a second operand, if one is.
+fn great_in(operand: Operand, state: &State) -> Option<i32> {
+    let Operand::Register(second) = operand else {
+        return None;
+    };
+    let Some(number) = state.range(u16::from(second.number())) else {
+        return None;
+    };
+    if is_single(number) && number.lo.unsigned_abs() >= GREAT {
+        Some(number.lo)
+    } else {
+        None
+    }
+}
+
 /// What a step adds that may add a small number in the place of a great one: the number from -4096 to 4095 that has the
-/// same low bits, but for those that the shifts push out.
+/// same low bits, but for those that the shifts push out. The state is that before the step.
 fn shorter(
     frame: u32,
     block: &Block,
     place: usize,
-    second: Option<Range>,
     live: &[Locations],
+    state: &State,
 ) -> Option<Three> {
-    let number = second?;
-    let Instr::Add(fields) = block.steps.get(place)?.instr else {
-        return None;
-    };
-    if !is_single(number) || number.lo.unsigned_abs() < GREAT {
+    if place >= block.steps.len() {
         return None;
     }
+    let Instr::Add(fields) = block.steps[place].instr else {
+        return None;
+    };
+    let Some(number) = great_in(fields.operand2, state) else {
+        return None;
+    };
     let register = fields.rd.number();
-    let is_live = is_live_behind(block, live, register);
     let behind = place.saturating_add(1);
-    let count = least_shift(frame, block, behind, register, is_live)? % 32;
-    let shifted = number.lo.cast_unsigned().wrapping_mul(1u32 << count);
-    let small = shifted.cast_signed() >> count;
+    let Some(count) = least_shift(frame, block, behind, register, live) else {
+        return None;
+    };
+    let small = small_for(number, count);
     if (-4096..=4095).contains(&small) {
         Some(by_immediate(register, fields.rs1.number(), small))
     } else {
@@ -102,35 +133,35 @@ fn shorter(
     }
 }
 
-/// Lets the steps of a block of which this is the trace add small numbers where they may; says whether one does that
-/// didn't.
-fn shorten_steps(frame: u32, block: &mut Block, trace: &Trace, live: &[Locations]) -> bool {
-    let mut is_changed = false;
-    for (place, operands) in trace.operands.iter().enumerate() {
-        if let Some(fields) = shorter(frame, block, place, operands[1], live)
-            && let Some(step) = block.steps.get_mut(place)
-        {
-            step.instr = Instr::Add(fields);
-            is_changed = true;
-        }
-    }
-    is_changed
-}
-
-/// The same of a block by the numbers of its function and its own, if control comes to it.
+/// Lets the steps of a block, by the numbers of its function and its own, add small numbers where they may, if control
+/// comes to it; says whether one does that didn't.
 pub fn shorten_block(
-    alloc: Global,
     program: &mut Program,
     ranges: &Ranges,
     (function, number): (usize, usize),
     state: &mut State,
-) -> Result<bool, AllocError> {
-    if ranges.begin_block(program, function, number, state)
-        && let Some(code) = program.functions.get_mut(function)
-        && let Some(block) = code.blocks.get_mut(number)
+) -> bool {
+    if !ranges.begin_block(program, function, number, state)
+        || function >= program.functions.len()
     {
-        let trace = trace_of(alloc, code.frame, ranges.results(), block, state)?;
-        return Ok(shorten_steps(code.frame, block, &trace, ranges.live(function)));
+        return false;
     }
-    Ok(false)
+    let code = &mut program.functions[function];
+    if number >= code.blocks.len() {
+        return false;
+    }
+    let block = &mut code.blocks[number];
+    let mut is_changed = false;
+    for place in 0..block.steps.len() {
+        let found = shorter(code.frame, block, place, ranges.live(function), state);
+        if place < block.steps.len() {
+            let step = &mut block.steps[place];
+            run_step(code.frame, ranges.results(), step, state);
+            if let Some(fields) = found {
+                step.instr = Instr::Add(fields);
+                is_changed = true;
+            }
+        }
+    }
+    is_changed
 }

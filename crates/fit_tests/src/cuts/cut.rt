@@ -1,4 +1,5 @@
 //! Blocks in two.
+use crate::cuts::memory::Memory;
 use fit_code::{Block, End, Function, Line, Step};
 use std::alloc::{AllocError, Global};
 use v8_formats::Instr;
@@ -11,13 +12,14 @@ pub fn push_instrs(
 ) -> Result<(), AllocError> {
     for instr in instrs {
         if let Some(instr) = *instr {
-            steps.push(Step {
+            let step = Step {
                 instr,
                 line,
                 callee: None,
                 object: None,
                 slot: None,
-            })?;
+            };
+            steps.extend_from_slice(&[step])?;
         }
     }
     Ok(())
@@ -31,20 +33,19 @@ pub fn insert_instr(
     instr: Instr,
     line: Line,
 ) -> Result<(), AllocError> {
-    let Some(block) = function.blocks.get_mut(number) else {
+    if number >= function.blocks.len() {
         return Ok(());
-    };
+    }
+    let block = &mut function.blocks[number];
     if place <= block.steps.len() {
-        block.steps.insert(
-            place,
-            Step {
-                instr,
-                line,
-                callee: None,
-                object: None,
-                slot: None,
-            },
-        )?;
+        let step = Step {
+            instr,
+            line,
+            callee: None,
+            object: None,
+            slot: None,
+        };
+        block.steps.insert(place, step)?;
     }
     Ok(())
 }
@@ -65,24 +66,50 @@ pub fn push_block(
     Ok(block)
 }
 
-/// A copy of a block's steps from a place on, and of its end, as a new block, whose number this is.
+/// A new block of instructions that call nobody, behind the others.
+pub fn push_made(
+    alloc: Global,
+    function: &mut Function,
+    instrs: &[Option<Instr>],
+    (end, line): (End, Line),
+    memory: &mut Memory,
+) {
+    memory.take(match push_block(alloc, function, end, line) {
+        Ok(block) => push_instrs(&mut block.steps, instrs, line),
+        Err(error) => Err(error),
+    });
+}
+
+/// Puts a copy of a block's steps from a place on, and of its end, behind the other blocks.
 pub fn copy_block(
     alloc: Global,
     function: &mut Function,
     number: usize,
     place: usize,
-) -> Result<usize, AllocError> {
-    let copy = function.blocks.len();
-    if let Some(block) = function.blocks.get(number) {
-        let copied = Block {
-            steps: Vec::from_slice(alloc, block.steps.get(place..).unwrap_or(&[]))?,
-            end: block.end,
-            slot: block.slot,
-            line: block.line,
-        };
-        function.blocks.push(copied)?;
+    memory: &mut Memory,
+) {
+    if number >= function.blocks.len() {
+        return;
     }
-    Ok(copy)
+    let Block {
+        steps,
+        end,
+        slot,
+        line,
+    } = &function.blocks[number];
+    let (end, slot, line) = (*end, *slot, *line);
+    match Vec::from_slice(alloc, steps.get(place..).unwrap_or(&[])) {
+        Ok(steps) => {
+            let copied = Block {
+                steps,
+                end,
+                slot,
+                line,
+            };
+            memory.push(&mut function.blocks, copied);
+        }
+        Err(error) => memory.take(Err(error)),
+    }
 }
 
 /// Cuts a block before the step at a place. What was behind it stands in a new block, whose number this is, and to
@@ -92,12 +119,15 @@ pub fn cut_block(
     function: &mut Function,
     number: usize,
     place: usize,
-) -> Result<usize, AllocError> {
-    let rest = copy_block(alloc, function, number, place)?;
-    if let Some(block) = function.blocks.get_mut(number) {
+    memory: &mut Memory,
+) -> usize {
+    let rest = function.blocks.len();
+    copy_block(alloc, function, number, place, memory);
+    if number < function.blocks.len() {
+        let block = &mut function.blocks[number];
         block.steps.truncate(place);
         block.end = End::Jump(rest);
         block.slot = None;
     }
-    Ok(rest)
+    rest
 }

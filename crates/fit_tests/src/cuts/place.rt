@@ -1,5 +1,5 @@
 //! What is in use between two steps of a block.
-use fit_code::{Block, End};
+use fit_code::{Block, End, Step};
 use fit_graph::effects_of;
 use v8_formats::Instr;
 use v8_meaning::{Op, Operation, operation_of};
@@ -63,38 +63,53 @@ pub struct InUse {
     pub scratch: bool,
 }
 
-/// What is in use before the step at a place of a block. A call leaves it undefined.
-pub fn in_use(frame: u32, block: &Block, place: usize) -> InUse {
-    let (mut codes, mut y) = (Use::Nothing, Use::Nothing);
-    let (mut read, mut written) = (0, 0);
-    for step in block.steps.get(place..).unwrap_or(&[]) {
-        let is_call = step.callee.is_some();
-        if matches!(codes, Use::Nothing) {
-            codes = if is_call {
-                Use::Writes
-            } else {
-                codes_use(&step.instr)
-            };
-        }
-        if matches!(y, Use::Nothing) {
-            y = if is_call {
-                Use::Writes
-            } else {
-                y_use(&step.instr)
-            };
-        }
-        let effects = effects_of(frame, &step.instr);
-        read |= effects.reads & !written;
-        written |= if is_call { SCRATCH } else { effects.writes };
+/// What a step does with the condition codes; a call leaves them undefined.
+fn step_codes(step: &Step) -> Use {
+    match step.callee {
+        Some(_) => Use::Writes,
+        None => codes_use(&step.instr),
     }
-    InUse {
-        codes: match codes {
+}
+
+/// What a step does with Y; a call leaves it undefined.
+fn step_y(step: &Step) -> Use {
+    match step.callee {
+        Some(_) => Use::Writes,
+        None => y_use(&step.instr),
+    }
+}
+
+impl Use {
+    /// Whether something is in use before a step, by whether it is behind it.
+    fn before(self, behind: bool) -> bool {
+        match self {
             Use::Reads => true,
             Use::Writes => false,
-            Use::Nothing => matches!(block.end, End::Branch { .. }),
-        },
-        y: matches!(y, Use::Reads),
-        scratch: read & SCRATCH != 0,
+            Use::Nothing => behind,
+        }
+    }
+}
+
+/// What is in use before the step at a place of a block.
+pub fn in_use(frame: u32, block: &Block, place: usize) -> InUse {
+    let mut codes = matches!(block.end, End::Branch { .. });
+    let mut y = false;
+    let mut registers = 0;
+    for at in (place..block.steps.len()).rev() {
+        let step = &block.steps[at];
+        codes = step_codes(step).before(codes);
+        y = step_y(step).before(y);
+        let effects = effects_of(frame, &step.instr);
+        let written = match step.callee {
+            Some(_) => SCRATCH,
+            None => effects.writes,
+        };
+        registers = effects.reads | registers & !written;
+    }
+    InUse {
+        codes,
+        y,
+        scratch: registers & SCRATCH != 0,
     }
 }
 
@@ -102,21 +117,24 @@ pub fn in_use(frame: u32, block: &Block, place: usize) -> InUse {
 /// before, and what WRY reads stays the same up to the division; and whether it reads no register.
 pub fn y_writer(frame: u32, block: &Block, division: usize) -> Option<(usize, bool)> {
     let mut written = 0;
-    for place in (0..division).rev() {
-        let step = block.steps.get(place)?;
+    for place in (0..division.min(block.steps.len())).rev() {
+        let step = &block.steps[place];
         let effects = effects_of(frame, &step.instr);
-        if let Operation::WriteY(_) = operation_of(&step.instr) {
-            let is_same = effects.reads & written == 0;
-            return if is_same {
-                Some((place, effects.reads == 0))
-            } else {
-                None
-            };
+        if is_y_writer(&step.instr) {
+            if effects.reads & written == 0 {
+                return Some((place, effects.reads == 0));
+            }
+            return None;
         }
-        if step.callee.is_some() || !matches!(y_use(&step.instr), Use::Nothing) {
+        if !matches!(step_y(step), Use::Nothing) {
             return None;
         }
         written |= effects.writes;
     }
     None
+}
+
+/// Whether an instruction is a WRY.
+fn is_y_writer(instr: &Instr) -> bool {
+    matches!(operation_of(instr), Operation::WriteY(_))
 }

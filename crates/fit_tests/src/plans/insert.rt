@@ -1,8 +1,8 @@
 //! The blocks of a test of an address.
-use crate::cuts::{by_immediate, by_register, number_in, push_block, push_instrs};
+use crate::cuts::{Memory, by_immediate, by_register, number_in, push_made};
 use crate::plans::plan::{Plan, Way};
 use fit_code::{End, Function, Line};
-use std::alloc::{AllocError, Global};
+use std::alloc::Global;
 use v8_formats::{Cond, Instr, Three};
 
 /// The registers that tests work with.
@@ -11,6 +11,9 @@ const NUMBER: u8 = 5;
 const FROM: u8 = 6;
 
 const REST: u8 = 7;
+
+/// No instructions.
+const NOTHING: [Option<Instr>; 3] = [None, None, None];
 
 /// The bits that are 0 in a multiple of 2 to a power from 1 to 3.
 fn low_bits(alignment: u8) -> i32 {
@@ -28,6 +31,21 @@ fn back(register: u8, lo: i32) -> Three {
     } else {
         by_register(register, REST, FROM)
     }
+}
+
+/// What gives a register back what a test by a plan took from it before it went beyond, if it took something.
+pub fn given_back(plan: &Plan) -> Option<Instr> {
+    match plan.way {
+        Way::Within { lo, .. } if plan.register == REST => Some(Instr::Add(back(REST, lo))),
+        _ => None,
+    }
+}
+
+/// The end of a function's next block that goes to another one where a condition holds, and else on to the block that
+/// is made then.
+pub fn branch(function: &Function, cond: Cond, taken: usize) -> End {
+    let next = function.blocks.len().saturating_add(1);
+    End::Branch { cond, taken, next }
 }
 
 /// A register compared with a number.
@@ -66,68 +84,60 @@ pub struct Frame {
 }
 
 impl Frame {
-    /// A new block of these instructions that goes on to another one.
-    pub fn push_jump(
+    /// A new block of these instructions.
+    pub fn push(
         &self,
         function: &mut Function,
         instrs: &[Option<Instr>],
-        to: usize,
-    ) -> Result<(), AllocError> {
-        let block = push_block(self.alloc, function, End::Jump(to), self.line)?;
-        push_instrs(&mut block.steps, instrs, self.line)
+        end: End,
+        memory: &mut Memory,
+    ) {
+        push_made(self.alloc, function, instrs, (end, self.line), memory);
     }
 
-    /// A new block of these instructions that goes to another one where a condition holds, and else on to the block
-    /// that is made next.
-    pub fn push_branch(
+    /// The blocks in which what is left of a word is compared, and then given back.
+    fn push_compared(
         &self,
         function: &mut Function,
-        instrs: &[Option<Instr>],
-        cond: Cond,
-        taken: usize,
-    ) -> Result<(), AllocError> {
-        let next = function.blocks.len().saturating_add(1);
-        let end = End::Branch { cond, taken, next };
-        let block = push_block(self.alloc, function, end, self.line)?;
-        push_instrs(&mut block.steps, instrs, self.line)
-    }
-
-    /// A block that gives a register back what a test by a plan took from it before it went beyond; it goes on to the
-    /// block that is made next.
-    pub fn push_restore(&self, function: &mut Function, plan: &Plan) -> Result<(), AllocError> {
-        let next = function.blocks.len().saturating_add(1);
-        let give_back = match plan.way {
-            Way::Within { lo, .. } if plan.register == REST => Some(Instr::Add(back(REST, lo))),
-            _ => None,
-        };
-        self.push_jump(function, &[give_back], next)
+        (mask, difference, compare): (Option<Instr>, [Option<Instr>; 3], [Option<Instr>; 3]),
+        give_back: Option<Instr>,
+        memory: &mut Memory,
+    ) {
+        let ([a, b, c], [d, e, f]) = (difference, compare);
+        let end = branch(function, Cond::GreaterUnsigned, self.beyond);
+        self.push(function, &[mask, a, b, c, d, e, f], end, memory);
+        self.push(function, &[give_back], End::Jump(self.rest), memory);
     }
 
     /// The blocks of a test, behind which control goes on to the rest. The first one of them is the function's next
     /// block. Before a word is compared it is made seen that its low bits are 0; what is left of it once the lower end
     /// of its bounds is subtracted is compared, and it is given back.
-    pub fn push_test(&self, function: &mut Function, plan: &Plan) -> Result<(), AllocError> {
+    pub fn push_test(&self, function: &mut Function, plan: &Plan, memory: &mut Memory) {
         let register = plan.register;
         let mut mask = None;
         if plan.alignment > 0 {
             let low = low_bits(plan.alignment);
             mask = Some(Instr::And(by_immediate(register, register, !low)));
             let test = Some(Instr::AndCc(by_immediate(0, register, low)));
-            self.push_branch(function, &[test], Cond::NotEqual, self.exit)?;
+            let end = branch(function, Cond::NotEqual, self.exit);
+            self.push(function, &[test], end, memory);
         }
-        let (difference, compare, give_back) = match plan.way {
-            Way::Never => return self.push_jump(function, &[], self.beyond),
-            Way::Known => return self.push_jump(function, &[mask], self.rest),
-            Way::Above(hi) => ([None, None, None], comparing(register, hi, FROM), None),
-            Way::Within { lo, length } => (
-                subtracting(register, lo),
-                comparing(REST, length, NUMBER),
-                Some(Instr::Add(back(register, lo))),
-            ),
-        };
-        let ([a, b, c], [d, e, f]) = (difference, compare);
-        let instrs = [mask, a, b, c, d, e, f];
-        self.push_branch(function, &instrs, Cond::GreaterUnsigned, self.beyond)?;
-        self.push_jump(function, &[give_back], self.rest)
+        match plan.way {
+            Way::Never => self.push(function, &[], End::Jump(self.beyond), memory),
+            Way::Known => self.push(function, &[mask], End::Jump(self.rest), memory),
+            Way::Above(hi) => {
+                let compare = comparing(register, hi, FROM);
+                self.push_compared(function, (mask, NOTHING, compare), None, memory);
+            }
+            Way::Within { lo, length } => {
+                let parts = (
+                    mask,
+                    subtracting(register, lo),
+                    comparing(REST, length, NUMBER),
+                );
+                let give_back = Some(Instr::Add(back(register, lo)));
+                self.push_compared(function, parts, give_back, memory);
+            }
+        }
     }
 }

@@ -1,6 +1,5 @@
 //! How an address is tested.
-use fit_code::Program;
-use fit_ranges::{Bounds, Origin, bounds_in_constants};
+use fit_ranges::{Bounds, Origin};
 use sbx_range::{Range, all};
 
 /// What is asked of a register's word.
@@ -16,9 +15,14 @@ pub struct Plan {
 }
 
 impl Plan {
+    /// Whether the word is known to lie within its bounds.
+    pub fn is_known(&self) -> bool {
+        matches!(self.way, Way::Known)
+    }
+
     /// Whether nothing can be said of the word that isn't known.
     pub fn says_nothing(&self) -> bool {
-        matches!(self.way, Way::Known) && self.alignment == 0
+        self.is_known() && self.alignment == 0
     }
 }
 
@@ -35,6 +39,14 @@ pub enum Way {
     Never,
 }
 
+/// A number that is a signed word and not below 0.
+fn above(hi: i64) -> Way {
+    match i32::try_from(hi) {
+        Ok(hi) if hi >= 0 => Way::Above(hi),
+        _ => Way::Never,
+    }
+}
+
 /// Numbers that are signed words, and whose difference is one.
 fn within(lo: i64, hi: i64) -> Way {
     let length = hi.saturating_sub(lo);
@@ -47,20 +59,14 @@ fn within(lo: i64, hi: i64) -> Way {
 /// How a word of a range is seen to lie in bounds, where its multiples are looked at or not.
 fn way_of(range: Range, bounds: &Bounds, alignment: u8) -> Way {
     let (lo, hi) = (bounds.lo, bounds.hi);
-    if hi < lo {
-        return Way::Never;
-    }
     let (least, greatest) = (i64::from(range.lo), i64::from(range.hi));
-    if lo <= least && greatest <= hi {
-        return Way::Known;
-    }
-    if lo == 0 || (lo < 0 && least >= 0) {
-        return match i32::try_from(hi) {
-            Ok(hi) if hi >= 0 => Way::Above(hi),
-            _ => Way::Never,
-        };
-    }
-    if bounds.object.is_none() || alignment > 0 {
+    if hi < lo {
+        Way::Never
+    } else if lo <= least && greatest <= hi {
+        Way::Known
+    } else if lo == 0 || (lo < 0 && least >= 0) {
+        above(hi)
+    } else if bounds.object.is_none() || alignment > 0 {
         // A multiple of 8 that isn't below.
         within(lo.saturating_add(7) & -8, hi)
     } else {
@@ -83,20 +89,4 @@ pub fn plan_in(origin: &Origin, bounds: Bounds, needed: u8) -> Plan {
         alignment,
         way: way_of(range, &bounds, alignment),
     }
-}
-
-/// How a load is tested where it doesn't lie in the data that may be written: among the constants. Nothing where there
-/// are none, or where it was seen by the first plan already.
-pub fn plan_in_constants(
-    program: &Program,
-    origin: &Origin,
-    size: u32,
-    needed: u8,
-    first: &Plan,
-) -> Option<Plan> {
-    if first.bounds.object.is_some() || matches!(first.way, Way::Known) {
-        return None;
-    }
-    let bounds = bounds_in_constants(program, origin, i64::from(size))?;
-    Some(plan_in(origin, bounds, needed))
 }
