@@ -13,145 +13,145 @@ const BYTES: usize = 262_144;
 const PAGE: u32 = 4_096;
 
 impl Source {
-    /// A label in the data: an object begins there, but where nothing stands between it and the one before.
-    pub(crate) fn label_data(&mut self, symbol: usize, readonly: bool) -> Result<(), Fault> {
-        if let Some(number) = self.object
-            && let Some(object) = self.objects.get(number)
+    /// A label in the data: an object of no bytes yet begins there, aligned as what comes next is, but where one has
+    /// just begun.
+    pub(crate) fn label_data(&mut self, name: &[u8], readonly: bool) {
+        let symbol = self.symbol(name);
+        let number = self.objects.len();
+        if self.in_object
+            && let Some(object) = self.objects.last()
             && object.bytes.is_empty()
         {
-            return self.define(symbol, SymbolPlace::Object(number));
+            return self.define(name, symbol, SymbolPlace::Object(number.saturating_sub(1)));
         }
-        self.begin(symbol, readonly)
+        self.define(name, symbol, SymbolPlace::Object(number));
+        self.in_object = true;
+        let object = Datum {
+            symbol,
+            readonly,
+            align: mem::replace(&mut self.align, 1),
+            bytes: Vec::new(self.alloc),
+            fixes: Vec::new(self.alloc),
+        };
+        if let Err(failed) = self.objects.push(object) {
+            self.note(Fault::from(failed));
+        }
     }
 
-    /// An object of no bytes yet, aligned as what comes next is.
-    fn begin(&mut self, symbol: usize, readonly: bool) -> Result<(), Fault> {
-        let number = self.objects.len();
-        let align = mem::replace(&mut self.align, 1);
-        self.define(symbol, SymbolPlace::Object(number))?;
-        self.object = Some(number);
-        Ok(
-            self.objects.push(Datum {
-                symbol,
-                readonly,
-                align,
-                bytes: Vec::new(self.alloc),
-                fixes: Vec::new(self.alloc),
-            })?,
-        )
-    }
-
-    /// Adds bytes and zeros to the object that is read, which has a label, and aligns them: as many as all may have. A
-    /// fix is that of the first bytes.
-    fn add(&mut self, bytes: &[u8], zeros: usize, fix: Option<(usize, i64)>) -> Result<(), Fault> {
-        let line = self.line();
+    /// Adds zeros, and bytes behind them, to the object that is read, which has a label, and aligns them: as many as
+    /// all may have.
+    fn add(&mut self, zeros: usize, bytes: &[u8]) {
         let align = mem::replace(&mut self.align, 1) as usize;
         let count = bytes.len().saturating_add(zeros);
         self.total = self.total.saturating_add(count);
-        if let Some(number) = self.object
-            && let Some(object) = self.objects.get_mut(number)
+        if self.in_object
+            && let Some(object) = self.objects.last_mut()
         {
             let length = object.bytes.len();
             let at = length.checked_next_multiple_of(align).unwrap_or(length);
             self.total = self.total.saturating_add(at.saturating_sub(length));
             if self.total <= BYTES {
-                object.bytes.resize(at, 0)?;
-                object.bytes.extend_from_slice(bytes)?;
-                object.bytes.resize(at.saturating_add(count), 0)?;
-                if let Some((symbol, offset)) = fix {
-                    object.fixes.push(Fix {
-                        at,
-                        symbol,
-                        offset,
-                        line,
-                    })?;
+                let resized = object.bytes.resize(at.saturating_add(zeros), 0);
+                let extended = object.bytes.extend_from_slice(bytes);
+                if let Err(error) = resized.and(extended) {
+                    self.note(Fault::from(error));
                 }
-                return Ok(());
+                return;
             }
         } else if self.total <= BYTES {
-            return Err(self.unreadable("data without a label"));
+            return self.unreadable("data without a label");
         }
-        Err(self.too_many("bytes of data", 262_144))
+        self.too_many("bytes of data", 262_144)
     }
 
     /// One value of so many bytes, the most significant byte first.
-    pub(crate) fn value(&mut self, size: usize, text: &[u8]) -> Result<(), Fault> {
+    pub(crate) fn value(&mut self, size: usize, text: &[u8]) {
         let Some((name, number)) = expression_of(text) else {
-            let what = "a value that is no number, name or name and number";
-            return Err(self.unreadable(what));
+            return self.unreadable("a value that is no number, name or name and number");
         };
         if name.is_empty() {
             let bytes = ((number as i128).rem_euclid(0x1_0000_0000) as u32).to_be_bytes();
-            return self.add(
-                bytes_between(&bytes, 4usize.saturating_sub(size), 4),
-                0,
-                None,
-            );
+            let start = 4usize.saturating_sub(size);
+            return self.add(0, bytes_between(&bytes, start, 4));
         }
         if size != 4 {
-            return Err(self.unreadable("an address that is no word"));
+            self.unreadable("an address that is no word");
         }
-        let symbol = self.symbol(name)?;
-        self.add(&[], 4, Some((symbol, number)))
+        let symbol = self.symbol(name);
+        self.add(4, &[]);
+        let line = self.line();
+        if let Some(object) = self.objects.last_mut() {
+            let fix = Fix {
+                at: object.bytes.len().saturating_sub(4),
+                symbol,
+                offset: number,
+                line,
+            };
+            if let Err(failed) = object.fixes.push(fix) {
+                self.note(Fault::from(failed));
+            }
+        }
     }
 
     /// One string, with a zero behind it or not.
-    pub(crate) fn string(&mut self, ends: bool, text: &[u8]) -> Result<(), Fault> {
+    pub(crate) fn string(&mut self, ends: bool, text: &[u8]) {
         let mut bytes = Vec::new(self.alloc);
-        if !push_string(text, ends, &mut bytes)? {
-            return Err(self.unreadable("a string that can't be read"));
+        match push_string(text, ends, &mut bytes) {
+            Ok(true) => self.add(0, bytes.as_slice()),
+            Ok(false) => self.unreadable("a string that can't be read"),
+            Err(error) => self.note(Fault::from(error)),
         }
-        self.add(bytes.as_slice(), 0, None)
     }
 
     /// A number from 0 up to a bound.
-    fn natural(&self, text: &[u8], most: u32) -> Result<u32, Fault> {
+    fn natural(&mut self, text: &[u8], most: u32) -> u32 {
         match number_of(text) {
-            Some(number) if 0 <= number && number <= i64::from(most) => Ok(number as u32),
-            _ => Err(self.unreadable("a number that is none, or too great")),
+            Some(number) if 0 <= number && number <= i64::from(most) => number as u32,
+            _ => {
+                self.unreadable("a number that is none, or too great");
+                0
+            }
         }
     }
 
     /// So many zeros.
-    pub(crate) fn room(&mut self, text: &[u8]) -> Result<(), Fault> {
+    pub(crate) fn room(&mut self, text: &[u8]) {
         let (first, _) = first_operand(text);
-        let bytes = self.natural(first, 0xffff_ffff)?;
-        self.add(&[], bytes as usize, None)
+        let bytes = self.natural(first, 0xffff_ffff);
+        self.add(bytes as usize, &[])
     }
 
     /// What the next data are aligned to: a power of 2.
-    pub(crate) fn aligned(&mut self, text: &[u8], is_power: bool) -> Result<(), Fault> {
+    pub(crate) fn aligned(&mut self, text: &[u8], is_power: bool) {
         let (first, _) = first_operand(text);
-        let number = self.natural(first, PAGE)?;
+        let number = self.natural(first, PAGE);
         let align = if is_power {
             1u32.checked_shl(number).unwrap_or(0)
         } else {
             number
         };
         if !align.is_power_of_two() || align > PAGE {
-            return Err(self.unreadable("an alignment that is no power of 2, or above 4096"));
+            self.unreadable("an alignment that is no power of 2, or above 4096");
         }
         self.align = self.align.max(align);
-        Ok(())
     }
 
     /// `NAME,BYTES,ALIGN`: an object of zeros.
-    pub(crate) fn common(&mut self, text: &[u8]) -> Result<(), Fault> {
+    pub(crate) fn common(&mut self, text: &[u8]) {
         let (name, rest) = first_operand(text);
         let (bytes, align) = first_operand(rest);
         if !is_name(name) {
-            return Err(self.named(Naming::Label, name));
+            self.named(Naming::Label, name);
         }
-        let count = self.natural(bytes, 0xffff_ffff)?;
+        let count = self.natural(bytes, 0xffff_ffff);
         let before = mem::replace(&mut self.align, 8);
         if !align.is_empty() {
-            self.aligned(align, false)?;
+            self.aligned(align, false);
         }
-        let symbol = self.symbol(name)?;
-        self.begin(symbol, false)?;
-        self.add(&[], count as usize, None)?;
-        self.object = None;
+        self.in_object = false;
+        self.label_data(name, false);
+        self.add(count as usize, &[]);
+        self.in_object = false;
         self.align = before;
-        Ok(())
     }
 }

@@ -20,8 +20,7 @@ fn base_name(path: &[u8]) -> &[u8] {
 enum Directive {
     Section,
     Enter(Section),
-    Align,
-    PowerAlign,
+    Align { is_power: bool },
     Common,
     Global,
     Type,
@@ -41,9 +40,9 @@ static DIRECTIVES: [(&str, Directive); 39] = [
     (".text", Directive::Enter(Section::Code)),
     (".data", Directive::Enter(WRITABLE)),
     (".bss", Directive::Enter(WRITABLE)),
-    (".align", Directive::Align),
-    (".balign", Directive::Align),
-    (".p2align", Directive::PowerAlign),
+    (".align", Directive::Align { is_power: false }),
+    (".balign", Directive::Align { is_power: false }),
+    (".p2align", Directive::Align { is_power: true }),
     (".comm", Directive::Common),
     (".common", Directive::Common),
     (".global", Directive::Global),
@@ -94,124 +93,104 @@ static SECTIONS: [(&str, Section); 11] = [
 ];
 
 impl Source {
-    fn section_line(&mut self, text: &[u8]) -> Result<(), Fault> {
+    fn section_line(&mut self, text: &[u8]) {
         let (first, _) = first_operand(text);
         let name = unquoted(first).unwrap_or(first);
         for (start, section) in &SECTIONS {
             if name.starts_with(start.as_bytes()) {
-                self.enter(*section);
-                return Ok(());
+                return self.enter(*section);
             }
         }
-        Err(self.named(Naming::Section, name))
+        self.named(Naming::Section, name)
     }
 
     /// A name is the same in all files, or is a function's.
-    fn mark(&mut self, name: &[u8], is_global: bool) -> Result<(), Fault> {
-        let symbol = self.symbol(name)?;
+    fn mark(&mut self, name: &[u8], is_global: bool) {
+        let symbol = self.symbol(name);
         if let Some(found) = self.symbols.get_mut(symbol) {
-            if is_global {
-                found.is_global = true;
-            } else {
-                found.is_function = true;
-            }
+            found.is_global |= is_global;
+            found.is_function |= !is_global;
         }
-        Ok(())
     }
 
     /// `NAME,#function`, or `@function`; other types don't matter.
-    fn type_line(&mut self, text: &[u8]) -> Result<(), Fault> {
+    fn type_line(&mut self, text: &[u8]) {
         let (name, kind) = first_operand(text);
         if kind.ends_with(b"function") {
             self.mark(name, false)
-        } else if is_name(name) {
-            Ok(())
-        } else {
-            Err(self.named(Naming::Label, name))
+        } else if !is_name(name) {
+            self.named(Naming::Label, name)
         }
     }
 
     /// `NUMBER "FOLDER" "NAME"`, where the folder may be left out; a name alone is the assembly's own.
-    fn file_line(&mut self, text: &[u8]) -> Result<(), Fault> {
+    fn file_line(&mut self, text: &[u8]) {
         let (number, rest) = first_word(text);
         let Some(number) = number_of(number) else {
-            return Ok(());
+            return;
         };
-        let (first, second) = first_word(rest);
-        let path = if second.is_empty() {
-            first
-        } else {
-            first_word(second).0
-        };
+        let (first, behind) = first_word(rest);
+        let (second, _) = first_word(behind);
+        let path = if second.is_empty() { first } else { second };
         let path = unquoted(path).unwrap_or(path);
-        let file = self.add_file(base_name(path))?;
-        self.numbered.insert(number, file)?;
-        Ok(())
+        let file = self.add_file(base_name(path));
+        if let Err(failed) = self.numbered.insert(number, file) {
+            self.note(Fault::from(failed));
+        }
     }
 
     /// `FILE LINE ..`
     fn loc_line(&mut self, text: &[u8]) {
         let (file, rest) = first_word(text);
         let (number, _) = first_word(rest);
-        if let Some(file) = number_of(file)
+        let number = u32::try_from(number_of(number).unwrap_or(0)).unwrap_or(0);
+        if number > 0
+            && let Some(file) = number_of(file)
             && let Some(file) = self.numbered.get(&file)
-            && let Some(number) = number_of(number)
-            && 0 < number
-            && number < 0x1_0000_0000
         {
-            self.origin = Some(Line {
-                file: *file,
-                number: number as u32,
-            });
+            let file = *file;
+            self.origin = Some(Line { file, number });
         }
     }
 
     /// Values or strings, with commas between them.
-    fn data_list(&mut self, directive: Directive, text: &[u8]) -> Result<(), Fault> {
+    fn data_list(&mut self, directive: Directive, text: &[u8]) {
         let mut rest = text;
         for _ in 0..text.len() {
             let (first, others) = first_operand(rest);
             match directive {
                 Directive::Values(size) => self.value(size, first),
                 Directive::Strings { ends } => self.string(ends, first),
-                _ => Ok(()),
-            }?;
+                _ => {}
+            }
             rest = others;
             if rest.is_empty() {
                 break;
             }
         }
-        Ok(())
     }
 
     /// A directive, and what stands behind it. One of data has to stand in a section of data; one that aligns may stand
     /// among instructions.
-    pub(crate) fn directive(&mut self, name: &[u8], text: &[u8]) -> Result<(), Fault> {
+    pub(crate) fn directive(&mut self, name: &[u8], text: &[u8]) {
         let Some(directive) = beside(name, &DIRECTIVES) else {
-            if matches!(self.section, Section::Ignored) || name.starts_with(b".cfi_") {
-                return Ok(());
+            if !matches!(self.section, Section::Ignored) && !name.starts_with(b".cfi_") {
+                self.named(Naming::Directive, name);
             }
-            return Err(self.named(Naming::Directive, name));
+            return;
         };
         match (directive, self.section) {
-            (Directive::Enter(section), _) => {
-                self.enter(section);
-                Ok(())
-            }
+            (Directive::Enter(section), _) => self.enter(section),
             (Directive::Section, _) => self.section_line(text),
             (Directive::Common, _) => self.common(text),
             (Directive::Global, _) => self.mark(text, true),
             (Directive::Type, _) => self.type_line(text),
             (Directive::File, _) => self.file_line(text),
-            (Directive::Loc, _) => {
-                self.loc_line(text);
-                Ok(())
-            }
-            (Directive::Nothing, _) | (_, Section::Ignored) => Ok(()),
-            (Directive::Align | Directive::PowerAlign, Section::Code) => Ok(()),
-            (_, Section::Code) => Err(self.unreadable("data among instructions")),
-            (Directive::Align, _) => self.aligned(text, false),
-            (Directive::PowerAlign, _) => self.aligned(text, true),
+            (Directive::Loc, _) => self.loc_line(text),
+            (Directive::Nothing, _) | (_, Section::Ignored) => {}
+            (Directive::Align { .. }, Section::Code) => {}
+            (_, Section::Code) => self.unreadable("data among instructions"),
+            (Directive::Align { is_power }, _) => self.aligned(text, is_power),
             (Directive::Room, _) => self.room(text),
             _ => self.data_list(directive, text),
         }

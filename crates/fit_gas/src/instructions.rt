@@ -1,10 +1,10 @@
 //! Instructions: the assembler's own spellings over the statements of the source language.
 use crate::source::{Item, Part, Reference, Source};
-use crate::text::{expression_of, first_operand};
+use crate::text::{expression_of, first_operand, place_of};
 use fit_code::{Fault, Naming, Reason};
-use sbx_text::{TextFault, push_tokens};
+use sbx_text::{TextFault, tokens};
 use v8_formats::{Instr, encode};
-use v8_syntax::{Symbols, SyntaxFault, bytes_between, is_same, parse_instr};
+use v8_syntax::{Symbols, SyntaxFault, beside, bytes_between, is_same, parse_instr};
 
 /// A statement stands at address 0, and no name has a value there.
 struct Nameless;
@@ -36,20 +36,21 @@ pub fn with_part(instr: u32, part: Part, word: u32) -> u32 {
     instr | field
 }
 
-/// Where the first parenthesis from a place on closes.
-fn closing_from(text: &[u8], start: usize) -> Option<usize> {
-    for (place, byte) in text.iter().enumerate() {
-        if place >= start && *byte == b')' {
-            return Some(place);
-        }
-    }
-    None
+/// Where a part of an address stands among operands.
+#[derive(Clone, Copy)]
+struct Place {
+    /// Where it begins.
+    at: usize,
+    /// Where what the address is of begins and ends.
+    start: usize,
+    end: usize,
+    part: Part,
 }
 
-/// A part of an address among operands: where it begins, where its parenthesis closes, and which one it is.
-fn part_in(text: &[u8]) -> Option<(usize, usize, Part)> {
-    for start in 0..text.len() {
-        let rest = bytes_between(text, start, text.len());
+/// The first part of an address among operands.
+fn part_in(text: &[u8]) -> Option<Place> {
+    for at in 0..text.len() {
+        let rest = bytes_between(text, at, text.len());
         let part = if rest.starts_with(b"%hi(") {
             Part::High
         } else if rest.starts_with(b"%lo(") {
@@ -57,19 +58,32 @@ fn part_in(text: &[u8]) -> Option<(usize, usize, Part)> {
         } else {
             continue;
         };
-        return Some((start, closing_from(text, start)?, part));
+        let start = at.saturating_add(4);
+        let length = place_of(b')', bytes_between(text, start, text.len()));
+        let end = start.saturating_add(length);
+        if end < text.len() {
+            return Some(Place {
+                at,
+                start,
+                end,
+                part,
+            });
+        }
+        break;
     }
     None
 }
 
 /// Whether a register of the floating-point unit is named.
 fn names_float(text: &[u8]) -> bool {
-    for place in 0..text.len() {
-        if let [b'%', b'f', digit] = bytes_between(text, place, place.saturating_add(3))
-            && digit.is_ascii_digit()
-        {
+    let mut percent = false;
+    let mut float = false;
+    for byte in text {
+        if float && byte.is_ascii_digit() {
             return true;
         }
+        float = percent && *byte == b'f';
+        percent = *byte == b'%';
     }
     false
 }
@@ -82,44 +96,52 @@ fn has_octal(text: &[u8]) -> bool {
         if zero && byte.is_ascii_digit() {
             return true;
         }
-        zero = *byte == b'0' && !before.is_ascii_alphanumeric() && before != b'.' && before != b'_';
+        let is_first = !before.is_ascii_alphanumeric() & (before != b'.') & (before != b'_');
+        zero = is_first & (*byte == b'0');
         before = *byte;
     }
     false
 }
 
-/// Mnemonics that begin as branches do, and are none.
-static BITS: [&str; 4] = ["btst", "bset", "bclr", "btog"];
-
-fn is_branch(word: &[u8]) -> bool {
-    for other in &BITS {
-        if is_same(word, other.as_bytes()) {
-            return false;
-        }
-    }
-    word.starts_with(b"b")
-}
+/// Mnemonics that begin as those of branches or of floating point do, and are others.
+static OTHERS: [(&str, ()); 5] = [
+    ("btst", ()),
+    ("bset", ()),
+    ("bclr", ()),
+    ("btog", ()),
+    ("flush", ()),
+];
 
 impl Source {
-    /// Adds instructions, of a reference whose number is a part of theirs; the last one has some bits besides.
+    /// Adds instructions to the function that is read, of a reference whose number is a part of theirs; the last one
+    /// has some bits besides.
     fn add_instructions(
         &mut self,
         instructions: &[Instr],
         reference: Option<Reference>,
         bits: u32,
-    ) -> Result<(), Fault> {
+    ) {
         let line = self.line();
+        self.count_items(instructions.len());
         let mut left = instructions.len();
         for instr in instructions {
             left = left.saturating_sub(1);
             let word = encode(instr) | if left == 0 { bits } else { 0 };
-            self.add_item(Item {
+            let item = Item {
                 word,
                 line,
                 reference,
-            })?;
+            };
+            if self.in_code
+                && let Some(code) = self.codes.last_mut()
+            {
+                if let Err(failed) = code.items.push(item) {
+                    self.note(Fault::from(failed));
+                }
+            } else {
+                self.unreadable("an instruction outside of a function");
+            }
         }
-        Ok(())
     }
 
     /// A statement of the source language in pieces, which has no name in it; of a reference its number is a part, and
@@ -130,51 +152,39 @@ impl Source {
         pieces: &[&[u8]],
         reference: Option<Reference>,
         bits: u32,
-    ) -> Result<(), Fault> {
-        let line = pieces.concat(self.alloc)?;
-        let mut tokens = Vec::new(self.alloc);
-        match push_tokens(line.as_slice(), &mut tokens) {
-            Ok(()) => {}
-            Err(TextFault::Memory(want)) => return Err(self.fault(Reason::Memory(want))),
-            Err(_) => return Err(self.named(Naming::Operands, word)),
-        }
-        match parse_instr(line.as_slice(), tokens.as_slice(), &Nameless) {
-            Ok(found) => self.add_instructions(found.as_slice(), reference, bits),
-            Err(SyntaxFault::UnknownMnemonic) => Err(self.named(Naming::Instruction, word)),
-            Err(_) => Err(self.named(Naming::Operands, word)),
-        }
-    }
-
-    /// A branch or a call.
-    fn transfer(&mut self, word: &[u8], text: &[u8]) -> Result<(), Fault> {
-        let (operand, _) = first_operand(text);
-        match expression_of(operand) {
-            Some((name, 0)) if !name.is_empty() => {
-                let reference = Reference {
-                    part: Part::Target,
-                    symbol: self.symbol(name)?,
-                    offset: 0,
-                };
-                self.statement(word, &[word, b" 0"], Some(reference), 0)
-            }
-            _ => Err(self.named(Naming::Operands, word)),
-        }
-    }
-
-    /// A statement with `%hi(..)` or `%lo(..)` in it.
-    fn relocated(
-        &mut self,
-        word: &[u8],
-        text: &[u8],
-        place: (usize, usize, Part),
-    ) -> Result<(), Fault> {
-        let (start, end, part) = place;
-        let inner = bytes_between(text, start.saturating_add(4), end);
-        let Some((name, offset)) = expression_of(inner.trim_ascii()) else {
-            return Err(self.named(Naming::Operands, word));
+    ) {
+        let line = match pieces.concat(self.alloc) {
+            Ok(line) => line,
+            Err(error) => return self.note(Fault::from(error)),
         };
-        let before = bytes_between(text, 0, start);
-        let behind = bytes_between(text, end.saturating_add(1), text.len());
+        let found = match tokens(self.alloc, line.as_slice()) {
+            Ok(tokens) => parse_instr(line.as_slice(), tokens.as_slice(), &Nameless),
+            Err(fault) => {
+                if let TextFault::Memory(want) = fault {
+                    self.refuse(Reason::Memory(want));
+                }
+                Err(SyntaxFault::Shape)
+            }
+        };
+        match found {
+            Ok(found) => self.add_instructions(found.as_slice(), reference, bits),
+            Err(SyntaxFault::UnknownMnemonic) => self.named(Naming::Instruction, word),
+            Err(_) => self.named(Naming::Operands, word),
+        }
+    }
+
+    /// A statement with a part of an address among its operands: of a target it is a name alone.
+    fn referring(&mut self, word: &[u8], text: &[u8], place: Place) {
+        let inner = bytes_between(text, place.start, place.end);
+        let Some((name, offset)) = expression_of(inner.trim_ascii()) else {
+            return self.named(Naming::Operands, word);
+        };
+        let part = place.part;
+        if matches!(part, Part::Target) & (name.is_empty() | (offset != 0)) {
+            return self.named(Naming::Operands, word);
+        }
+        let before = bytes_between(text, 0, place.at);
+        let behind = bytes_between(text, place.end.saturating_add(1), text.len());
         let pieces = [word, b" ", before, b"0", behind];
         if name.is_empty() {
             let number = (offset as i128).rem_euclid(0x1_0000_0000) as u32;
@@ -182,29 +192,37 @@ impl Source {
         }
         let reference = Reference {
             part,
-            symbol: self.symbol(name)?,
+            symbol: self.symbol(name),
             offset,
         };
         self.statement(word, &pieces, Some(reference), 0)
     }
 
     /// An instruction, and what stands behind its mnemonic.
-    pub(crate) fn instruction(&mut self, word: &[u8], text: &[u8]) -> Result<(), Fault> {
-        if (word.starts_with(b"f") && !is_same(word, b"flush")) || names_float(text) {
-            return Err(self.named(Naming::Floating, word));
+    pub(crate) fn instruction(&mut self, word: &[u8], text: &[u8]) {
+        let is_plain = beside(word, &OTHERS).is_some();
+        if (word.starts_with(b"f") & !is_plain) | names_float(text) {
+            return self.named(Naming::Floating, word);
         }
         if has_octal(text) {
-            return Err(self.named(Naming::Operands, word));
+            return self.named(Naming::Operands, word);
         }
         let is_call = is_same(word, b"call");
-        if is_call && text.starts_with(b"%") {
-            return Err(self.fault(Reason::CallThroughPointer));
+        if is_call & text.starts_with(b"%") {
+            return self.refuse(Reason::CallThroughPointer);
         }
-        if is_call || is_branch(word) {
-            return self.transfer(word, text);
+        if is_call | (word.starts_with(b"b") & !is_plain) {
+            let (target, _) = first_operand(text);
+            let place = Place {
+                at: 0,
+                start: 0,
+                end: target.len(),
+                part: Part::Target,
+            };
+            return self.referring(word, target, place);
         }
         match part_in(text) {
-            Some(place) => self.relocated(word, text, place),
+            Some(place) => self.referring(word, text, place),
             None => self.statement(word, &[word, b" ", text], None, 0),
         }
     }

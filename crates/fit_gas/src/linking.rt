@@ -1,6 +1,7 @@
 //! What the names of several files stand for.
 use crate::source::{Source, SymbolPlace};
-use fit_code::{Fault, Naming, Reason};
+use fit_code::{Fault, Line, Naming, Reason};
+use std::alloc::Global;
 use std::collections::BTreeMap;
 
 /// Where the symbols of a source stand, in whichever file.
@@ -26,6 +27,14 @@ impl Linked<'_> {
     }
 }
 
+/// A fault that names something.
+pub fn named_fault(alloc: Global, line: Line, naming: Naming, name: &str) -> Fault {
+    match String::from_str(alloc, name) {
+        Ok(name) => Fault::new(line, Reason::Named(naming, name)),
+        Err(error) => Fault::from(error),
+    }
+}
+
 /// Finds where global names stand.
 ///
 /// # Errors
@@ -33,14 +42,12 @@ impl Linked<'_> {
 pub fn links_of(source: &Source) -> Result<Linked<'_>, Fault> {
     let mut globals: BTreeMap<&str, SymbolPlace> = BTreeMap::new(source.alloc);
     for symbol in &source.symbols {
-        if symbol.is_global
-            && !matches!(symbol.place, SymbolPlace::Nowhere)
-            && globals
-                .insert(symbol.name.as_str(), symbol.place)?
-                .is_some()
-        {
-            let name = symbol.name.clone()?;
-            return Err(Fault::new(symbol.line, Reason::Named(Naming::DefinedTwice, name)));
+        if symbol.is_global & !matches!(symbol.place, SymbolPlace::Nowhere) {
+            let before = globals.insert(symbol.name.as_str(), symbol.place)?;
+            if before.is_some() {
+                let naming = Naming::DefinedTwice;
+                return Err(named_fault(source.alloc, symbol.line, naming, symbol.name.as_str()));
+            }
         }
     }
     Ok(Linked { source, globals })

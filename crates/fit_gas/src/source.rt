@@ -1,8 +1,9 @@
 //! What is read of assembly, before its names are resolved.
-use crate::text::{content, first_label, first_word, is_name, shown};
+use crate::text::{content, first_label, first_word, is_name, place_among, shown};
 use fit_code::{Fault, Line, Naming, Reason};
 use std::alloc::Global;
 use std::collections::BTreeMap;
+use v8_syntax::bytes_between;
 
 /// How many names there may be.
 const NAMES: usize = 200_000;
@@ -118,14 +119,16 @@ pub struct Source {
     pub(crate) section: Section,
     /// What the next data are aligned to.
     pub(crate) align: u32,
-    /// The object that data are added to.
-    pub(crate) object: Option<usize>,
-    /// The function that instructions are added to.
-    code: Option<usize>,
+    /// Whether data are added to the last object.
+    pub(crate) in_object: bool,
+    /// Whether instructions are added to the last function.
+    pub(crate) in_code: bool,
     /// The line of assembly.
     place: Line,
     /// The line of C, where one is known.
     pub(crate) origin: Option<Line>,
+    /// The first fault: what is read behind it counts for nothing.
+    fault: Option<Fault>,
 }
 
 impl Source {
@@ -143,10 +146,11 @@ impl Source {
             numbered: BTreeMap::new(alloc),
             section: Section::Code,
             align: 1,
-            object: None,
-            code: None,
+            in_object: false,
+            in_code: false,
             place: Line { file: 0, number: 0 },
             origin: None,
+            fault: None,
         }
     }
 
@@ -155,150 +159,158 @@ impl Source {
         self.origin.unwrap_or(self.place)
     }
 
-    /// A fault at the line that is read.
-    pub(crate) fn fault(&self, reason: Reason) -> Fault {
-        Fault::new(self.line(), reason)
-    }
-
-    /// A fault of what can't be read.
-    pub(crate) fn unreadable(&self, what: &'static str) -> Fault {
-        self.fault(Reason::Unreadable(what))
-    }
-
-    /// A fault of more than there may be.
-    pub(crate) fn too_many(&self, what: &'static str, most: u64) -> Fault {
-        self.fault(Reason::TooMany { what, most })
-    }
-
-    /// A fault that names what stands in the line.
-    pub(crate) fn named(&self, naming: Naming, name: &[u8]) -> Fault {
-        match String::from_str(self.alloc, shown(name)) {
-            Ok(name) => self.fault(Reason::Named(naming, name)),
-            Err(error) => Fault::from(error),
+    /// Notes a fault, of which the first one is told.
+    pub(crate) fn note(&mut self, fault: Fault) {
+        if self.fault.is_none() {
+            self.fault = Some(fault);
         }
+    }
+
+    /// Notes a fault at the line that is read.
+    pub(crate) fn refuse(&mut self, reason: Reason) {
+        self.note(Fault::new(self.line(), reason))
+    }
+
+    /// Notes what can't be read.
+    pub(crate) fn unreadable(&mut self, what: &'static str) {
+        self.refuse(Reason::Unreadable(what))
+    }
+
+    /// Notes that there is more than there may be.
+    pub(crate) fn too_many(&mut self, what: &'static str, most: u64) {
+        self.refuse(Reason::TooMany { what, most })
+    }
+
+    /// A text of its own; an empty one where memory is refused, which is noted.
+    fn owned(&mut self, text: &str) -> String {
+        match String::from_str(self.alloc, text) {
+            Ok(made) => made,
+            Err(error) => {
+                self.note(Fault::from(error));
+                String::new(self.alloc)
+            }
+        }
+    }
+
+    /// Notes a fault that names what stands in the line.
+    pub(crate) fn named(&mut self, naming: Naming, name: &[u8]) {
+        let name = self.owned(shown(name));
+        self.refuse(Reason::Named(naming, name))
     }
 
     /// The number of a file's name, which is new.
-    pub(crate) fn add_file(&mut self, name: &[u8]) -> Result<usize, Fault> {
+    pub(crate) fn add_file(&mut self, name: &[u8]) -> usize {
         let number = self.files.len();
         if number >= NAMES {
-            return Err(self.too_many("files", 200_000));
+            self.too_many("files", 200_000);
         }
-        self.files.push(String::from_str(self.alloc, shown(name))?)?;
-        Ok(number)
+        let name = self.owned(shown(name));
+        if let Err(failed) = self.files.push(name) {
+            self.note(Fault::from(failed));
+        }
+        number
     }
 
     /// The symbol of a name in the file that is read; it has to be one.
-    pub(crate) fn symbol(&mut self, name: &[u8]) -> Result<usize, Fault> {
-        if !is_name(name) {
-            return Err(self.named(Naming::Label, name));
-        }
+    pub(crate) fn symbol(&mut self, name: &[u8]) -> usize {
         let text = shown(name);
         if let Some(number) = self.names.get(text) {
-            return Ok(*number);
+            return *number;
         }
         let number = self.symbols.len();
-        if number >= NAMES {
-            return Err(self.too_many("names", 200_000));
+        if !is_name(name) {
+            self.named(Naming::Label, name);
         }
-        let line = self.line();
-        self.names
-            .insert(String::from_str(self.alloc, text)?, number)?;
-        self.symbols.push(Symbol {
-            name: String::from_str(self.alloc, text)?,
+        if number >= NAMES {
+            self.too_many("names", 200_000);
+        }
+        let key = self.owned(text);
+        if let Err(failed) = self.names.insert(key, number) {
+            self.note(Fault::from(failed));
+        }
+        let symbol = Symbol {
+            name: self.owned(text),
             is_global: false,
             is_function: false,
             place: SymbolPlace::Nowhere,
-            line,
-        })?;
-        Ok(number)
-    }
-
-    /// Says where a symbol stands.
-    pub(crate) fn define(&mut self, symbol: usize, place: SymbolPlace) -> Result<(), Fault> {
-        let line = self.line();
-        if let Some(found) = self.symbols.get_mut(symbol) {
-            if !matches!(found.place, SymbolPlace::Nowhere) {
-                let name = found.name.clone()?;
-                return Err(Fault::new(line, Reason::Named(Naming::DefinedTwice, name)));
-            }
-            found.place = place;
-        }
-        Ok(())
-    }
-
-    /// Counts a label or an instruction, of which there may be so many.
-    fn count_item(&mut self) -> Result<(), Fault> {
-        if self.items >= ITEMS {
-            return Err(self.too_many("labels and instructions", 400_000));
-        }
-        self.items = self.items.saturating_add(1);
-        Ok(())
-    }
-
-    /// Adds an instruction to the function that is read.
-    pub(crate) fn add_item(&mut self, item: Item) -> Result<(), Fault> {
-        self.count_item()?;
-        if let Some(number) = self.code
-            && let Some(code) = self.codes.get_mut(number)
-        {
-            return Ok(code.items.push(item)?);
-        }
-        Err(self.unreadable("an instruction outside of a function"))
-    }
-
-    /// A label of the section that is read; in the code of a function, which begins there, or within one.
-    fn label(&mut self, name: &[u8]) -> Result<(), Fault> {
-        if matches!(self.section, Section::Ignored) {
-            return Ok(());
-        }
-        let symbol = self.symbol(name)?;
-        if let Section::Data { readonly } = self.section {
-            return self.label_data(symbol, readonly);
-        }
-        let begins = matches!(self.symbols.get(symbol), Some(found) if found.is_function);
-        let number = self.codes.len();
-        let place = if begins {
-            SymbolPlace::Function(number)
-        } else if let Some(number) = self.code
-            && let Some(code) = self.codes.get(number)
-        {
-            let at = code.items.len();
-            SymbolPlace::Label { code: number, at }
-        } else {
-            return Ok(());
+            line: self.line(),
         };
-        self.define(symbol, place)?;
-        if !begins {
-            return self.count_item();
+        if let Err(failed) = self.symbols.push(symbol) {
+            self.note(Fault::from(failed));
         }
-        self.origin = None;
-        self.code = Some(number);
-        Ok(
-            self.codes.push(Code {
+        number
+    }
+
+    /// Says where the symbol of a name stands.
+    pub(crate) fn define(&mut self, name: &[u8], symbol: usize, place: SymbolPlace) {
+        if let Some(found) = self.symbols.get_mut(symbol) {
+            if let SymbolPlace::Nowhere = found.place {
+                found.place = place;
+            } else {
+                self.named(Naming::DefinedTwice, name);
+            }
+        }
+    }
+
+    /// Counts labels or instructions, of which there may be so many.
+    pub(crate) fn count_items(&mut self, count: usize) {
+        self.items = self.items.saturating_add(count);
+        if self.items > ITEMS {
+            self.too_many("labels and instructions", 400_000);
+        }
+    }
+
+    /// A label of the code: of a function, which begins there, or within one.
+    fn label_code(&mut self, name: &[u8]) {
+        let symbol = self.symbol(name);
+        let number = self.codes.len();
+        if let Some(found) = self.symbols.get(symbol)
+            && found.is_function
+        {
+            self.define(name, symbol, SymbolPlace::Function(number));
+            self.origin = None;
+            self.in_code = true;
+            let code = Code {
                 symbol,
                 line: self.place,
                 items: Vec::new(self.alloc),
-            })?,
-        )
+            };
+            if let Err(failed) = self.codes.push(code) {
+                self.note(Fault::from(failed));
+            }
+        } else if self.in_code
+            && let Some(code) = self.codes.last()
+        {
+            let at = code.items.len();
+            let code = number.saturating_sub(1);
+            self.define(name, symbol, SymbolPlace::Label { code, at });
+            self.count_items(1);
+        }
     }
 
     /// A line of assembly: labels, and a directive, an instruction or nothing behind them.
-    fn read_line(&mut self, line: &[u8]) -> Result<(), Fault> {
+    fn read_line(&mut self, line: &[u8]) {
         let mut text = content(line);
         for _ in 0..=line.len() {
             let Some((name, rest)) = first_label(text) else {
                 break;
             };
-            self.label(name)?;
+            match self.section {
+                Section::Code => self.label_code(name),
+                Section::Data { readonly } => self.label_data(name, readonly),
+                Section::Ignored => {}
+            }
             text = rest;
         }
         let (word, rest) = first_word(text);
-        match (word.first(), self.section) {
-            (Some(b'.'), _) => self.directive(word, rest),
-            (Some(_), Section::Code) => self.instruction(word, rest),
-            (Some(_), Section::Data { .. }) => Err(self.unreadable("an instruction among data")),
-            _ => Ok(()),
+        if word.starts_with(b".") {
+            return self.directive(word, rest);
+        }
+        match self.section {
+            _ if word.is_empty() => {}
+            Section::Code => self.instruction(word, rest),
+            Section::Data { .. } => self.unreadable("an instruction among data"),
+            Section::Ignored => {}
         }
     }
 
@@ -307,25 +319,35 @@ impl Source {
     /// # Errors
     /// The first line that can't be read, or that passes a bound. No more is to be read then.
     pub fn read(&mut self, name: &str, text: &[u8]) -> Result<(), Fault> {
-        let file = self.add_file(name.as_bytes())?;
+        let file = self.add_file(name.as_bytes());
         self.names.clear();
         self.numbered.clear();
         self.section = Section::Code;
-        self.object = None;
-        self.code = None;
+        self.in_object = false;
+        self.in_code = false;
         self.origin = None;
         self.place = Line { file, number: 0 };
-        for line in text.split(|byte| *byte == b'\n') {
+        let mut start: usize = 0;
+        for _ in 0..=text.len() {
+            if self.fault.is_some() | (start > text.len()) {
+                break;
+            }
+            let rest = bytes_between(text, start, text.len());
+            let line = bytes_between(rest, 0, place_among(b"\n", rest));
+            start = start.saturating_add(line.len()).saturating_add(1);
             self.place.number = self.place.number.saturating_add(1);
-            self.read_line(line)?;
+            self.read_line(line);
         }
-        Ok(())
+        match self.fault.take() {
+            Some(fault) => Err(fault),
+            None => Ok(()),
+        }
     }
 
     /// The code ends where another section begins, and goes on where the code's does.
     pub(crate) fn enter(&mut self, section: Section) {
         self.section = section;
-        self.object = None;
+        self.in_object = false;
         self.align = 1;
     }
 }

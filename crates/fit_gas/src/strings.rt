@@ -1,5 +1,5 @@
 //! The bytes that a string of the assembler stands for.
-use crate::text::unquoted;
+use crate::text::{digits_of, unquoted};
 use std::alloc::AllocError;
 use v8_syntax::{beside, bytes_between};
 
@@ -15,25 +15,18 @@ static LETTERS: [(&str, u8); 5] = [
 /// The byte that stands behind a backslash, and how many bytes of the text it takes: octal digits, three at most, or a
 /// letter. None where nothing stands there, and of `x`.
 fn escaped(text: &[u8]) -> Option<(u8, usize)> {
-    let mut value: u8 = 0;
-    let mut count: usize = 0;
-    for byte in text {
-        if count == 3 || !matches!(*byte, b'0'..=b'7') {
-            break;
+    let letter = *text.first()?;
+    for fewer in 0..3usize {
+        let count = 3usize.saturating_sub(fewer);
+        if let Some(value) = digits_of(bytes_between(text, 0, count), 8) {
+            return Some((value.rem_euclid(256) as u8, count));
         }
-        value = value.wrapping_mul(8).wrapping_add(*byte & 7);
-        count = count.saturating_add(1);
     }
-    if count > 0 {
-        return Some((value, count));
+    if letter == b'x' {
+        return None;
     }
-    match *text.first()? {
-        b'x' => None,
-        letter => Some((
-            beside(bytes_between(text, 0, 1), &LETTERS).unwrap_or(letter),
-            1,
-        )),
-    }
+    let found = beside(bytes_between(text, 0, 1), &LETTERS);
+    Some((found.unwrap_or(letter), 1))
 }
 
 /// Appends the bytes of a string, which stands here in its quotes, and a zero where it ends with one. False where it
@@ -55,7 +48,7 @@ pub fn push_string(text: &[u8], ends: bool, out: &mut Vec<u8>) -> Result<bool, A
             (*first, 0)
         };
         out.push(byte)?;
-        rest = others.get(length..).unwrap_or(&[]);
+        rest = bytes_between(others, length, others.len());
     }
     if ends {
         out.push(0)?;

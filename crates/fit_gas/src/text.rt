@@ -7,17 +7,18 @@ const LIMIT: i64 = 0x100_0000_0000;
 /// How many bytes of a text, from its beginning on, may stand in a name.
 fn name_length(text: &[u8]) -> usize {
     for (place, byte) in text.iter().enumerate() {
-        if !byte.is_ascii_alphanumeric() && !matches!(*byte, b'_' | b'.' | b'$') {
+        let is_mark = (*byte == b'_') | (*byte == b'.') | (*byte == b'$');
+        if !(is_mark | byte.is_ascii_alphanumeric()) {
             return place;
         }
     }
     text.len()
 }
 
-/// Where the first blank of a text stands; its length where there is none.
-fn first_blank(text: &[u8]) -> usize {
+/// Where one of some bytes stands first in a text; its length where there is none.
+pub fn place_among(wanted: &[u8], text: &[u8]) -> usize {
     for (place, byte) in text.iter().enumerate() {
-        if matches!(*byte, b' ' | b'\t' | b'\r') {
+        if wanted.contains(byte) {
             return place;
         }
     }
@@ -41,15 +42,15 @@ pub fn shown(bytes: &[u8]) -> &str {
 }
 
 /// Where a byte stands first outside of quotes and parentheses; the length where it doesn't.
-fn place_of(wanted: u8, text: &[u8]) -> usize {
+pub fn place_of(wanted: u8, text: &[u8]) -> usize {
     let mut quoted = false;
     let mut escaped = false;
     let mut depth: u32 = 0;
     for (place, byte) in text.iter().enumerate() {
         if quoted {
-            quoted = escaped || *byte != b'"';
-            escaped = !escaped && *byte == b'\\';
-        } else if *byte == wanted && depth == 0 {
+            quoted = escaped | (*byte != b'"');
+            escaped = !escaped & (*byte == b'\\');
+        } else if (*byte == wanted) & (depth == 0) {
             return place;
         } else {
             quoted = *byte == b'"';
@@ -74,7 +75,7 @@ pub fn content(line: &[u8]) -> &[u8] {
 
 /// What stands before the first blank, and what stands behind it.
 pub fn first_word(text: &[u8]) -> (&[u8], &[u8]) {
-    let end = first_blank(text);
+    let end = place_among(b" \t\r", text);
     let rest = bytes_between(text, end, text.len()).trim_ascii();
     (bytes_between(text, 0, end), rest)
 }
@@ -109,7 +110,7 @@ fn digit_value(byte: u8) -> u8 {
 }
 
 /// The number of some digits, below 2^40.
-fn digits_of(digits: &[u8], radix: u8) -> Option<i64> {
+pub fn digits_of(digits: &[u8], radix: u8) -> Option<i64> {
     let mut value: i64 = 0;
     for byte in digits {
         let digit = digit_value(*byte);
@@ -137,25 +138,22 @@ pub fn number_of(text: &[u8]) -> Option<i64> {
     Some(digits_of(digits, radix)?.saturating_mul(sign))
 }
 
-/// The number behind a name: 0 where there is nothing.
-fn offset_of(text: &[u8]) -> Option<i64> {
-    match text {
-        [] => Some(0),
-        [b'+', rest @ ..] => number_of(rest.trim_ascii()),
-        [b'-', rest @ ..] => Some(0i64.saturating_sub(number_of(rest.trim_ascii())?)),
-        _ => None,
-    }
-}
-
 /// A name, perhaps with a number behind it; or a number, with no name.
 pub fn expression_of(text: &[u8]) -> Option<(&[u8], i64)> {
     let end = name_length(text);
     let name = bytes_between(text, 0, end);
-    if is_name(name) {
-        let behind = bytes_between(text, end, text.len()).trim_ascii();
-        Some((name, offset_of(behind)?))
-    } else {
-        Some((&[], number_of(text)?))
+    if !is_name(name) {
+        return Some((&[], number_of(text)?));
+    }
+    let behind = bytes_between(text, end, text.len()).trim_ascii();
+    let Some((sign, rest)) = behind.split_first() else {
+        return Some((name, 0));
+    };
+    let number = number_of(rest.trim_ascii())?;
+    match *sign {
+        b'+' => Some((name, number)),
+        b'-' => Some((name, 0i64.saturating_sub(number))),
+        _ => None,
     }
 }
 

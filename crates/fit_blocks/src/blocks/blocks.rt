@@ -1,12 +1,10 @@
 //! The blocks of a function, without delay slots: what stands in one is done before its transfer, or on the ways on
 //! which it is.
-use crate::plain::{push_step, step_of};
+use crate::plain::step_of;
 use crate::points::{Flow, Point, Points, is_nop};
-use crate::slots::{
-    frame_and_start, is_behind_call, mark_leads, may_go_before, number_marked, slot_of,
-};
+use crate::slots::{frame_and_start, mark_leads, may_go_before, number_marked};
 use fit_code::{Block, End, Fault, Function, Line, Step};
-use std::alloc::Global;
+use std::alloc::{AllocError, Global};
 use std::mem;
 use v8_formats::{Instr, Operand, Three};
 use v8_word::{Cond, Reg};
@@ -17,6 +15,13 @@ const PLAIN: Three = Three {
     rs1: Reg::G0,
     operand2: Operand::Register(Reg::G0),
 };
+
+/// Why there are no blocks.
+#[derive(Clone, Copy)]
+enum Stop {
+    Memory(AllocError),
+    Form(Line, &'static str),
+}
 
 /// The blocks of a function, as they are made.
 #[derive(Drop)]
@@ -33,51 +38,91 @@ struct Builder {
     blocks: Vec<Block>,
     /// Blocks that do what stood in a slot and go on.
     edges: Vec<Block>,
+    /// What stopped it first: what is made behind that counts for nothing.
+    stop: Option<Stop>,
 }
 
 impl Builder {
-    fn fault<T>(&self, line: Line, what: &'static str) -> Result<T, Fault> {
-        Err(self.points.fault(line, what))
-    }
-
-    /// The block that begins at a place.
-    fn at(&self, place: usize, line: Line) -> Result<usize, Fault> {
-        match self.numbers.get(place) {
-            Some(Some(number)) => Ok(*number),
-            _ => self.fault(line, "a transfer to what stands before SAVE"),
+    /// Notes what stops it, of which the first is told.
+    fn note(&mut self, stop: Stop) {
+        if self.stop.is_none() {
+            self.stop = Some(stop);
         }
     }
 
+    /// No block goes on where a form is refused.
+    fn refuse(&mut self, line: Line, what: &'static str) -> Option<usize> {
+        self.note(Stop::Form(line, what));
+        None
+    }
+
+    /// The block that begins at a place.
+    fn at(&mut self, place: usize, line: Line) -> usize {
+        if let Some(Some(number)) = self.numbers.get(place) {
+            return *number;
+        }
+        self.note(Stop::Form(line, "a transfer to what stands before SAVE"));
+        0
+    }
+
     /// A new block that does what stood in a slot and goes on.
-    fn edge(&mut self, slot: Step, to: usize) -> Result<usize, Fault> {
+    fn edge(&mut self, slot: Step, to: usize) -> usize {
         let number = self.count.saturating_add(self.edges.len());
-        self.edges.push(Block {
-            steps: Vec::from_slice(self.alloc, &[slot])?,
+        let mut edge = Block {
+            steps: Vec::new(self.alloc),
             end: End::Jump(to),
             slot: None,
             line: slot.line,
-        })?;
-        Ok(number)
+        };
+        if let Err(error) = edge.steps.extend_from_slice(&[slot]) {
+            self.note(Stop::Memory(error));
+        }
+        if let Err(failed) = self.edges.push(edge) {
+            self.note(Stop::Memory(AllocError::from(failed)));
+        }
+        number
+    }
+
+    /// Does a step in the block that is made.
+    fn push(&mut self, step: Step) {
+        if let Err(error) = self.steps.extend_from_slice(&[step]) {
+            self.note(Stop::Memory(error));
+        }
+    }
+
+    /// What stands in the delay slot behind a place, if it does something.
+    fn slot(&mut self, place: usize, line: Line) -> Option<Step> {
+        let what = match self.points.list.get(place.saturating_add(1)) {
+            Some(point) => match point.flow {
+                Flow::On if is_nop(&point.step.instr) => return None,
+                Flow::On => return Some(point.step),
+                _ => "a transfer in a delay slot",
+            },
+            None => "a transfer without a delay slot",
+        };
+        self.note(Stop::Form(line, what));
+        None
     }
 
     /// Does what stands in the slot behind a place.
-    fn push_slot(&mut self, place: usize, line: Line) -> Result<(), Fault> {
-        match slot_of(&self.points, place, line)? {
-            Some(slot) => push_step(&mut self.steps, slot),
-            None => Ok(()),
+    fn push_slot(&mut self, place: usize, line: Line) {
+        if let Some(slot) = self.slot(place, line) {
+            self.push(slot);
         }
     }
 
     /// Ends the block that is made.
-    fn finish(&mut self, end: End, line: Line) -> Result<Option<usize>, Fault> {
-        let steps = mem::replace(&mut self.steps, Vec::new(self.alloc));
-        self.blocks.push(Block {
-            steps,
+    fn finish(&mut self, end: End, line: Line) -> Option<usize> {
+        let block = Block {
+            steps: mem::replace(&mut self.steps, Vec::new(self.alloc)),
             end,
             slot: None,
             line,
-        })?;
-        Ok(None)
+        };
+        if let Err(failed) = self.blocks.push(block) {
+            self.note(Stop::Memory(AllocError::from(failed)));
+        }
+        None
     }
 
     /// A branch on a condition whose slot runs where it isn't annulled.
@@ -88,16 +133,16 @@ impl Builder {
         cond: Cond,
         annul: bool,
         to: usize,
-    ) -> Result<Option<usize>, Fault> {
-        let mut taken = self.at(to, line)?;
-        let mut next = self.at(place.saturating_add(2), line)?;
-        if let Some(slot) = slot_of(&self.points, place, line)? {
+    ) -> Option<usize> {
+        let mut taken = self.at(to, line);
+        let mut next = self.at(place.saturating_add(2), line);
+        if let Some(slot) = self.slot(place, line) {
             if !annul && may_go_before(&slot, self.steps.as_slice()) {
-                push_step(&mut self.steps, slot)?;
+                self.push(slot);
             } else {
-                taken = self.edge(slot, taken)?;
+                taken = self.edge(slot, taken);
                 if !annul {
-                    next = self.edge(slot, next)?;
+                    next = self.edge(slot, next);
                 }
             }
         }
@@ -105,79 +150,71 @@ impl Builder {
     }
 
     /// A branch that is always taken.
-    fn jump(
-        &mut self,
-        place: usize,
-        line: Line,
-        annul: bool,
-        to: usize,
-    ) -> Result<Option<usize>, Fault> {
+    fn jump(&mut self, place: usize, line: Line, annul: bool, to: usize) -> Option<usize> {
         if !annul {
-            self.push_slot(place, line)?;
+            self.push_slot(place, line);
         }
-        let to = self.at(to, line)?;
+        let to = self.at(to, line);
         self.finish(End::Jump(to), line)
     }
 
     /// A jump by %i7, with RESTORE in its slot.
-    fn return_framed(&mut self, place: usize, line: Line) -> Result<Option<usize>, Fault> {
+    fn return_framed(&mut self, place: usize, line: Line) -> Option<usize> {
         if let Some(point) = self.points.list.get(place.saturating_add(1))
             && let Flow::Restore(fields) = point.flow
         {
             return self.finish(End::Return(fields), line);
         }
-        self.fault(line, "a return without RESTORE in its slot")
+        self.refuse(line, "a return without RESTORE in its slot")
     }
 
     /// RESTORE, and behind it a jump by %o7 with nothing in its slot.
-    fn return_restored(
-        &mut self,
-        place: usize,
-        line: Line,
-        fields: Three,
-    ) -> Result<Option<usize>, Fault> {
+    fn return_restored(&mut self, place: usize, line: Line, fields: Three) -> Option<usize> {
         let behind = place.saturating_add(1);
         if let Some(point) = self.points.list.get(behind)
             && let Flow::Return { framed: false } = point.flow
-            && slot_of(&self.points, behind, line)?.is_none()
+            && self.slot(behind, line).is_none()
         {
             return self.finish(End::Return(fields), line);
         }
-        self.fault(line, "RESTORE that isn't beside a return")
+        self.refuse(line, "RESTORE that isn't beside a return")
     }
 
     /// A jump by %o7 in a function without a window.
-    fn return_leaf(&mut self, place: usize, line: Line) -> Result<Option<usize>, Fault> {
+    fn return_leaf(&mut self, place: usize, line: Line) -> Option<usize> {
         if self.framed {
-            return self.fault(line, "a jump by %o7 without RESTORE before it");
+            return self.refuse(line, "a jump by %o7 without RESTORE before it");
         }
-        self.push_slot(place, line)?;
+        self.push_slot(place, line);
         self.finish(End::Return(PLAIN), line)
     }
 
-    /// What stands in a call's slot is done before the call.
-    fn call(&mut self, place: usize, step: Step) -> Result<Option<usize>, Fault> {
-        self.push_slot(place, step.line)?;
-        push_step(&mut self.steps, step)?;
-        Ok(Some(place.saturating_add(2)))
-    }
-
-    /// Takes in the instruction at a place; says whether the block goes on, and at which place.
-    fn take(&mut self, place: usize, point: &Point) -> Result<Option<usize>, Fault> {
+    /// Takes in the instruction at a place; says at which place the block goes on, if it does. What stands in a call's
+    /// slot is done before the call.
+    fn take(&mut self, place: usize, point: &Point) -> Option<usize> {
         let step = point.step;
         match point.flow {
             Flow::On => {
                 if !is_nop(&step.instr) {
-                    push_step(&mut self.steps, step)?;
+                    self.push(step);
                 }
-                Ok(Some(place.saturating_add(1)))
+                Some(place.saturating_add(1))
             }
-            Flow::Mark if is_behind_call(&self.points, place) => Ok(Some(place.saturating_add(1))),
-            Flow::Mark => self.fault(step.line, "UNIMP that isn't behind a call"),
-            Flow::Call => self.call(place, step),
-            Flow::Save => self.fault(step.line, "a second SAVE, or one that isn't first"),
+            // Behind a call and its slot it is a constant that says a struct is given.
+            Flow::Mark => match self.points.list.get(place.saturating_sub(2)) {
+                Some(before) if (place >= 2) & matches!(before.flow, Flow::Call) => {
+                    Some(place.saturating_add(1))
+                }
+                _ => self.refuse(step.line, "UNIMP that isn't behind a call"),
+            },
+            Flow::Call => {
+                self.push_slot(place, step.line);
+                self.push(step);
+                Some(place.saturating_add(2))
+            }
+            Flow::Save => self.refuse(step.line, "a second SAVE, or one that isn't first"),
             Flow::Branch { cond, annul, to } => match cond {
-                Cond::Never => self.fault(step.line, "a branch that is never taken"),
+                Cond::Never => self.refuse(step.line, "a branch that is never taken"),
                 Cond::Always => self.jump(place, step.line, annul, to),
                 _ => self.conditional(place, step.line, cond, annul, to),
             },
@@ -188,20 +225,9 @@ impl Builder {
         }
     }
 
-    /// Control doesn't come to the end of a function where the compiler ended it without a return: the run ends there.
-    fn run_off(&mut self) -> Result<Option<usize>, Fault> {
-        let line = self.points.line;
-        let instr = Instr::Or(Three {
-            rd: result_register(),
-            rs1: Reg::G0,
-            operand2: Operand::Immediate(0),
-        });
-        push_step(&mut self.steps, step_of(instr, line))?;
-        self.finish(End::Exit, line)
-    }
-
-    /// Makes the block that begins at a place.
-    fn fill(&mut self, start: usize) -> Result<Option<usize>, Fault> {
+    /// Makes the block that begins at a place. Control doesn't come to the end of a function where the compiler ended
+    /// it without a return: the run ends there.
+    fn fill(&mut self, start: usize) -> Option<usize> {
         let mut place = start;
         for _ in start..=self.points.list.len() {
             let Some(point) = self.points.list.get(place).copied() else {
@@ -213,25 +239,20 @@ impl Builder {
                 let end = End::Jump(*number);
                 return self.finish(end, point.step.line);
             }
-            match self.take(place, &point)? {
-                Some(next) => place = next,
-                None => return Ok(None),
-            }
+            place = self.take(place, &point)?;
         }
-        self.run_off()
+        let line = self.points.line;
+        let instr = Instr::Or(Three {
+            rd: result_register(),
+            rs1: Reg::G0,
+            operand2: Operand::Immediate(0),
+        });
+        self.push(step_of(instr, line));
+        self.finish(End::Exit, line)
     }
 
-    /// Makes the blocks that begin at places, of which none is before the start, and behind them those of edges.
-    fn fill_all(&mut self, start: usize) -> Result<(), Fault> {
-        for place in start..self.numbers.len() {
-            if let Some(Some(_)) = self.numbers.get(place) {
-                let _ = self.fill(place)?;
-            }
-        }
-        Ok(self.blocks.append(&mut self.edges)?)
-    }
-
-    /// Makes all blocks; gives the size of the frame of a framed function.
+    /// Makes the blocks that begin at places, of which none is before the start, and behind them those of edges; gives
+    /// the size of the frame of a framed function.
     fn make(&mut self) -> Result<Option<u32>, Fault> {
         let (frame, start) = frame_and_start(&self.points)?;
         self.framed = frame.is_some();
@@ -239,8 +260,21 @@ impl Builder {
             .resize(self.points.list.len().saturating_add(1), None)?;
         mark_leads(&self.points, start, self.numbers.as_mut_slice());
         self.count = number_marked(self.numbers.as_mut_slice(), 0);
-        self.fill_all(start)?;
-        Ok(frame)
+        for place in start..self.numbers.len() {
+            if self.stop.is_none()
+                && let Some(Some(_)) = self.numbers.get(place)
+            {
+                let _ = self.fill(place);
+            }
+        }
+        match self.stop {
+            Some(Stop::Memory(error)) => Err(Fault::from(error)),
+            Some(Stop::Form(line, what)) => Err(self.points.fault(line, what)),
+            None => {
+                self.blocks.append(&mut self.edges)?;
+                Ok(frame)
+            }
+        }
     }
 }
 
@@ -263,6 +297,7 @@ pub fn function_of(alloc: Global, points: Points) -> Result<Function, Fault> {
         steps: Vec::new(alloc),
         blocks: Vec::new(alloc),
         edges: Vec::new(alloc),
+        stop: None,
     };
     let frame = builder.make()?;
     let points = builder.points;

@@ -7,13 +7,19 @@ use crate::points::{
 use fit_code::{Block, End, Fault, Function};
 use fit_graph::predecessors_of;
 use std::alloc::{AllocError, Global};
-use v8_formats::{Instr, decode, encode};
+use v8_formats::{Instr, decode, encode, three_of};
 use v8_word::{Cond, Reg};
 
 const REFUSED: &str = "condition codes of several places, or of numbers that changed since";
 
-fn is_logic(instr: &Instr) -> bool {
-    matches!(
+/// The bits of a word in which its destination stands.
+const DESTINATION: u32 = 0x3e00_0000;
+
+/// The word of an instruction that sets the same codes behind another one. Where carry and overflow aren't asked for, a
+/// compare of the result with 0 does, as it does of a logic instruction, which clears both.
+fn repeated(instr: &Instr, zero_alone: bool) -> Option<u32> {
+    let fields = fields_of(instr)?;
+    let is_logic = matches!(
         instr,
         Instr::AndCc(_)
             | Instr::OrCc(_)
@@ -21,31 +27,23 @@ fn is_logic(instr: &Instr) -> bool {
             | Instr::AndnCc(_)
             | Instr::OrnCc(_)
             | Instr::XnorCc(_)
-    )
-}
-
-/// The bits of a word in which its destination stands.
-const DESTINATION: u32 = 0x3e00_0000;
-
-/// An instruction that sets the same codes behind another one. Where carry and overflow aren't asked for, a compare
-/// of the result with 0 does, as it does of a logic instruction, which clears both.
-fn repeated(instr: &Instr, zero_alone: bool) -> Option<Instr> {
-    let fields = fields_of(instr)?;
-    if fields.rd != Reg::G0 && (zero_alone || is_logic(instr)) {
-        return Some(against_zero(fields.rd));
+    );
+    if (fields.rd != Reg::G0) & (zero_alone | is_logic) {
+        return Some(encode(&against_zero(fields.rd)));
     }
-    let may_repeat = is_logic(instr) || matches!(instr, Instr::AddCc(_) | Instr::SubCc(_));
-    if !may_repeat || bit_of(fields.rd) & operands_read(&fields) != 0 {
-        return None;
+    let may_repeat = is_logic | matches!(instr, Instr::AddCc(_) | Instr::SubCc(_));
+    if may_repeat & (bit_of(fields.rd) & operands_read(&fields) == 0) {
+        Some(encode(instr) & !DESTINATION)
+    } else {
+        None
     }
-    Some(decode(encode(instr) & !DESTINATION))
 }
 
 /// What sets the codes that a block begins with.
 #[derive(Drop)]
 struct Search {
-    /// The instruction that sets the same.
-    found: Option<Instr>,
+    /// The word of the instruction that sets the same.
+    found: Option<u32>,
     /// What is written between it and the block.
     written: u32,
     /// Whether there is one alone, which may be repeated.
@@ -56,27 +54,6 @@ struct Search {
 }
 
 impl Search {
-    /// The instruction that was found, where it sets the same codes at the start of the block.
-    fn answer(&self) -> Option<Instr> {
-        let found = self.found?;
-        let fields = fields_of(&found)?;
-        if self.is_one && operands_read(&fields) & self.written == 0 {
-            Some(found)
-        } else {
-            None
-        }
-    }
-
-    fn take(&mut self, setter: Option<Instr>) {
-        let same = match (&self.found, &setter) {
-            (Some(old), Some(new)) => encode(old) == encode(new),
-            (None, Some(_)) => true,
-            _ => false,
-        };
-        self.is_one = self.is_one && same;
-        self.found = setter;
-    }
-
     /// Blocks are to be looked at, each once.
     fn enter(&mut self, blocks: &[usize]) -> Result<(), AllocError> {
         for block in blocks {
@@ -108,12 +85,15 @@ impl Search {
             }
         }
         self.written |= later;
-        if let Some(instr) = setter {
-            self.take(repeated(&instr, self.zero_alone));
-            return Ok(());
-        }
-        self.is_one = self.is_one && !before.is_empty();
-        self.enter(before)
+        let Some(instr) = setter else {
+            self.is_one = self.is_one & !before.is_empty();
+            return self.enter(before);
+        };
+        let word = repeated(&instr, self.zero_alone);
+        let is_same = self.found.is_none() | (self.found == word);
+        self.is_one = self.is_one & is_same & word.is_some();
+        self.found = word;
+        Ok(())
     }
 }
 
@@ -136,14 +116,14 @@ fn reads_before(block: &Block) -> Option<bool> {
     }
 }
 
-/// What sets the codes that a block begins with, as one instruction that may stand at its start.
+/// The word of what sets the codes that a block begins with, as one instruction that may stand at its start.
 fn setter_of(
     alloc: Global,
     function: &Function,
     predecessors: &[Vec<usize>],
     block: usize,
     zero_alone: bool,
-) -> Result<Option<Instr>, AllocError> {
+) -> Result<Option<u32>, AllocError> {
     let mut search = Search {
         found: None,
         written: 0,
@@ -164,15 +144,10 @@ fn setter_of(
             search.look(found, before.as_slice())?;
         }
     }
-    Ok(search.answer())
-}
-
-/// Puts an instruction before a block's steps.
-fn insert_first(function: &mut Function, block: usize, instr: Instr) -> Result<(), AllocError> {
-    if let Some(found) = function.blocks.get_mut(block) {
-        found.steps.insert(0, step_of(instr, found.line))?;
-    }
-    Ok(())
+    // It may where it is one alone, and nothing that it reads is written behind it.
+    let read = operands_read(&three_of(search.found.unwrap_or(0)));
+    let may_stand = search.is_one & (read & search.written == 0);
+    Ok(if may_stand { search.found } else { None })
 }
 
 /// Repeats compares in the blocks that read the codes of other blocks' ends.
@@ -183,9 +158,12 @@ pub fn repeat_compares(alloc: Global, function: &mut Function) -> Result<(), Fau
             && let Some(zero_alone) = reads_before(found)
         {
             let line = found.line;
-            match setter_of(alloc, function, predecessors.as_slice(), block, zero_alone)? {
-                Some(instr) => insert_first(function, block, instr)?,
-                None => return Err(form_fault(&function.name, line, REFUSED)),
+            let setter = setter_of(alloc, function, predecessors.as_slice(), block, zero_alone)?;
+            let Some(word) = setter else {
+                return Err(form_fault(&function.name, line, REFUSED));
+            };
+            if let Some(found) = function.blocks.get_mut(block) {
+                found.steps.insert(0, step_of(decode(word), line))?;
             }
         }
     }

@@ -25,7 +25,8 @@ pub(crate) fn moved(end: End, numbers: &[Option<usize>]) -> End {
 /// Whether a block goes to the first one.
 fn goes_to_first(function: &Function) -> bool {
     for block in &function.blocks {
-        if let [Some(0), _] | [_, Some(0)] = block.end.ways() {
+        let [taken, next] = block.end.ways();
+        if (taken == Some(0)) | (next == Some(0)) {
             return true;
         }
     }
@@ -35,22 +36,26 @@ fn goes_to_first(function: &Function) -> bool {
 /// Leaves out the blocks that can't be reached, and puts an empty block first where a block goes to the first one.
 pub fn prune(alloc: Global, function: &mut Function) -> Result<(), Fault> {
     let mut numbers = order_of(alloc, function)?.places;
-    let mut blocks = Vec::new(alloc);
-    if goes_to_first(function) {
-        blocks.push(Block {
+    let goes_to_first = goes_to_first(function);
+    let _ = number_marked(numbers.as_mut_slice(), usize::from(goes_to_first));
+    let mut old = std::mem::replace(&mut function.blocks, Vec::new(alloc));
+    for _ in 0..old.len() {
+        if let Some(mut block) = old.pop()
+            && let Some(Some(_)) = numbers.get(old.len())
+        {
+            block.end = moved(block.end, numbers.as_slice());
+            function.blocks.push(block)?;
+        }
+    }
+    function.blocks.reverse();
+    if goes_to_first {
+        let first = Block {
             steps: Vec::new(alloc),
             end: End::Jump(1),
             slot: None,
             line: function.line,
-        })?;
-    }
-    let _ = number_marked(numbers.as_mut_slice(), blocks.len());
-    let old = std::mem::replace(&mut function.blocks, blocks);
-    for (number, mut block) in old.into_iter().enumerate() {
-        if let Some(Some(_)) = numbers.get(number) {
-            block.end = moved(block.end, numbers.as_slice());
-            function.blocks.push(block)?;
-        }
+        };
+        function.blocks.insert(0, first)?;
     }
     Ok(())
 }

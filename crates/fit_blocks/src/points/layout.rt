@@ -1,7 +1,7 @@
 //! Where the objects of a program lie.
 use crate::points::fields::word_of;
 use fit_code::{Fault, Line, NO_LINE, Naming, Object, Reason, Region};
-use fit_gas::{Fix, Linked, Source, SymbolPlace, links_of};
+use fit_gas::{Fix, Linked, Source, SymbolPlace, links_of, named_fault};
 use std::alloc::Global;
 use std::collections::BTreeMap;
 
@@ -22,11 +22,6 @@ const MOST: u32 = 262_144;
 
 /// The bytes of a page; each region begins one.
 const PAGE: u32 = 4_096;
-
-/// The least multiple of a number that isn't below another one.
-fn multiple_from(least: u32, number: u32) -> u32 {
-    least.checked_next_multiple_of(number).unwrap_or(u32::MAX)
-}
 
 /// Objects in two regions, each with its address from when it is added: the constants, and what may be written.
 #[derive(Drop)]
@@ -74,17 +69,21 @@ impl Layout<'_> {
         line: Line,
     ) -> Result<usize, Fault> {
         let number = self.objects.len();
-        let start = multiple_from(self.end.saturating_add(PAD), align);
+        let padded = self.end.saturating_add(PAD);
+        let start = padded.checked_next_multiple_of(align).unwrap_or(u32::MAX);
         self.end = start.saturating_add(u32::try_from(bytes).unwrap_or(u32::MAX));
         self.line = line;
         self.check_end()?;
-        self.objects.push(Object {
+        let mut object = Object {
             name,
             readonly,
             align,
-            bytes: vec![in self.alloc; 0; bytes]?,
+            bytes: Vec::new(self.alloc),
             start,
-        })?;
+        };
+        let filled = object.bytes.resize(bytes, 0);
+        self.objects.push(object)?;
+        filled?;
         Ok(number)
     }
 
@@ -141,7 +140,8 @@ impl Layout<'_> {
         let start = self.start;
         let end = self.end.saturating_add(TAIL);
         let length = end.saturating_sub(start).saturating_add(7) & !7;
-        self.start = multiple_from(start.saturating_add(length), PAGE);
+        let behind = start.saturating_add(length);
+        self.start = behind.checked_next_multiple_of(PAGE).unwrap_or(u32::MAX);
         self.end = self.start.saturating_add(HEAD);
         Ok(
             self.regions.push(Region {
@@ -165,15 +165,13 @@ impl Layout<'_> {
         }
     }
 
-    /// The number of an object of the source.
-    fn number(&self, datum: usize) -> usize {
-        self.numbers.get(datum).copied().unwrap_or(0)
-    }
-
     /// The object that a symbol stands for, by its number here.
     pub fn object_of(&self, symbol: usize, line: Line) -> Result<usize, Fault> {
         let naming = match self.linked.place(symbol) {
-            SymbolPlace::Object(datum) => return Ok(self.number(datum)),
+            SymbolPlace::Object(datum) => {
+                let number = self.numbers.get(datum).copied().unwrap_or(0);
+                return Ok(number);
+            }
             SymbolPlace::Nowhere => Naming::NotDefined,
             _ => Naming::AddressOfFunction,
         };
@@ -181,8 +179,8 @@ impl Layout<'_> {
     }
 
     /// Fills in the addresses that an object of the source holds.
-    fn fill_all(&mut self, datum: usize, fixes: &[Fix]) -> Result<(), Fault> {
-        let number = self.number(datum);
+    fn fill_all(&mut self, place: usize, fixes: &[Fix]) -> Result<(), Fault> {
+        let number = self.numbers.get(place).copied().unwrap_or(0);
         for fix in fixes {
             let object = self.object_of(fix.symbol, fix.line)?;
             let word = self.address(object, fix.offset);
@@ -214,10 +212,7 @@ pub fn fault_of(source: &Source, line: Line, naming: Naming, symbol: usize) -> F
         Some(found) => found.name.as_str(),
         None => "?",
     };
-    match String::from_str(source.alloc, name) {
-        Ok(name) => Fault::new(line, Reason::Named(naming, name)),
-        Err(error) => Fault::from(error),
-    }
+    named_fault(source.alloc, line, naming, name)
 }
 
 /// Lays out the objects of a source: the constants first, on pages that may be read alone.

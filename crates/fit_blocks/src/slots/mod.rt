@@ -1,7 +1,7 @@
-//! The instructions of a function that a compiler wrote, by their places: what stands in slots, where blocks begin, and
-//! the frame.
+//! The instructions of a function that a compiler wrote, by their places: which slots may run before their branches,
+//! where blocks begin, and the frame.
 mod slots;
 mod starts;
 
-pub use slots::{is_behind_call, may_go_before, slot_of};
+pub use slots::may_go_before;
 pub use starts::{frame_and_start, mark_leads, number_marked};

@@ -43,20 +43,10 @@ fn number_before(points: &Points, save: usize, register: Reg) -> Option<u32> {
     for point in points.list.get(..save).unwrap_or(&[]) {
         let (rd, rs1, number) = match point.step.instr {
             Instr::Sethi(upper) => (upper.rd, Reg::G0, upper.imm22.wrapping_mul(0x400)),
-            Instr::Or(
-                Three {
-                    rd,
-                    rs1,
-                    operand2: Operand::Immediate(number),
-                },
-            )
-            | Instr::Add(
-                Three {
-                    rd,
-                    rs1,
-                    operand2: Operand::Immediate(number),
-                },
-            ) => (rd, rs1, number),
+            Instr::Or(fields) | Instr::Add(fields) => match fields.operand2 {
+                Operand::Immediate(number) => (fields.rd, fields.rs1, number),
+                Operand::Register(_) => return None,
+            },
             _ => return None,
         };
         if rd != register {
@@ -78,9 +68,9 @@ fn frame_of(points: &Points, place: usize, fields: &Three) -> Option<u32> {
         Operand::Immediate(number) if place == 0 => number,
         Operand::Immediate(_) => return None,
     };
-    let bytes = 0i64.saturating_sub(signed(number));
-    if fields.rs1 == Reg::SP && fields.rd == Reg::SP && 0 < bytes && bytes < 0x1_0000_0000 {
-        Some(bytes as u32)
+    let bytes = u32::try_from(0i64.saturating_sub(signed(number))).unwrap_or(0);
+    if (fields.rs1 == Reg::SP) & (fields.rd == Reg::SP) & (bytes > 0) {
+        Some(bytes)
     } else {
         None
     }
