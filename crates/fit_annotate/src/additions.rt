@@ -1,8 +1,8 @@
 //! The annotations that a source hasn't got yet, and where they stand.
 use crate::annotation::{Addition, Annotation, Total, Value};
 use crate::finding::Finding;
+use crate::lines::Head;
 use fit_fuel::Total as Taken;
-use fit_source::Head;
 use fit_text::BlockNotes;
 use sbx_image::{Cell, Function, Range};
 use std::alloc::AllocError;

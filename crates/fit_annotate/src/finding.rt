@@ -1,9 +1,10 @@
 //! What is found of a source's program beside what the source says of it.
+use crate::lines::Head;
 use crate::notes::{Asked, Note};
+use crate::program::{Read, program_of};
 use fit_code::{Block, Fault, Function, Program, Reason};
 use fit_fuel::{Task, Total, bounds_of, declare_function, total_of};
 use fit_ranges::Ranges;
-use fit_source::{Head, Read, program_of};
 use fit_tests::{Asking, asks_of};
 use fit_text::{BlockNotes, FunctionNotes};
 use sbx_domain::State;

@@ -1,7 +1,7 @@
 //! A source with more annotations than before.
 use crate::annotation::{Addition, Total};
+use crate::lines::tokens_or_none;
 use fit_code::{Fault, NO_LINE, Reason};
-use fit_source::tokens_or_none;
 use sbx_asm::first_line;
 use sbx_directives::{Directive, Statement, label_count, read_statement};
 use std::alloc::{AllocError, Global};

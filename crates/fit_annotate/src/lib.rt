@@ -5,9 +5,12 @@
 mod additions;
 mod annotating;
 mod annotation;
+mod blocks;
 mod finding;
 mod inserting;
+mod lines;
 mod notes;
+mod program;
 
 pub use annotating::{Annotated, with_annotations};
 pub use annotation::{Addition, Annotation, Total, Value};
