@@ -1,8 +1,8 @@
 //! The steps of a block, and what ends it.
+use crate::lines::Read;
 use fit_code::{Block, End, Fault, Line, Reason, Step};
-use sbx_image::{Cell, Function, Image, Kind};
+use sbx_image::{Image, Kind};
 use std::alloc::{AllocError, Global};
-use std::mem::replace;
 use v8_formats::{Branch, Cond, Instr, Operand, Reg, Three, decode};
 use v8_map::CODE_START;
 use v8_meaning::{Operation, is_admitted, is_ret, is_retl, operation_of, target};
@@ -10,64 +10,36 @@ use v8_meaning::{Operation, is_admitted, is_ret, is_retl, operation_of, target};
 /// What a block that is a slot weighs: the branch's own block pays for it.
 const SLOT: u64 = 2;
 
-/// A function whose blocks are read.
-#[derive(Drop)]
-pub struct Blocks<'r> {
-    alloc: Global,
+/// A word of a function.
+#[derive(Clone, Copy)]
+struct Place<'r> {
     image: &'r Image,
     /// Of each word of the code the number of its line.
     words: &'r [usize],
-    function: &'r Function,
-    /// The function's number.
+    function: &'r sbx_image::Function,
+    /// The numbers of the function and of the block.
     own: usize,
-    /// The blocks that were read: first those of the source, and behind them the slots.
-    pub found: Vec<Block>,
-    /// The steps of the block that is read.
-    steps: Vec<Step>,
-    /// Delay slots of branches that annul them where they aren't taken: each is a block behind the function's own,
-    /// which the way to the branch's target goes through.
-    slots: Vec<Block>,
-    /// The turns that each block weighs less than its steps and its end, since a slot counts at both places.
-    pub spared: Vec<u64>,
-    /// The cells that the source says of each block.
-    pub cells: Vec<Vec<Cell>>,
-}
-
-/// A word of a block: its address, the block's number, and the address behind the block.
-#[derive(Clone, Copy)]
-struct Place {
-    address: u32,
     number: usize,
+    /// The address of the word, and that behind the block.
+    address: u32,
     stop: u32,
 }
 
-/// How a block ends, and what is left of its slot.
+/// What a word with its slot is in a block; SAVE is neither a step nor an end.
 #[derive(Clone, Copy)]
-struct Ended {
-    end: End,
+struct Item {
+    /// A step; of an end what runs before it in its slot.
+    step: Option<Step>,
+    end: Option<End>,
+    /// What the end has in its slot: on each way or, where it annuls, where a branch is taken.
     slot: Option<Instr>,
-    /// A slot that runs as a last step.
-    last: Option<Instr>,
+    annuls: bool,
+    /// How many bytes it takes.
+    width: u32,
 }
 
-/// What a word is in a block.
-#[derive(Clone, Copy)]
-enum Item {
-    /// SAVE, which is no step.
-    Save,
-    /// A step, and how many bytes it takes: a call's slot is the next word.
-    Step(Step, u32),
-    /// The block ends behind so many bytes.
-    Ends(Ended, u32),
-}
-
-fn plain(end: End) -> Ended {
-    Ended {
-        end,
-        slot: None,
-        last: None,
-    }
-}
+/// The address of what has no place in a program, and what it is.
+type Unreadable = (u32, &'static str);
 
 /// `%g0,%g0,%g0`, which a leaf's return has.
 const NO_FIELDS: Three = Three {
@@ -114,29 +86,18 @@ fn role_of(instr: &Instr) -> Role {
     }
 }
 
-impl<'r> Blocks<'r> {
-    /// None of the blocks of the function with a number.
-    pub fn none(
-        alloc: Global,
-        image: &'r Image,
-        words: &'r [usize],
-        function: &'r Function,
-        own: usize,
-    ) -> Blocks<'r> {
-        Blocks {
-            alloc,
-            image,
-            words,
-            function,
-            own,
-            found: Vec::new(alloc),
-            steps: Vec::new(alloc),
-            slots: Vec::new(alloc),
-            spared: Vec::new(alloc),
-            cells: Vec::new(alloc),
-        }
+/// A word of so many bytes that is a step, an end, both or neither.
+fn new_item(step: Option<Step>, end: Option<End>, width: u32) -> Item {
+    Item {
+        step,
+        end,
+        slot: None,
+        annuls: false,
+        width,
     }
+}
 
+impl Place<'_> {
     /// The line of the word at an address.
     fn line(&self, address: u32) -> Line {
         let place = address.wrapping_sub(CODE_START) / 4;
@@ -147,14 +108,17 @@ impl<'r> Blocks<'r> {
         }
     }
 
-    fn instr(&self, address: u32) -> Option<Instr> {
-        let place = address.wrapping_sub(CODE_START) / 4;
-        let word = self.image.words().get(place as usize).copied()?;
-        Some(decode(word))
+    fn fault(&self, (address, what): Unreadable) -> Fault {
+        Fault::new(self.line(address), Reason::Unreadable(what))
     }
 
-    fn fault(&self, address: u32, what: &'static str) -> Fault {
-        Fault::new(self.line(address), Reason::Unreadable(what))
+    /// The instruction at an address of the block.
+    fn instr(&self, address: u32) -> Option<Instr> {
+        let place = address.wrapping_sub(CODE_START) / 4;
+        match self.image.words().get(place as usize) {
+            Some(word) if address < self.stop => Some(decode(*word)),
+            _ => None,
+        }
     }
 
     fn step(&self, address: u32, instr: Instr) -> Step {
@@ -187,273 +151,258 @@ impl<'r> Blocks<'r> {
         None
     }
 
-    /// The address behind a block: the next one's or, of the last one, the next function's.
-    fn end_of(&self, number: usize) -> u32 {
-        if let Some(next) = self
-            .function
-            .blocks
-            .as_slice()
-            .get(number.saturating_add(1))
-        {
-            return next.address;
-        }
-        match self.image.functions().get(self.own.saturating_add(1)) {
-            Some(next) => next.entry,
-            None => CODE_START.saturating_add(self.image.word_count().saturating_mul(4)),
-        }
-    }
-
     /// The instruction in the slot of a transfer.
-    fn slot_of(&self, at: Place) -> Result<Instr, Fault> {
-        let behind = at.address.saturating_add(4);
-        match self.instr(behind) {
-            Some(instr) if behind < at.stop => Ok(instr),
-            _ => Err(self.fault(
-                at.address,
+    fn slot(&self) -> Result<Instr, Unreadable> {
+        match self.instr(self.address.saturating_add(4)) {
+            Some(instr) => Ok(instr),
+            None => Err((
+                self.address,
                 "its delay slot is another block's, or there is none: a block begins behind it",
             )),
         }
     }
 
     /// The same, where it is no transfer; nothing is as NOP.
-    fn plain_slot(&self, at: Place) -> Result<Option<Instr>, Fault> {
-        let instr = self.slot_of(at)?;
+    fn plain_slot(&self) -> Result<Option<Instr>, Unreadable> {
+        let instr = tried!(self.slot());
         match role_of(&instr) {
             Role::Plain => Ok(unless_nop(instr)),
-            _ => Err(self.fault(
-                at.address.saturating_add(4),
+            _ => Err((
+                self.address.saturating_add(4),
                 "an instruction that a delay slot may not have",
             )),
         }
     }
 
-    /// The block behind one with a number, whose last word stands at an address.
-    fn next(&self, number: usize, address: u32) -> Result<usize, Fault> {
-        let next = number.saturating_add(1);
-        if next < self.function.blocks.len() {
-            Ok(next)
-        } else {
-            Err(self.fault(address, "control goes past the function's last word"))
-        }
-    }
-
-    /// The end that a branch is which is always taken. A jump to the next block is the way on, which has no words of
-    /// its own, so such a branch has two ways there.
-    fn jump(number: usize, to: usize) -> End {
-        if to == number.saturating_add(1) {
-            End::Branch {
-                cond: Cond::Always,
-                taken: to,
-                next: to,
+    /// A branch. A jump to the next block is the way on, which has no words of its own, so one that is always taken has
+    /// two ways there.
+    fn branch(&self, branch: Branch) -> Result<Item, Unreadable> {
+        let taken = match self.block_at(target(self.address, branch.displacement)) {
+            Some(taken) if taken > 0 => taken,
+            _ => {
+                let what = "a branch goes where no `.block` of its function begins";
+                return Err((self.address, what));
             }
-        } else {
-            End::Jump(to)
-        }
-    }
-
-    /// Where a branch goes if it is taken, by way of its slot, which is annulled otherwise and a block of its own then.
-    fn taken_by_slot(
-        &mut self,
-        at: Place,
-        to: usize,
-        slot: Option<Instr>,
-    ) -> Result<usize, AllocError> {
-        if slot.is_none() {
-            return Ok(to);
-        }
-        let number = self.function.blocks.len().saturating_add(self.slots.len());
-        let line = self.line(at.address);
-        self.slots.push(Block {
-            steps: Vec::new(self.alloc),
-            end: End::Jump(to),
-            slot,
-            line,
-        })?;
-        Ok(number)
-    }
-
-    /// The end that a branch is.
-    fn branch(&mut self, at: Place, branch: Branch) -> Result<Ended, Fault> {
-        let what = "a branch goes where no `.block` of its function begins";
-        let to = match self.block_at(target(at.address, branch.displacement)) {
-            Some(to) if to > 0 => to,
-            _ => return Err(self.fault(at.address, what)),
         };
-        let slot = self.plain_slot(at)?;
-        let kept = if branch.annul { None } else { slot };
-        if branch.cond == Cond::Always {
-            return Ok(Ended {
-                end: Blocks::jump(at.number, to),
-                slot: kept,
-                last: None,
-            });
-        }
-        let next = self.next(at.number, at.address)?;
-        let taken = if branch.annul {
-            self.taken_by_slot(at, to, slot)?
-        } else {
-            to
-        };
-        Ok(Ended {
-            end: End::Branch {
-                cond: branch.cond,
-                taken,
-                next,
-            },
-            slot: kept,
-            last: None,
+        let slot = tried!(self.plain_slot());
+        let cond = branch.cond;
+        let next = self.number.saturating_add(1);
+        let annuls = branch.annul;
+        let is_jump = cond == Cond::Always;
+        Ok(Item {
+            step: None,
+            end: Some(if is_jump && taken != next {
+                End::Jump(taken)
+            } else {
+                End::Branch { cond, taken, next }
+            }),
+            slot: if is_jump && annuls { None } else { slot },
+            annuls,
+            width: 8,
         })
     }
 
-    /// The end that a return is.
-    fn returned(&self, at: Place, framed: bool) -> Result<Ended, Fault> {
+    /// A return.
+    fn returned(&self, framed: bool) -> Result<Item, Unreadable> {
         let is_framed = self.function.frame > 0;
-        let slot = self.slot_of(at)?;
-        let mut ended = plain(End::Return(NO_FIELDS));
+        let slot = tried!(self.slot());
         if framed
             && is_framed
             && let Instr::Restore(fields) = slot
         {
-            ended.end = End::Return(fields);
-            return Ok(ended);
+            return Ok(new_item(None, Some(End::Return(fields)), 8));
         }
-        if !framed
-            && !is_framed
-            && let Role::Plain = role_of(&slot)
-        {
-            ended.last = unless_nop(slot);
-            return Ok(ended);
+        if framed || is_framed || !matches!(role_of(&slot), Role::Plain) {
+            return Err((
+                self.address,
+                "a framed function returns by `ret` and `restore`, a leaf by `retl`",
+            ));
         }
-        Err(self.fault(
-            at.address,
-            "a framed function returns by `ret` and `restore`, a leaf by `retl`",
-        ))
+        let step = match unless_nop(slot) {
+            Some(instr) => Some(self.step(self.address.saturating_add(4), instr)),
+            None => None,
+        };
+        Ok(new_item(step, Some(End::Return(NO_FIELDS)), 8))
     }
 
-    /// The call at a place.
-    fn call(&self, at: Place, displacement: u32) -> Result<Step, Fault> {
-        match self.function_at(target(at.address, displacement)) {
-            Some(callee) if callee > self.own => Ok(Step {
-                callee: Some(callee),
-                slot: self.plain_slot(at)?,
-                ..self.step(at.address, Instr::Call(0))
-            }),
-            _ => Err(self.fault(
-                at.address,
+    /// A call.
+    fn call(&self, displacement: u32) -> Result<Item, Unreadable> {
+        match self.function_at(target(self.address, displacement)) {
+            Some(callee) if callee > self.own => {
+                let mut step = self.step(self.address, Instr::Call(0));
+                step.callee = Some(callee);
+                step.slot = tried!(self.plain_slot());
+                Ok(new_item(Some(step), None, 8))
+            }
+            _ => Err((
+                self.address,
                 "a call goes to no function that stands behind its own",
             )),
         }
     }
 
-    /// What a word is.
-    fn word(&mut self, at: Place, instr: &Instr) -> Result<Item, Fault> {
+    /// Whether the function may begin with an instruction, as its kind asks for: a framed one with SAVE, and its frame
+    /// with it.
+    fn begins_with(&self, instr: &Instr) -> bool {
+        let framed = self.function.kind == Kind::Framed;
+        framed == matches!(instr, Instr::Save(_)) && framed == (self.function.frame > 0)
+    }
+
+    /// What an instruction here is.
+    fn word(&self, instr: &Instr) -> Result<Item, Unreadable> {
+        let is_first = self.address == self.function.entry;
+        if is_first && !self.begins_with(instr) {
+            let what = "a framed function has a frame and begins with `save`, a leaf has none";
+            return Err((self.address, what));
+        }
         match instr {
-            Instr::Save(_) if at.address == self.function.entry && self.function.frame > 0 => {
-                return Ok(Item::Save);
-            }
-            Instr::Bicc(branch) if branch.cond != Cond::Never => {
-                return Ok(Item::Ends(self.branch(at, *branch)?, 8));
-            }
-            Instr::Call(displacement) => {
-                return Ok(Item::Step(self.call(at, *displacement)?, 8));
-            }
+            Instr::Save(_) if is_first => Ok(new_item(None, None, 4)),
+            Instr::Bicc(branch) if branch.cond != Cond::Never => self.branch(*branch),
+            Instr::Call(displacement) => self.call(*displacement),
             Instr::Jmpl(fields) if is_ret(fields) || is_retl(fields) => {
-                return Ok(Item::Ends(self.returned(at, is_ret(fields))?, 8));
+                self.returned(is_ret(fields))
             }
-            _ => {}
-        }
-        match role_of(instr) {
-            Role::Service(0) => Ok(Item::Ends(plain(End::Exit), 4)),
-            Role::Plain | Role::Service(_) => Ok(Item::Step(self.step(at.address, *instr), 4)),
-            Role::Other => Err(self.fault(
-                at.address,
-                "an instruction that sandboxed code may not have here",
-            )),
+            _ => match role_of(instr) {
+                Role::Service(0) => Ok(new_item(None, Some(End::Exit), 4)),
+                Role::Other => Err((
+                    self.address,
+                    "an instruction that sandboxed code may not have here",
+                )),
+                _ => Ok(new_item(Some(self.step(self.address, *instr)), None, 4)),
+            },
         }
     }
+}
 
-    /// Reads the steps of a block, by its number; gives how it ends, and at which address. Where its end has words,
-    /// another block has to begin behind them.
-    fn read_steps(&mut self, number: usize, start: u32) -> Result<(Ended, u32), Fault> {
-        let stop = self.end_of(number);
-        let mut address = start;
-        for _ in 0..stop.saturating_sub(start) / 4 {
-            if address >= stop {
-                break;
-            }
-            let Some(instr) = self.instr(address) else {
-                break;
-            };
-            let at = Place {
-                address,
+/// Reads the steps of a block from its first word on; gives what ends it, and at which address.
+fn read_steps(first: Place<'_>, steps: &mut Vec<Step>) -> Result<(Item, u32), Fault> {
+    let mut at = first;
+    for _ in 0..at.stop.saturating_sub(at.address) / 4 {
+        let Some(instr) = at.instr(at.address) else {
+            break;
+        };
+        let found = match at.word(&instr) {
+            Ok(found) => found,
+            Err(wrong) => return Err(at.fault(wrong)),
+        };
+        let Item { step, width, .. } = found;
+        if let Some(step) = step {
+            steps.push(step)?;
+        }
+        if found.end.is_some() {
+            return Ok((found, at.address));
+        }
+        at.address = at.address.saturating_add(width);
+    }
+    let next = End::Jump(at.number.saturating_add(1));
+    Ok((new_item(None, Some(next), 4), at.stop.saturating_sub(4)))
+}
+
+/// Reads a block. Where its end goes on there has to be a next one, and where its end has words, another block has to
+/// begin behind them.
+fn read_block(first: Place<'_>, block: &mut Block) -> Result<Item, Fault> {
+    let (found, address) = tried!(read_steps(first, &mut block.steps));
+    block.end = found.end.unwrap_or(End::Exit);
+    block.slot = found.slot;
+    block.line = first.line(address);
+    let next = match block.end {
+        End::Jump(next) | End::Branch { next, .. } => next,
+        _ => 0,
+    };
+    let behind = address.saturating_add(found.width);
+    if next >= first.function.blocks.len() {
+        let what = "control goes past the function's last word";
+        return Err(first.fault((address, what)));
+    }
+    if behind < first.stop {
+        return Err(first.fault((behind, "a block begins here: write a `.block`")));
+    }
+    Ok(found)
+}
+
+/// Where a block of a function begins.
+fn start_of(function: &sbx_image::Function, number: usize) -> u32 {
+    match function.blocks.as_slice().get(number) {
+        Some(block) => block.address,
+        None => function.entry,
+    }
+}
+
+/// The address behind a block of a function: the next one's or, of the last one, the next function's.
+fn end_of(image: &Image, own: usize, number: usize) -> u32 {
+    let functions = image.functions();
+    if let Some(function) = functions.get(own)
+        && let Some(next) = function.blocks.as_slice().get(number.saturating_add(1))
+    {
+        return next.address;
+    }
+    match functions.get(own.saturating_add(1)) {
+        Some(next) => next.entry,
+        None => CODE_START.saturating_add(image.word_count().saturating_mul(4)),
+    }
+}
+
+/// Makes a block of a branch's slot, which the way on which the branch is taken goes through; it will have this number.
+fn add_slot(
+    alloc: Global,
+    slots: &mut Vec<Block>,
+    block: &mut Block,
+    number: usize,
+) -> Result<(), AllocError> {
+    let End::Branch { cond, taken, next } = block.end else {
+        return Ok(());
+    };
+    slots.push(Block {
+        steps: Vec::new(alloc),
+        end: End::Jump(taken),
+        slot: block.slot,
+        line: block.line,
+    })?;
+    block.slot = None;
+    let taken = number;
+    block.end = End::Branch { cond, taken, next };
+    Ok(())
+}
+
+impl Read {
+    /// Reads the function of a number, of whose blocks nothing is known, from an image. Behind its own blocks come
+    /// those that are slots of branches which annul them where they aren't taken: such a slot counts at both places, so
+    /// that blocks weigh less.
+    pub fn add_function(
+        &mut self,
+        image: &Image,
+        own: usize,
+        function: &sbx_image::Function,
+    ) -> Result<(), Fault> {
+        let (Some(made), Some(spared)) = (
+            self.program.functions.get_mut(own),
+            self.spared.get_mut(own),
+        ) else {
+            return Ok(());
+        };
+        made.framed = function.frame > 0;
+        made.frame = function.frame;
+        made.params.extend_from_slice(function.params.as_slice())?;
+        made.results.extend_from_slice(function.results.as_slice())?;
+        for (number, block) in made.blocks.iter_mut().enumerate() {
+            let first = Place {
+                image,
+                words: self.words.as_slice(),
+                function,
+                own,
                 number,
-                stop,
+                address: start_of(function, number),
+                stop: end_of(image, own, number),
             };
-            match self.word(at, &instr)? {
-                Item::Save => address = address.saturating_add(4),
-                Item::Step(step, width) => {
-                    self.steps.push(step)?;
-                    address = address.saturating_add(width);
-                }
-                Item::Ends(ended, width) => {
-                    let behind = address.saturating_add(width);
-                    if behind < stop {
-                        let what = "a block begins here: write a `.block`";
-                        return Err(self.fault(behind, what));
-                    }
-                    return Ok((ended, address));
-                }
+            let found = tried!(read_block(first, block));
+            spared.push(u64::from(found.step.is_some()))?;
+            if found.annuls && found.slot.is_some() {
+                let free = function.blocks.len().saturating_add(self.slots.len());
+                add_slot(self.alloc, &mut self.slots, block, free)?;
             }
         }
-        let last = stop.saturating_sub(4);
-        let next = self.next(number, last)?;
-        Ok((plain(End::Jump(next)), last))
-    }
-
-    /// Reads one block, by its number.
-    fn read(&mut self, number: usize, start: u32) -> Result<(), Fault> {
-        let (Ended { end, slot, last }, address) = self.read_steps(number, start)?;
-        self.spared.push(u64::from(last.is_some()))?;
-        if let Some(instr) = last {
-            let step = self.step(address.saturating_add(4), instr);
-            self.steps.push(step)?;
-        }
-        let line = self.line(address);
-        self.found.push(Block {
-            steps: replace(&mut self.steps, Vec::new(self.alloc)),
-            end,
-            slot,
-            line,
-        })?;
-        Ok(())
-    }
-
-    /// Whether the function begins as its kind asks for: a framed one with SAVE, and its frame with it.
-    fn check_kind(&self) -> Result<(), Fault> {
-        let function = self.function;
-        let framed = function.kind == Kind::Framed;
-        let saves = matches!(self.instr(function.entry), Some(Instr::Save(_)));
-        if framed == saves && framed == (function.frame > 0) {
-            Ok(())
-        } else {
-            Err(self.fault(
-                function.entry,
-                "a framed function has a frame and begins with `save`, a leaf has none",
-            ))
-        }
-    }
-
-    /// Reads the blocks of the function, and puts those that are slots behind the others.
-    pub fn read_all(&mut self) -> Result<(), Fault> {
-        self.check_kind()?;
-        let function = self.function;
-        for (number, block) in function.blocks.as_slice().iter().enumerate() {
-            self.read(number, block.address)?;
-            let cells = Vec::from_slice(self.alloc, block.cells.as_slice())?;
-            self.cells.push(cells)?;
-        }
-        self.found.append(&mut self.slots)?;
-        self.spared.resize(self.found.len(), SLOT)?;
+        made.blocks.append(&mut self.slots)?;
+        spared.resize(made.blocks.len(), SLOT)?;
         Ok(())
     }
 }

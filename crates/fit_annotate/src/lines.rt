@@ -1,10 +1,9 @@
-//! Where the words, the blocks and the annotations of a source stand.
-use fit_code::{Function, Line};
-use sbx_asm::first_line;
-use sbx_directives::{Directive, Name, Statement, label_count, read_statement, text_of};
-use sbx_text::{TextFault, Token, tokens};
+//! A source that is read: its program, and where its words, blocks and annotations stand.
+use fit_code::{Block, End, Function, Line, Program};
+use sbx_asm::{Line as SourceLine, Text};
+use sbx_directives::{Directive, Statement, text_of};
+use sbx_image::Cell;
 use std::alloc::{AllocError, Global};
-use v8_syntax::length_of;
 
 /// The number of the line of a cell, and the cell's location.
 #[derive(Clone, Copy)]
@@ -14,7 +13,7 @@ pub struct CellLine {
 }
 
 /// A `.function` or a `.block`, and where the annotations behind it stand, up to the next one.
-#[derive(Drop)]
+#[derive(Clone, Copy)]
 pub struct Head {
     /// The number of its line.
     pub line: usize,
@@ -22,148 +21,139 @@ pub struct Head {
     pub last_param: usize,
     pub last_result: usize,
     pub last_cell: usize,
-    pub cells: Vec<CellLine>,
+    /// How many cells the source says before it.
+    pub cells_before: usize,
     pub says_depth: bool,
-}
-
-/// What a source says of a function.
-#[derive(Drop)]
-pub struct Said {
-    /// Where its blocks begin, in the order of the image's.
-    pub heads: Vec<Head>,
-    /// Whether it says something of a block's fuel.
     pub says_fuel: bool,
 }
 
-/// Lines of a source that has no fault, by their numbers from 1.
+/// A source that has no fault. Lines are told by their numbers from 1.
 #[derive(Drop)]
-pub struct Lines {
-    /// Of each word of the code.
+pub struct Read {
+    pub alloc: Global,
+    /// Each of its functions has the blocks of the source first, in their order, and behind them such as are delay
+    /// slots.
+    pub program: Program,
+    /// Of each word of the code its line.
     pub words: Vec<usize>,
-    /// The functions, with their names and their lines alone.
-    pub functions: Vec<Function>,
-    /// Of each function.
-    pub said: Vec<Said>,
+    /// Where the blocks of the source begin, in their order; of each function which of these is the first.
+    pub heads: Vec<Head>,
+    pub firsts: Vec<usize>,
+    pub cells: Vec<CellLine>,
+    /// Blocks that are delay slots, of the function that is read.
+    pub slots: Vec<Block>,
+    /// Of each function the turns that its blocks weigh less than their steps and their ends.
+    pub spared: Vec<Vec<u64>>,
+    /// The cells that the source says of each block of each function.
+    pub said: Vec<Vec<Vec<Cell>>>,
 }
 
-/// The tokens of a line; none of a line that has a fault.
-pub fn tokens_or_none(alloc: Global, line: &[u8]) -> Result<Vec<Token>, AllocError> {
-    match tokens(alloc, line) {
-        Ok(found) => Ok(found),
-        Err(TextFault::Memory(want)) => Err(AllocError::from(want)),
-        Err(_fault) => Ok(Vec::new(alloc)),
+impl Read {
+    /// Begins a function of a name, which is of ASCII characters.
+    fn begin(&mut self, line: Line, name: &[u8]) -> Result<(), AllocError> {
+        let alloc = self.alloc;
+        self.firsts.push(self.heads.len())?;
+        self.spared.push(Vec::new(alloc))?;
+        self.said.push(Vec::new(alloc))?;
+        self.program.functions.push(Function {
+            name: tried!(String::from_str(alloc, str::from_utf8(name).unwrap_or(""))),
+            framed: false,
+            frame: 0,
+            blocks: Vec::new(alloc),
+            params: Vec::new(alloc),
+            results: Vec::new(alloc),
+            line,
+        })?;
+        Ok(())
     }
-}
 
-/// The text of a name, which is of ASCII characters.
-fn name_in(alloc: Global, line: &[u8], name: Name) -> Result<String, AllocError> {
-    match str::from_utf8(text_of(line, name)) {
-        Ok(text) => String::from_str(alloc, text),
-        Err(_error) => Ok(String::new(alloc)),
-    }
-}
-
-/// A function at a line, of which nothing else is known.
-fn function_named(alloc: Global, name: String, line: usize) -> Function {
-    let number = u32::try_from(line).unwrap_or(0);
-    Function {
-        name,
-        framed: false,
-        frame: 0,
-        blocks: Vec::new(alloc),
-        params: Vec::new(alloc),
-        results: Vec::new(alloc),
-        line: Line { file: 0, number },
-    }
-}
-
-impl Said {
-    /// Takes over the function's own directive, or one behind it.
-    fn add(&mut self, alloc: Global, line: usize, directive: Directive) -> Result<(), AllocError> {
-        if let Directive::Function { .. } | Directive::Block(_) = directive {
-            self.heads.push(Head {
+    /// Begins a block, of which nothing else is known.
+    fn begin_block(&mut self, number: usize, line: Line) -> Result<(), AllocError> {
+        self.heads.push(Head {
+            line: number,
+            last_param: number,
+            last_result: number,
+            last_cell: number,
+            cells_before: self.cells.len(),
+            says_depth: false,
+            says_fuel: false,
+        })?;
+        if let Some(said) = self.said.last_mut() {
+            said.push(Vec::new(self.alloc))?;
+        }
+        if let Some(function) = self.program.functions.last_mut() {
+            function.blocks.push(Block {
+                steps: Vec::new(self.alloc),
+                end: End::Exit,
+                slot: None,
                 line,
-                last_param: line,
-                last_result: line,
-                last_cell: line,
-                cells: Vec::new(alloc),
-                says_depth: false,
             })?;
+        }
+        Ok(())
+    }
+
+    /// Takes over a directive of a line.
+    fn add_directive(
+        &mut self,
+        number: usize,
+        bytes: &[u8],
+        directive: Directive,
+    ) -> Result<(), AllocError> {
+        let line = Line {
+            file: 0,
+            number: u32::try_from(number).unwrap_or(0),
+        };
+        if let Directive::Function { name, .. } = directive {
+            tried!(self.begin(line, text_of(bytes, name)));
+        }
+        if let Directive::Function { .. } | Directive::Block(_) = directive {
+            return self.begin_block(number, line);
         }
         let Some(head) = self.heads.last_mut() else {
             return Ok(());
         };
         match directive {
-            Directive::Param(_) => head.last_param = line,
-            Directive::Result(_) => head.last_result = line,
+            Directive::Param(_) => head.last_param = number,
+            Directive::Result(_) => head.last_result = number,
             Directive::Depth(_) => head.says_depth = true,
-            Directive::Fuel(_) | Directive::Term(_) => self.says_fuel = true,
+            Directive::Fuel(_) | Directive::Term(_) => head.says_fuel = true,
             Directive::Cell(cell) => {
+                head.last_cell = number;
                 let location = cell.location;
-                head.last_cell = line;
-                head.cells.push(CellLine { line, location })?;
+                let line = number;
+                self.cells.push(CellLine { line, location })?;
+                if let Some(said) = self.said.last_mut()
+                    && let Some(cells) = said.last_mut()
+                {
+                    cells.push(cell)?;
+                }
             }
             _ => {}
         }
         Ok(())
     }
-}
 
-impl Lines {
-    /// Takes over a directive of a line.
-    fn add_directive(
-        &mut self,
-        alloc: Global,
-        line: usize,
-        bytes: &[u8],
-        directive: Directive,
-    ) -> Result<(), AllocError> {
-        if let Directive::Function { name, .. } = directive {
-            let name = name_in(alloc, bytes, name)?;
-            self.functions.push(function_named(alloc, name, line))?;
-            self.said.push(Said {
-                heads: Vec::new(alloc),
-                says_fuel: false,
-            })?;
-        }
-        match self.said.last_mut() {
-            Some(said) => said.add(alloc, line, directive),
-            None => Ok(()),
-        }
-    }
-
-    /// Takes over what stands behind the labels of a line.
-    fn add(&mut self, alloc: Global, number: usize, line: &[u8]) -> Result<(), AllocError> {
-        let tokens = tokens_or_none(alloc, line)?;
-        let labels = label_count(line, tokens.as_slice());
-        let behind = &tokens.as_slice()[2 * labels..];
-        match read_statement(line, behind) {
-            Statement::Instruction => {
-                let count = self.words.len().saturating_add(length_of(line, behind));
-                self.words.resize(count, number)
+    /// Takes over a line.
+    fn add(&mut self, line: &SourceLine<'_, '_>) -> Result<(), AllocError> {
+        match line.said() {
+            Ok(Statement::Instruction) => {
+                let words = usize::try_from(line.code_length() / 4).unwrap_or(0);
+                let count = self.words.len().saturating_add(words);
+                self.words.resize(count, line.number())
             }
-            Statement::Directive(directive) => self.add_directive(alloc, number, line, directive),
-            Statement::Nothing | Statement::Malformed(..) => Ok(()),
+            Ok(Statement::Directive(directive)) => {
+                self.add_directive(line.number(), line.bytes(), directive)
+            }
+            _ => Ok(()),
         }
     }
-}
 
-/// The lines of a source that the assembler takes.
-pub fn lines_of(alloc: Global, source: &[u8]) -> Result<Lines, AllocError> {
-    let mut lines = Lines {
-        words: Vec::new(alloc),
-        functions: Vec::new(alloc),
-        said: Vec::new(alloc),
-    };
-    let mut rest = source;
-    // a line has a byte at least, its end
-    for before in 0..source.len() {
-        if rest.is_empty() {
-            break;
+    /// Takes over the lines of a source that the assembler takes.
+    pub fn add_lines(&mut self, source: &[u8]) -> Result<(), AllocError> {
+        let text = tried!(Text::read(self.alloc, source));
+        for line in tried!(text.lines(self.alloc)).as_slice() {
+            tried!(self.add(line));
         }
-        let (line, after) = first_line(rest);
-        lines.add(alloc, before.saturating_add(1), line)?;
-        rest = after;
+        Ok(())
     }
-    Ok(lines)
 }

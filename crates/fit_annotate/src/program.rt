@@ -1,21 +1,8 @@
 //! A source's image as a program.
-use crate::blocks::Blocks;
-use crate::lines::{Lines, Said, lines_of};
+use crate::lines::Read;
 use fit_code::{Fault, Object, Program, Region};
-use sbx_image::{Cell, Image};
+use sbx_image::Image;
 use std::alloc::{AllocError, Global};
-
-/// A program, each of whose functions has the blocks of the source first, in their order, and behind them such as are
-/// delay slots.
-#[derive(Drop)]
-pub struct Read {
-    pub program: Program,
-    /// Of each function the turns that its blocks weigh less than their steps and their ends.
-    pub spared: Vec<Vec<u64>>,
-    /// What the source says of each function, and the cells that it says of each of its blocks.
-    pub said: Vec<Said>,
-    pub cells: Vec<Vec<Vec<Cell>>>,
-}
 
 /// The data of an image, as regions and one object each.
 fn add_data(alloc: Global, image: &Image, program: &mut Program) -> Result<(), AllocError> {
@@ -31,10 +18,10 @@ fn add_data(alloc: Global, image: &Image, program: &mut Program) -> Result<(), A
             length: u32::try_from(bytes.len()).unwrap_or(u32::MAX),
         })?;
         program.objects.push(Object {
-            name: String::from_str(alloc, "data")?,
+            name: String::new(alloc),
             readonly,
             align: 8,
-            bytes: Vec::from_slice(alloc, bytes)?,
+            bytes: tried!(Vec::from_slice(alloc, bytes)),
             start,
         })?;
     }
@@ -42,45 +29,15 @@ fn add_data(alloc: Global, image: &Image, program: &mut Program) -> Result<(), A
 }
 
 impl Read {
-    /// Takes over what an image says of a function, and its blocks.
-    fn add(
-        &mut self,
-        number: usize,
-        function: &sbx_image::Function,
-        blocks: Blocks<'_>,
-    ) -> Result<(), AllocError> {
-        let Blocks {
-            found,
-            spared,
-            cells,
-            ..
-        } = blocks;
-        self.spared.push(spared)?;
-        self.cells.push(cells)?;
-        let Some(made) = self.program.functions.get_mut(number) else {
-            return Ok(());
-        };
-        made.blocks = found;
-        made.framed = function.frame > 0;
-        made.frame = function.frame;
-        made.params.extend_from_slice(function.params.as_slice())?;
-        made.results.extend_from_slice(function.results.as_slice())
-    }
-
-    /// Adds a file of a name, and the data and the functions of an image whose words stand at these lines.
-    fn add_all(
-        &mut self,
-        alloc: Global,
-        file: &str,
-        words: &[usize],
-        image: &Image,
-    ) -> Result<(), Fault> {
-        self.program.files.push(String::from_str(alloc, file)?)?;
-        add_data(alloc, image, &mut self.program)?;
+    /// Takes over a source in a file of a name, and its image.
+    fn add_all(&mut self, file: &str, source: &[u8], image: &Image) -> Result<(), Fault> {
+        self.add_lines(source)?;
+        self.program
+            .files
+            .push(String::from_str(self.alloc, file)?)?;
+        add_data(self.alloc, image, &mut self.program)?;
         for (number, function) in image.functions().iter().enumerate() {
-            let mut blocks = Blocks::none(alloc, image, words, function, number);
-            blocks.read_all()?;
-            self.add(number, function, blocks)?;
+            tried!(self.add_function(image, number, function));
         }
         Ok(())
     }
@@ -93,22 +50,22 @@ impl Read {
 /// The first word that has no place in a program, with its line: of an instruction that sandboxed code may not have, a
 /// transfer that ends no block or goes nowhere, a function that doesn't begin or return as its kind asks for.
 pub fn program_of(alloc: Global, file: &str, source: &[u8], image: &Image) -> Result<Read, Fault> {
-    let Lines {
-        words,
-        functions,
-        said,
-    } = lines_of(alloc, source)?;
     let mut read = Read {
+        alloc,
         program: Program {
-            functions,
+            functions: Vec::new(alloc),
             objects: Vec::new(alloc),
             regions: Vec::new(alloc),
             files: Vec::new(alloc),
         },
-        spared: Vec::new(alloc),
-        said,
+        words: Vec::new(alloc),
+        heads: Vec::new(alloc),
+        firsts: Vec::new(alloc),
         cells: Vec::new(alloc),
+        slots: Vec::new(alloc),
+        spared: Vec::new(alloc),
+        said: Vec::new(alloc),
     };
-    read.add_all(alloc, file, words.as_slice(), image)?;
+    tried!(read.add_all(file, source, image));
     Ok(read)
 }
