@@ -1,8 +1,8 @@
 //! The annotations that a source hasn't got yet, and where they stand.
 use crate::annotation::{Addition, Annotation, Total, Value};
 use crate::finding::Finding;
+use crate::lines::Head;
 use fit_fuel::Total as Taken;
-use fit_source::Head;
 use fit_text::BlockNotes;
 use sbx_image::{Cell, Function, Range};
 use std::alloc::AllocError;
@@ -15,20 +15,22 @@ pub struct Added {
 }
 
 /// The line before which the cell of a location stands; none where the source has it.
-fn place_of_cell(head: &Head, location: u16) -> Option<usize> {
-    for said in &head.cells {
-        if said.location == location {
-            return None;
+fn place_of_cell(found: &Finding<'_>, head: &Head, location: u16) -> Option<usize> {
+    let cells = found.read.cells.as_slice();
+    for said in cells.get(head.cells_before..).unwrap_or(&[]) {
+        if said.line > head.last_cell {
+            break;
         }
-        if said.location > location {
-            return Some(said.line);
+        if said.location >= location {
+            let is_other = said.location > location;
+            return if is_other { Some(said.line) } else { None };
         }
     }
     Some(head.last_cell.saturating_add(1))
 }
 
 impl Added {
-    /// Adds an annotation before a line, behind all that stand there or before.
+    /// Adds an annotation before a line.
     fn push(
         &mut self,
         before: usize,
@@ -36,31 +38,26 @@ impl Added {
         location: Option<u16>,
         value: Value,
     ) -> Result<(), AllocError> {
-        let mut place = self.additions.len();
-        for addition in self.additions.iter().rev() {
-            if addition.before <= before {
-                break;
-            }
-            place = place.saturating_sub(1);
-        }
-        if place <= self.additions.len() {
-            let annotation = Annotation {
-                name,
-                location,
-                value,
-            };
-            self.additions
-                .insert(place, Addition { before, annotation })?;
-        }
+        let annotation = Annotation {
+            name,
+            location,
+            value,
+        };
+        self.additions.push(Addition { before, annotation })?;
         Ok(())
     }
 
     /// Adds the cells of a block that the source hasn't got.
-    fn add_cells(&mut self, head: &Head, cells: &[Cell]) -> Result<(), AllocError> {
+    fn add_cells(
+        &mut self,
+        found: &Finding<'_>,
+        head: &Head,
+        cells: &[Cell],
+    ) -> Result<(), AllocError> {
         for cell in cells {
-            if let Some(before) = place_of_cell(head, cell.location) {
+            if let Some(before) = place_of_cell(found, head, cell.location) {
                 let value = Value::Range(cell.range);
-                self.push(before, ".cell ", Some(cell.location), value)?;
+                tried!(self.push(before, ".cell ", Some(cell.location), value));
             }
         }
         Ok(())
@@ -69,10 +66,10 @@ impl Added {
     /// Adds a block's fuel.
     fn add_fuel(&mut self, head: &Head, notes: &BlockNotes) -> Result<(), AllocError> {
         let before = head.last_cell.saturating_add(1);
-        self.push(before, ".fuel ", None, Value::Number(notes.fuel))?;
+        tried!(self.push(before, ".fuel ", None, Value::Number(notes.fuel)));
         for term in notes.terms.as_slice() {
             let value = Value::Number(i64::from(term.coefficient));
-            self.push(before, ".term ", Some(term.location), value)?;
+            tried!(self.push(before, ".term ", Some(term.location), value));
         }
         Ok(())
     }
@@ -85,10 +82,8 @@ impl Added {
         said: usize,
         ranges: &[Range],
     ) -> Result<(), AllocError> {
-        for (place, range) in ranges.iter().enumerate() {
-            if place >= said {
-                self.push(line.saturating_add(1), name, None, Value::Range(*range))?;
-            }
+        for range in ranges.get(said..).unwrap_or(&[]) {
+            tried!(self.push(line.saturating_add(1), name, None, Value::Range(*range)));
         }
         Ok(())
     }
@@ -109,17 +104,15 @@ impl Added {
         }
         if found.image.version() == 3 && taken.depth > 0 && !head.says_depth {
             let depth = Value::Number(i64::try_from(taken.depth).unwrap_or(i64::MAX));
-            self.push(line.saturating_add(1), ".depth ", None, depth)?;
+            tried!(self.push(line.saturating_add(1), ".depth ", None, depth));
         }
         let params = found.ranges.params(number);
-        self.add_ranges(head.last_param, ".param ", said.params.len(), params)?;
-        match found.ranges.results().get(number) {
-            Some(results) => {
-                let (count, results) = (said.results.len(), results.as_slice());
-                self.add_ranges(head.last_result, ".result ", count, results)
-            }
-            None => Ok(()),
-        }
+        tried!(self.add_ranges(head.last_param, ".param ", said.params.len(), params));
+        let results = match found.ranges.results().get(number) {
+            Some(results) => results.as_slice(),
+            None => &[],
+        };
+        self.add_ranges(head.last_result, ".result ", said.results.len(), results)
     }
 
     /// Adds what one function hasn't got.
@@ -132,30 +125,37 @@ impl Added {
     ) -> Result<(), AllocError> {
         for (block, head) in found.heads_of(number).iter().enumerate() {
             if block == 0 {
-                self.add_head(found, number, head, said, taken)?;
+                tried!(self.add_head(found, number, head, said, taken));
             } else if let Some(cells) = found.ranges.cells(number, block) {
-                self.add_cells(head, cells)?;
+                tried!(self.add_cells(found, head, cells));
             }
             if let Some(blocks) = found.blocks.get(number)
                 && let Some(notes) = blocks.get(block)
             {
-                self.add_fuel(head, notes)?;
+                tried!(self.add_fuel(head, notes));
             }
         }
         Ok(())
+    }
+
+    /// Adds what a source hasn't got, by line: what stands before one line in the order in which it was added.
+    fn add_all(&mut self, found: &Finding<'_>) -> Result<(), AllocError> {
+        for (number, said) in found.image.functions().iter().enumerate() {
+            if let Some(Some(taken)) = found.totals.get(number) {
+                tried!(self.add_function(found, number, said, *taken));
+            }
+        }
+        self.additions.sort_by_key(|addition| addition.before)
     }
 }
 
 /// What a source hasn't got of what is known of its program.
 pub fn additions_of(found: &Finding<'_>) -> Result<Added, AllocError> {
+    let alloc = found.read.alloc;
     let mut added = Added {
-        additions: Vec::new(found.alloc),
-        totals: Vec::new(found.alloc),
+        additions: Vec::new(alloc),
+        totals: Vec::new(alloc),
     };
-    for (number, said) in found.image.functions().iter().enumerate() {
-        if let Some(Some(taken)) = found.totals.get(number) {
-            added.add_function(found, number, said, *taken)?;
-        }
-    }
+    tried!(added.add_all(found));
     Ok(added)
 }

@@ -18,11 +18,12 @@ pub struct Annotated {
 
 /// A source with what it hasn't got of what is found of its program, which is looked at here, and the notes.
 fn made_of(found: &mut Finding<'_>, source: &[u8]) -> Result<Annotated, Fault> {
-    found.look_at_all()?;
+    tried!(found.look_at_all());
     let added = additions_of(found)?;
     let (additions, totals) = (added.additions.as_slice(), added.totals.as_slice());
-    let text = insert(found.alloc, source, additions, totals)?;
-    let notes = replace(&mut found.notes, Vec::new(found.alloc));
+    let alloc = found.read.alloc;
+    let text = tried!(insert(alloc, source, additions, totals));
+    let notes = replace(&mut found.notes, Vec::new(alloc));
     Ok(Annotated { text, notes })
 }
 
@@ -37,6 +38,6 @@ pub fn with_annotations(
     source: &[u8],
     image: &Image,
 ) -> Result<Annotated, Fault> {
-    let mut found = Finding::of(alloc, file, source, image)?;
+    let mut found = tried!(Finding::of(alloc, file, source, image));
     made_of(&mut found, source)
 }

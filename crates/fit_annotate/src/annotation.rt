@@ -36,10 +36,10 @@ pub struct Total {
 
 impl fmt::Display for Annotation {
     fn fmt<W: Write>(&self, f: &mut Formatter<W>) -> fmt::Result {
-        f.write_str(self.name)?;
+        tried!(f.write_str(self.name));
         if let Some(location) = self.location {
             let location = Location(location);
-            write!(f, "{location},")?;
+            tried!(write!(f, "{location},"));
         }
         match self.value {
             Value::Number(number) => write!(f, "{number}"),

@@ -1,9 +1,10 @@
 //! What is found of a source's program beside what the source says of it.
+use crate::lines::{Head, Read};
 use crate::notes::{Asked, Note};
-use fit_code::{Block, Fault, Function, Program, Reason};
+use crate::program::program_of;
+use fit_code::{Fault, Program, Reason};
 use fit_fuel::{Task, Total, bounds_of, declare_function, total_of};
 use fit_ranges::Ranges;
-use fit_source::{Head, Read, program_of};
 use fit_tests::{Asking, asks_of};
 use fit_text::{BlockNotes, FunctionNotes};
 use sbx_domain::State;
@@ -14,11 +15,8 @@ use std::mem::replace;
 /// A source's program, and what is known of it.
 #[derive(Drop)]
 pub struct Finding<'s> {
-    pub alloc: Global,
     pub image: &'s Image,
-    read: Read,
-    /// Of each function the turns that its blocks weigh less than their steps and their ends.
-    spared: Vec<Vec<u64>>,
+    pub read: Read,
     pub ranges: Ranges,
     /// What each function declares; calls are paid for by its budget, where it is known.
     pub totals: Vec<Option<Total>>,
@@ -28,27 +26,37 @@ pub struct Finding<'s> {
     state: State,
 }
 
-/// Whether one of a block's calls goes where the budget isn't known.
-fn calls_unknown(block: &Block, totals: &[Option<Total>]) -> bool {
-    for step in block.steps.as_slice() {
-        if let Some(callee) = step.callee {
-            match totals.get(callee) {
-                Some(Some(total)) if total.budget.is_some() => {}
-                _ => return true,
+/// Whether a function of a program calls one whose budget isn't known.
+fn is_waiting(program: &Program, number: usize, totals: &[Option<Total>]) -> bool {
+    let Some(function) = program.functions.get(number) else {
+        return true;
+    };
+    for block in function.blocks.as_slice() {
+        for step in block.steps.as_slice() {
+            if let Some(callee) = step.callee {
+                match totals.get(callee) {
+                    Some(Some(total)) if total.budget.is_some() => {}
+                    _ => return true,
+                }
             }
         }
     }
     false
 }
 
-/// Whether a function calls one whose budget isn't known.
-fn is_waiting(function: &Function, totals: &[Option<Total>]) -> bool {
-    for block in function.blocks.as_slice() {
-        if calls_unknown(block, totals) {
+/// Whether the source says something of a block's fuel where these begin.
+fn say_fuel(heads: &[Head]) -> bool {
+    for head in heads {
+        if head.says_fuel {
             return true;
         }
     }
     false
+}
+
+/// What the source says, or else what is found.
+fn said_or(said: u64, found: u64) -> u64 {
+    if said > 0 { said } else { found }
 }
 
 /// What a function without a meter declares, where what those take that it calls is known.
@@ -75,11 +83,6 @@ fn declared<'t>(
     declare_function(program, &task, state)
 }
 
-/// How many pages of stack hold so many bytes and the first frame's save area.
-fn pages_for(room: u64) -> u64 {
-    room.saturating_add(64 + 4095) / 4096
-}
-
 impl<'s> Finding<'s> {
     /// Nothing but the ranges of the program of a source, by its image.
     pub fn of(
@@ -88,16 +91,13 @@ impl<'s> Finding<'s> {
         source: &[u8],
         image: &'s Image,
     ) -> Result<Finding<'s>, Fault> {
-        let mut read = program_of(alloc, file, source, image)?;
-        let said = replace(&mut read.cells, Vec::new(alloc));
         let mut state = State::new(alloc)?;
-        let ranges = Ranges::beside(alloc, &read.program, said, &mut state)?;
-        let spared = replace(&mut read.spared, Vec::new(alloc));
+        let mut read = tried!(program_of(alloc, file, source, image));
+        let said = replace(&mut read.said, Vec::new(alloc));
+        let ranges = tried!(Ranges::beside(alloc, &read.program, said, &mut state));
         Ok(Finding {
-            alloc,
             image,
             read,
-            spared,
             ranges,
             totals: Vec::new(alloc),
             blocks: Vec::new(alloc),
@@ -108,10 +108,10 @@ impl<'s> Finding<'s> {
 
     /// Where a function's blocks begin.
     pub fn heads_of(&self, number: usize) -> &[Head] {
-        match self.read.said.get(number) {
-            Some(said) => said.heads.as_slice(),
-            None => &[],
-        }
+        let heads = self.read.heads.as_slice();
+        let first = self.read.firsts.get(number).copied().unwrap_or(0);
+        let next = self.read.firsts.get(number.saturating_add(1)).copied();
+        heads.get(first..next.unwrap_or(heads.len())).unwrap_or(&[])
     }
 
     /// Notes what isn't shown at the line at which a block begins, by the numbers of its function and its own.
@@ -128,7 +128,7 @@ impl<'s> Finding<'s> {
     fn add_unreached(&mut self, number: usize) -> Result<(), AllocError> {
         for block in 0..self.heads_of(number).len() {
             if !self.ranges.reaches(number, block) {
-                self.note(number, block, Asked::Way)?;
+                tried!(self.note(number, block, Asked::Way));
             }
         }
         Ok(())
@@ -137,12 +137,12 @@ impl<'s> Finding<'s> {
     /// Notes of what isn't shown of a function's steps.
     fn add_asks(&mut self, number: usize) -> Result<(), AllocError> {
         let asking = Asking {
-            alloc: self.alloc,
+            alloc: self.read.alloc,
             program: &self.read.program,
             ranges: &self.ranges,
             by_object: false,
         };
-        for ask in asks_of(&asking, number, &mut self.state)?.as_slice() {
+        for ask in tried!(asks_of(&asking, number, &mut self.state)).as_slice() {
             self.notes.push(Note {
                 line: ask.line.number,
                 asked: Asked::Shown(ask.lack),
@@ -158,7 +158,7 @@ impl<'s> Finding<'s> {
             return Err(fault);
         }
         let bounds = bounds_of(
-            self.alloc,
+            self.read.alloc,
             &self.read.program,
             &self.ranges,
             number,
@@ -177,19 +177,32 @@ impl<'s> Finding<'s> {
         Ok(())
     }
 
-    /// Finds the fuel of the function that was begun last, and gives the budget; none where it isn't found, which is
-    /// noted.
-    fn find_fuel(&mut self, number: usize) -> Result<Option<u64>, Fault> {
-        let found = declared(
-            self.alloc,
+    /// Finds the fuel of the function that was begun last, of which the image says this, and gives the budget; none
+    /// where it isn't found, which is noted. What the source says of a block's fuel is taken for all of it.
+    fn budget_of(
+        &mut self,
+        number: usize,
+        said: &sbx_image::Function,
+    ) -> Result<Option<u64>, Fault> {
+        if say_fuel(self.heads_of(number)) {
+            return Ok(match said.blocks.as_slice().first() {
+                Some(first) => u64::try_from(first.fuel).ok(),
+                None => None,
+            });
+        }
+        if is_waiting(&self.read.program, number, self.totals.as_slice()) {
+            self.note(number, 0, Asked::Callee)?;
+            return Ok(None);
+        }
+        match declared(
+            self.read.alloc,
             &mut self.read.program,
             number,
             &self.ranges,
             self.totals.as_slice(),
-            self.spared.as_slice(),
+            self.read.spared.as_slice(),
             &mut self.state,
-        );
-        match found {
+        ) {
             Ok(FunctionNotes { budget, blocks, .. }) => {
                 if let Some(place) = self.blocks.last_mut() {
                     *place = blocks;
@@ -197,91 +210,68 @@ impl<'s> Finding<'s> {
                 Ok(Some(budget))
             }
             Err(fault) => {
-                self.add_fault(number, fault)?;
+                tried!(self.add_fault(number, fault));
                 Ok(None)
             }
         }
     }
 
-    /// The budget of a function, by the fuel with which the source says that it begins or, where it says nothing of
-    /// its fuel, by what is found; none where it isn't known, which is noted.
-    fn budget_of(&mut self, number: usize) -> Result<Option<u64>, Fault> {
-        let (Some(said), Some(function), Some(declared)) = (
-            self.read.said.get(number),
-            self.read.program.functions.get(number),
-            self.image.functions().get(number),
-        ) else {
-            return Ok(None);
-        };
-        if said.says_fuel {
-            return Ok(match declared.blocks.as_slice().first() {
-                Some(first) => u64::try_from(first.fuel).ok(),
-                None => None,
-            });
-        }
-        if is_waiting(function, self.totals.as_slice()) {
-            self.note(number, 0, Asked::Callee)?;
-            return Ok(None);
-        }
-        self.find_fuel(number)
-    }
-
-    /// A number of a function: what the source says, which is noted where it is too little, or else what is found.
-    fn settled(
+    /// Takes over what is found of a function beside what the image says of it, and notes what that says too little of.
+    fn settle(
         &mut self,
         number: usize,
-        what: &'static str,
-        said: u64,
-        found: u64,
-    ) -> Result<u64, AllocError> {
-        if said == 0 {
-            return Ok(found);
-        }
-        if said < found {
-            self.note(number, 0, Asked::More { what, least: found })?;
-        }
-        Ok(said)
-    }
-
-    /// Takes over what is found of a function beside what the source says of it.
-    fn settle(&mut self, number: usize, budget: Option<u64>) -> Result<(), AllocError> {
-        let image = self.image;
-        let (Some(said), Some(function)) = (
-            image.functions().get(number),
-            self.read.program.functions.get(number),
-        ) else {
+        said: &sbx_image::Function,
+        budget: Option<u64>,
+    ) -> Result<(), AllocError> {
+        let Some(function) = self.read.program.functions.get(number) else {
             return Ok(());
         };
         let found = total_of(function, budget, self.totals.as_slice());
-        let what = "the budget, where 0 is filled in,";
-        let turns = self.settled(number, what, said.budget, budget.unwrap_or(0))?;
-        let what = "the stack room, where 0 is filled in,";
-        let room = self.settled(number, what, u64::from(said.stack_room), found.room)?;
-        let depth = self.settled(number, "the depth", u64::from(said.depth), found.depth)?;
+        let (room, depth) = (u64::from(said.stack_room), u64::from(said.depth));
         if let Some(total) = self.totals.get_mut(number) {
-            let is_known = said.budget > 0 || budget.is_some();
             *total = Some(Total {
-                budget: if is_known { Some(turns) } else { None },
-                room,
-                depth,
+                budget: if said.budget > 0 {
+                    Some(said.budget)
+                } else {
+                    budget
+                },
+                room: said_or(room, found.room),
+                depth: said_or(depth, found.depth),
             });
+        }
+        let rows = [
+            (
+                "the budget, where 0 is filled in,",
+                said.budget,
+                budget.unwrap_or(0),
+            ),
+            ("the stack room, where 0 is filled in,", room, found.room),
+            ("the depth", depth, found.depth),
+        ];
+        for (what, said, least) in rows {
+            if 0 < said && said < least {
+                tried!(self.note(number, 0, Asked::More { what, least }));
+            }
         }
         Ok(())
     }
 
     /// Looks at all functions, the last one first, since each calls those behind it alone.
     pub fn look_at_all(&mut self) -> Result<(), Fault> {
-        let count = self.read.program.functions.len();
-        self.totals.resize(count, None)?;
-        for number in (0..count).rev() {
-            self.blocks.push(Vec::new(self.alloc))?;
+        let functions = self.image.functions();
+        self.totals.resize(functions.len(), None)?;
+        for number in (0..functions.len()).rev() {
+            let Some(said) = functions.get(number) else {
+                break;
+            };
+            self.blocks.push(Vec::new(self.read.alloc))?;
             self.add_unreached(number)?;
             self.add_asks(number)?;
-            let budget = self.budget_of(number)?;
-            self.settle(number, budget)?;
+            let budget = tried!(self.budget_of(number, said));
+            self.settle(number, said, budget)?;
         }
         self.blocks.reverse();
-        self.ranges.check_limits(&self.read.program)?;
+        tried!(self.ranges.check_limits(&self.read.program));
         self.finish_notes()?;
         Ok(())
     }
@@ -290,13 +280,11 @@ impl<'s> Finding<'s> {
     /// the first function asks for.
     fn finish_notes(&mut self) -> Result<(), AllocError> {
         if let Some(Some(first)) = self.totals.first() {
-            let pages = pages_for(first.room);
-            if pages > u64::from(self.image.stack_pages()) {
-                let asked = Asked::More {
-                    what: "the number of `.stack`",
-                    least: pages,
-                };
-                self.note(0, 0, asked)?;
+            // the first frame's save area lies there, too
+            let least = first.room.saturating_add(64 + 4095) / 4096;
+            if least > u64::from(self.image.stack_pages()) {
+                let what = "the number of `.stack`";
+                tried!(self.note(0, 0, Asked::More { what, least }));
             }
         }
         self.notes

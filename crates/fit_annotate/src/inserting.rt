@@ -1,9 +1,9 @@
 //! A source with more annotations than before.
 use crate::annotation::{Addition, Total};
 use fit_code::{Fault, NO_LINE, Reason};
-use fit_source::tokens_or_none;
 use sbx_asm::first_line;
 use sbx_directives::{Directive, Statement, label_count, read_statement};
+use sbx_text::{TextFault, Token, tokens};
 use std::alloc::{AllocError, Global};
 use v8_syntax::bytes_between;
 
@@ -16,14 +16,16 @@ struct Inserting<'t> {
     totals: &'t [Total],
 }
 
-impl Inserting<'_> {
-    /// Adds the line of a number, with this end, and what stands before it.
-    fn push(&mut self, number: usize, line: &[u8], end: &[u8]) -> Result<(), AllocError> {
-        self.push_before(number)?;
-        self.push_line(number, line)?;
-        self.text.extend_from_slice(end)
+/// The tokens of a line; none of a line that has a fault.
+fn tokens_or_none(alloc: Global, line: &[u8]) -> Result<Vec<Token>, AllocError> {
+    match tokens(alloc, line) {
+        Ok(found) => Ok(found),
+        Err(TextFault::Memory(want)) => Err(AllocError::from(want)),
+        Err(_fault) => Ok(Vec::new(alloc)),
     }
+}
 
+impl Inserting<'_> {
     /// Adds what stands before the line of a number.
     fn push_before(&mut self, number: usize) -> Result<(), AllocError> {
         let additions = self.additions;
@@ -32,39 +34,39 @@ impl Inserting<'_> {
                 break;
             }
             let annotation = addition.annotation;
-            let line = format!(in self.alloc; "{annotation}\n")?;
-            self.text.extend_from_slice(line.as_bytes())?;
+            let line = tried!(format!(in self.alloc; "{annotation}\n"));
+            tried!(self.text.extend_from_slice(line.as_bytes()));
             self.additions = self.additions.get(1..).unwrap_or(&[]);
         }
         Ok(())
     }
 
-    fn push_number(&mut self, number: u64) -> Result<(), AllocError> {
-        let digits = format!(in self.alloc; "{number}")?;
-        self.text.extend_from_slice(digits.as_bytes())
-    }
-
     /// Adds a `.function`'s line with other numbers for its stack room and its budget, which is its last token and has
     /// a comma before it.
     fn push_filled(&mut self, line: &[u8], total: Total) -> Result<(), AllocError> {
-        let tokens = tokens_or_none(self.alloc, line)?;
+        let tokens = tried!(tokens_or_none(self.alloc, line));
         let [.., room, _comma, budget] = tokens.as_slice() else {
             return Ok(());
         };
-        self.text
-            .extend_from_slice(bytes_between(line, 0, room.start))?;
-        self.push_number(total.room)?;
-        self.text
-            .extend_from_slice(bytes_between(line, room.stop, budget.start))?;
-        self.push_number(total.budget)?;
-        self.text
-            .extend_from_slice(bytes_between(line, budget.stop, line.len()))
+        let (new_room, new_budget) = (total.room, total.budget);
+        let new_room = tried!(format!(in self.alloc; "{new_room}"));
+        let new_budget = tried!(format!(in self.alloc; "{new_budget}"));
+        for part in [
+            bytes_between(line, 0, room.start),
+            new_room.as_bytes(),
+            bytes_between(line, room.stop, budget.start),
+            new_budget.as_bytes(),
+            bytes_between(line, budget.stop, line.len()),
+        ] {
+            tried!(self.text.extend_from_slice(part));
+        }
+        Ok(())
     }
 
     /// Whether the text from a byte on is a line with a `.function` that the language has.
     fn declares_function(&self, from: usize) -> Result<bool, AllocError> {
         let line = self.text.as_slice().get(from..).unwrap_or(&[]);
-        let tokens = tokens_or_none(self.alloc, line)?;
+        let tokens = tried!(tokens_or_none(self.alloc, line));
         let labels = label_count(line, tokens.as_slice());
         let statement = read_statement(line, &tokens.as_slice()[2 * labels..]);
         Ok(matches!(statement, Statement::Directive(Directive::Function { .. })))
@@ -78,13 +80,33 @@ impl Inserting<'_> {
         {
             self.totals = others;
             let before = self.text.len();
-            self.push_filled(line, *total)?;
-            if self.declares_function(before)? {
+            tried!(self.push_filled(line, *total));
+            if tried!(self.declares_function(before)) {
                 return Ok(());
             }
             self.text.truncate(before);
         }
         self.text.extend_from_slice(line)
+    }
+
+    /// Adds the lines of a source, each with its end, and what stands before it.
+    fn push_all(&mut self, source: &[u8]) -> Result<(), AllocError> {
+        let mut rest = source;
+        // a line has a byte at least, its end
+        for before in 0..source.len() {
+            if rest.is_empty() {
+                break;
+            }
+            let (line, after) = first_line(rest);
+            let behind = rest.len().saturating_sub(after.len());
+            let number = before.saturating_add(1);
+            tried!(self.push_before(number));
+            tried!(self.push_line(number, line));
+            let end = bytes_between(rest, line.len(), behind);
+            tried!(self.text.extend_from_slice(end));
+            rest = after;
+        }
+        Ok(())
     }
 }
 
@@ -105,21 +127,7 @@ pub fn insert<'t>(
         additions,
         totals,
     };
-    let mut rest = source;
-    // a line has a byte at least, its end
-    for before in 0..source.len() {
-        if rest.is_empty() {
-            break;
-        }
-        let (line, after) = first_line(rest);
-        let behind = rest.len().saturating_sub(after.len());
-        made.push(
-            before.saturating_add(1),
-            line,
-            bytes_between(rest, line.len(), behind),
-        )?;
-        rest = after;
-    }
+    made.push_all(source)?;
     if made.additions.is_empty() {
         return Ok(made.text);
     }

@@ -54,11 +54,11 @@ fn write_range<W: Write>(f: &mut Formatter<W>, range: Range) -> Result<(), Error
 
 /// An address that isn't shown to lie in the data.
 fn write_access<W: Write>(f: &mut Formatter<W>, access: &Access) -> Result<(), Error> {
-    f.write_str("the address may be ")?;
-    write_range(f, access.range)?;
+    tried!(f.write_str("the address may be "));
+    tried!(write_range(f, access.range));
     let size = access.size;
     if access.range.alignment < needed_alignment(size) {
-        write!(f, ", and no multiple of {size}")?;
+        tried!(write!(f, ", and no multiple of {size}"));
     }
     f.write_str(if access.writes {
         ": it isn't shown to lie in data that may be written; compare what it is worked out from with its bounds before"
@@ -79,8 +79,8 @@ fn write_lack<W: Write>(f: &mut Formatter<W>, lack: &Lack) -> Result<(), Error> 
         ),
         Lack::Placed(access) => return write_access(f, access),
         Lack::Divisible(_, range) => {
-            f.write_str("the divisor may be 0: it may be ")?;
-            write_range(f, *range)?;
+            tried!(f.write_str("the divisor may be 0: it may be "));
+            tried!(write_range(f, *range));
             return f.write_str(
                 "; compare it with 0 before, and divide in a block where it isn't 0",
             );

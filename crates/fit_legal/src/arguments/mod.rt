@@ -2,4 +2,4 @@
 //! arguments that don't fit in registers have a place in the data.
 mod arguments;
 
-pub use arguments::{beside, place_arguments, push_at, scratch, with_fields};
+pub use arguments::{BYTES, Reached, argument_of, in_object, scratch, with_operands};

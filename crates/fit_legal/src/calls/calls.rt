@@ -15,18 +15,12 @@ fn called_by(item: &Item) -> Option<usize> {
     }
 }
 
-/// Where a walk over calls stands in a function: its number, and that of the next item.
-#[derive(Clone, Copy)]
-struct Visit {
-    code: usize,
-    item: usize,
-}
-
 /// How far a function was walked over.
 #[derive(Clone, Copy)]
 enum Progress {
     New,
-    Open,
+    /// Up to the item of this number.
+    Open(usize),
     Done,
 }
 
@@ -35,7 +29,8 @@ enum Progress {
 struct Walk<'w, 'l> {
     source: &'w Source,
     linked: &'w Linked<'l>,
-    open: Vec<Visit>,
+    /// The functions that the walk is in, each called by the one before it.
+    open: Vec<usize>,
     progress: Vec<Progress>,
     /// Functions that were left, callees before their callers.
     left: Vec<usize>,
@@ -57,23 +52,18 @@ impl Walk<'_, '_> {
         }
     }
 
-    fn enter(&mut self, code: usize) -> Result<(), Fault> {
-        self.mark(code, Progress::Open);
-        Ok(self.open.push(Visit { code, item: 0 })?)
-    }
-
     /// The names of the functions that call each other in a round, from the one that is called again.
-    fn round(&self, code: usize) -> Result<String, AllocError> {
+    fn round(&self, callee: usize) -> Result<String, AllocError> {
         let mut names = String::new(self.source.alloc);
         let mut found = false;
-        for visit in &self.open {
-            found = found || visit.code == code;
+        for code in &self.open {
+            found = found || *code == callee;
             if found {
-                names.push_str(name_of(self.source, visit.code))?;
-                names.push_str(" calls ")?;
+                let name = name_of(self.source, *code);
+                write!(names, "{name} calls ")?;
             }
         }
-        names.push_str(name_of(self.source, code))?;
+        names.push_str(name_of(self.source, callee))?;
         Ok(names)
     }
 
@@ -83,32 +73,35 @@ impl Walk<'_, '_> {
             return Err(fault_of(self.source, line, Naming::NotDefined, symbol));
         };
         match self.progress.get(callee).copied().unwrap_or(Progress::Done) {
-            Progress::New => self.enter(callee),
             Progress::Done => Ok(()),
-            Progress::Open => {
+            Progress::New => {
+                self.mark(callee, Progress::Open(0));
+                Ok(self.open.push(callee)?)
+            }
+            Progress::Open(_) => {
                 let names = self.round(callee)?;
                 Err(Fault::new(line, Reason::Named(Naming::Recursion, names)))
             }
         }
     }
 
-    /// Goes from a function on as far as there is something to do: by one item after the other, and back from a
-    /// function that has no more of them.
+    /// Goes from the function of a symbol on as far as there is something to do: by one item after the other, and back
+    /// from a function that has no more of them.
     fn go_all(&mut self, first: usize) -> Result<(), Fault> {
-        self.enter(first)?;
+        tried!(self.go_into(first, NO_LINE));
         let source = self.source;
         // A function is entered once, goes by its items and is left.
         for _ in 0..source.items.saturating_add(source.codes.len()) {
-            let Some(visit) = self.open.last_mut() else {
+            let Some(code) = self.open.last().copied() else {
                 break;
             };
-            let Visit { code, item } = *visit;
-            visit.item = item.saturating_add(1);
             if let Some(found) = source.codes.get(code)
-                && let Some(item) = found.items.get(item)
+                && let Some(Progress::Open(place)) = self.progress.get(code).copied()
+                && let Some(item) = found.items.get(place)
             {
+                self.mark(code, Progress::Open(place.saturating_add(1)));
                 if let Some(symbol) = called_by(item) {
-                    self.go_into(symbol, item.line)?;
+                    tried!(self.go_into(symbol, item.line));
                 }
             } else {
                 self.mark(code, Progress::Done);
@@ -120,12 +113,12 @@ impl Walk<'_, '_> {
     }
 }
 
-/// The function of a global name.
+/// The symbol of the function of a global name.
 fn entry_of(source: &Source, name: &str) -> Option<usize> {
-    for symbol in source.symbols.iter() {
+    for (number, symbol) in source.symbols.iter().enumerate() {
         if symbol.is_global
             && symbol.name.as_str() == name
-            && let SymbolPlace::Function(number) = symbol.place
+            && matches!(symbol.place, SymbolPlace::Function(_))
         {
             return Some(number);
         }
@@ -151,7 +144,7 @@ pub fn order_of_calls(source: &Source, linked: &Linked, entry: &str) -> Result<V
         progress: vec![in alloc; Progress::New; source.codes.len()]?,
         left: Vec::new(alloc),
     };
-    walk.go_all(first)?;
+    tried!(walk.go_all(first));
     let mut order = walk.left;
     order.reverse();
     Ok(order)

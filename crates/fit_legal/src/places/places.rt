@@ -1,5 +1,5 @@
 //! Places in a function's frame: what its instructions say of them by %sp and %fp.
-use crate::arguments::{beside, scratch, with_fields};
+use crate::arguments::{scratch, with_operands};
 use fit_blocks::{Access, access_of, bit_of, fields_of, read_by, signed, word_of};
 use fit_code::Step;
 use v8_formats::{Instr, Operand, Three};
@@ -32,40 +32,31 @@ fn base_of(register: Reg, size: u32) -> Option<i64> {
     }
 }
 
-/// Where an access in the frame is, from %sp on.
-fn place_of(fields: &Three, size: u32) -> Option<i64> {
-    let base = base_of(fields.rs1, size)?;
-    match fields.operand2 {
-        Operand::Immediate(number) => Some(base.saturating_add(signed(number))),
-        Operand::Register(_) => None,
-    }
-}
-
 /// The access that an instruction makes, and where its bytes are, from %sp on.
 pub fn place_accessed(instr: &Instr, size: u32) -> Option<(Access, i64)> {
-    let access = access_of(instr)?;
-    let place = place_of(&access.fields, size)?;
-    Some((access, place))
-}
-
-/// Whether the words of an access, at a place of the frame, may stay there.
-fn may_stay(access: &Access, place: i64, size: u32) -> bool {
-    let end = place.saturating_add(i64::from(access.bytes));
-    i64::from(SAVE_AREA) <= place
-        && end <= i64::from(size.min(FRAME))
-        && place.rem_euclid(4) == 0
-        && bit_of(access.fields.rd) & STACK == 0
+    let Some(access) = access_of(instr) else {
+        return None;
+    };
+    let fields = access.fields;
+    match (fields.operand2, base_of(fields.rs1, size)) {
+        (Operand::Immediate(number), Some(base)) => {
+            Some((access, base.saturating_add(signed(number))))
+        }
+        _ => None,
+    }
 }
 
 /// An access to whole words of the frame, which may stay there, and where they are.
 pub fn word_place(instr: &Instr, size: u32) -> Option<(Access, i64)> {
-    let moves_words = matches!(
-        instr,
-        Instr::Load(_) | Instr::Store(_) | Instr::LoadDouble(_) | Instr::StoreDouble(_)
-    );
-    let (access, place) = place_accessed(instr, size)?;
-    let stays = may_stay(&access, place, size);
-    if moves_words && stays {
+    let Some((access, place)) = place_accessed(instr, size) else {
+        return None;
+    };
+    let Access { fields, bytes, .. } = access;
+    let end = place.saturating_add(i64::from(bytes));
+    let moves_words = bytes >= 4 && !matches!(instr, Instr::Swap(_));
+    let lies_within = i64::from(SAVE_AREA) <= place && end <= i64::from(size.min(FRAME));
+    let is_held = bit_of(fields.rd) & STACK != 0;
+    if moves_words & lies_within & !is_held & (place.rem_euclid(4) == 0) {
         Some((access, place))
     } else {
         None
@@ -88,7 +79,11 @@ pub fn word_step(step: &Step, stores: bool, place: i64, rd: Reg) -> Step {
         rs1: Reg::SP,
         operand2: Operand::Immediate(word_of(place)),
     };
-    beside(step, moved_word(stores, fields), None)
+    Step {
+        instr: moved_word(stores, fields),
+        object: None,
+        ..*step
+    }
 }
 
 /// The place in the frame whose address an instruction makes, a sum, a difference or a move; and the register that it
@@ -105,7 +100,9 @@ pub fn address_made(instr: &Instr, size: u32) -> Option<(i64, Reg)> {
         Operand::Register(second) if sign == 0 && fields.rs1 == Reg::G0 => (second, 0),
         _ => return None,
     };
-    let base = base_of(register, size)?;
+    let Some(base) = base_of(register, size) else {
+        return None;
+    };
     let place = if sign < 0 {
         base.saturating_sub(number)
     } else {
@@ -117,7 +114,9 @@ pub fn address_made(instr: &Instr, size: u32) -> Option<(i64, Reg)> {
 /// A step with the scratch register in the place of %sp or %fp, where one alone of its operands is that; and the offset
 /// from %sp that the scratch register has to hold.
 pub fn by_scratch(step: &Step, object: usize, size: u32) -> Option<(i64, Step)> {
-    let Three { rd, rs1, operand2 } = fields_of(&step.instr)?;
+    let Some(Three { rs1, operand2, .. }) = fields_of(&step.instr) else {
+        return None;
+    };
     let second = match operand2 {
         Operand::Register(register) => base_of(register, size),
         Operand::Immediate(_) => None,
@@ -127,33 +126,27 @@ pub fn by_scratch(step: &Step, object: usize, size: u32) -> Option<(i64, Step)> 
         (None, Some(base)) => (base, rs1, Operand::Register(scratch())),
         _ => return None,
     };
-    match step.instr {
-        Instr::Add(_) | Instr::Sub(_) | Instr::SubCc(_) => {}
-        other => {
-            let _ = access_of(&other)?;
-        }
+    let is_sum = matches!(step.instr, Instr::Add(_) | Instr::Sub(_) | Instr::SubCc(_));
+    if !is_sum && access_of(&step.instr).is_none() {
+        return None;
     }
-    let instr = with_fields(&step.instr, Three { rd, rs1, operand2 });
-    Some((base, beside(step, instr, Some(object))))
+    let step = Step {
+        instr: with_operands(&step.instr, rs1, operand2),
+        object: Some(object),
+        ..*step
+    };
+    Some((base, step))
 }
 
 /// How many bytes a step takes from %sp.
 pub fn taken_by(step: &Step) -> Option<i64> {
-    match step.instr {
-        Instr::Add(
-            Three {
-                rd,
-                rs1,
-                operand2: Operand::Immediate(number),
-            },
-        )
-        | Instr::Sub(
-            Three {
-                rd,
-                rs1,
-                operand2: Operand::Immediate(number),
-            },
-        ) if rd == Reg::SP && rs1 == Reg::SP => Some(signed(number).saturating_abs()),
+    let (Instr::Add(fields) | Instr::Sub(fields)) = step.instr else {
+        return None;
+    };
+    match fields.operand2 {
+        Operand::Immediate(number) if fields.rd == Reg::SP && fields.rs1 == Reg::SP => {
+            Some(signed(number).saturating_abs())
+        }
         _ => None,
     }
 }

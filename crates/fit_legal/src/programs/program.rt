@@ -1,38 +1,35 @@
 //! The program of a source.
-use crate::arguments::place_arguments;
 use crate::calls::order_of_calls;
-use crate::frames::{place_frame, take_room};
+use crate::frames::place_frame;
 use fit_blocks::{
     Layout, bit_of, form_fault, function_of, give_one_entry, layout_of, operands_read, points_of,
     prune, push_step, put_plainly, read_by, repeat_compares, result_register, step_of, written,
 };
 use fit_code::{Block, End, Fault, Function, Line, Program, Reason, Step};
 use fit_gas::{Code, Source};
-use std::alloc::{AllocError, Global};
+use std::alloc::Global;
 use v8_formats::{Instr, Operand, Three};
 use v8_word::Reg;
 
 /// How many functions an image has at most.
 const FUNCTIONS: usize = 256;
 
-/// The numbers of the functions by those of the source.
-fn places_of(alloc: Global, order: &[usize], count: usize) -> Result<Vec<usize>, AllocError> {
-    let mut places = vec![in alloc; 0; count]?;
-    for (place, code) in order.iter().enumerate() {
-        if let Some(found) = places.get_mut(*code) {
-            *found = place;
+/// The number of a function in the program, by its number in the source.
+fn place_in(order: &[usize], code: usize) -> usize {
+    for (place, number) in order.iter().enumerate() {
+        if *number == code {
+            return place;
         }
     }
-    Ok(places)
+    0
 }
 
 /// Gives calls the numbers of the program's functions.
-fn renumber(function: &mut Function, places: &[usize]) {
+fn renumber(function: &mut Function, order: &[usize]) {
     for block in function.blocks.iter_mut() {
         for step in block.steps.iter_mut() {
             if let Some(callee) = step.callee {
-                let place = places.get(callee).copied().unwrap_or(0);
-                step.callee = Some(place);
+                step.callee = Some(place_in(order, callee));
             }
         }
     }
@@ -52,34 +49,26 @@ fn is_spill(step: &Step) -> bool {
     }
 }
 
-/// The line of a block's first step that names a register that holds a frame or a way back, but to spill words; or of
-/// its end.
-fn line_of_held(block: &Block) -> Option<Line> {
-    for step in &block.steps {
-        if step.callee.is_none()
-            && (read_by(&step.instr) | written(&step.instr)) & HELD != 0
-            && !is_spill(step)
-        {
-            return Some(step.line);
-        }
-    }
-    match block.end {
-        End::Return(fields) if (operands_read(&fields) | bit_of(fields.rd)) & HELD != 0 => {
-            Some(block.line)
-        }
-        _ => None,
-    }
-}
-
-/// No step names a register that holds a frame or a way back, but to spill words.
-fn check_registers(function: &Function) -> Result<(), Fault> {
+/// The line of a function's first step that names a register that holds a frame or a way back, but to spill words; or
+/// of a block's end.
+fn line_of_held(function: &Function) -> Option<Line> {
     for block in &function.blocks {
-        if let Some(line) = line_of_held(block) {
-            let what = "a register that holds a frame or the way back";
-            return Err(form_fault(&function.name, line, what));
+        for step in &block.steps {
+            if step.callee.is_none()
+                && (read_by(&step.instr) | written(&step.instr)) & HELD != 0
+                && !is_spill(step)
+            {
+                return Some(step.line);
+            }
+        }
+        match block.end {
+            End::Return(fields) if (operands_read(&fields) | bit_of(fields.rd)) & HELD != 0 => {
+                return Some(block.line);
+            }
+            _ => {}
         }
     }
-    Ok(())
+    None
 }
 
 /// What leaves a framed function's result in %o0 before it returns: what RESTORE would write there, or what it would
@@ -102,64 +91,51 @@ fn end_runs(function: &mut Function) -> Result<(), Fault> {
             block.end = End::Exit;
             if framed {
                 let step = step_of(result_move(fields), block.line);
-                push_step(&mut block.steps, step)?;
+                tried!(push_step(&mut block.steps, step));
             }
         }
     }
     Ok(())
 }
 
-/// Makes one function legal, by its number in the source.
-fn change(layout: &mut Layout, number: usize, function: &mut Function) -> Result<(), Fault> {
-    let alloc = layout.alloc;
-    prune(alloc, function)?;
-    give_one_entry(alloc, function)?;
-    let size = match take_room(alloc, function)? {
-        Some(size) => size,
-        None => {
-            place_arguments(number, function, layout)?;
-            function.frame
-        }
-    };
-    place_frame(function, size, layout)?;
-    check_registers(function)?;
-    put_plainly(alloc, function)?;
-    repeat_compares(alloc, function)
-}
-
-/// Adds one function, by its number in the source.
+/// Adds one function, by its number in the source, and makes it legal.
 fn add(
     layout: &mut Layout,
     functions: &mut Vec<Function>,
     number: usize,
     code: &Code,
-    places: &[usize],
+    order: &[usize],
 ) -> Result<(), Fault> {
-    let mut function = function_of(layout.alloc, points_of(layout, number, code)?)?;
-    change(layout, number, &mut function)?;
-    renumber(&mut function, places);
-    if functions.is_empty() {
-        end_runs(&mut function)?;
+    let alloc = layout.alloc;
+    let is_first = functions.is_empty();
+    let points = tried!(points_of(layout, number, code));
+    functions.push(tried!(function_of(alloc, points)))?;
+    let Some(function) = functions.last_mut() else {
+        return Ok(());
+    };
+    tried!(prune(alloc, function));
+    give_one_entry(alloc, function)?;
+    tried!(place_frame(function, number, layout));
+    if let Some(line) = line_of_held(function) {
+        let what = "a register that holds a frame or the way back";
+        return Err(form_fault(&function.name, line, what));
     }
-    Ok(functions.push(function)?)
+    tried!(put_plainly(alloc, function));
+    tried!(repeat_compares(alloc, function));
+    renumber(function, order);
+    if is_first { end_runs(function) } else { Ok(()) }
 }
 
-/// Adds the functions that a run from the entry can come to.
-fn add_all(layout: &mut Layout, functions: &mut Vec<Function>, entry: &str) -> Result<(), Fault> {
+/// Adds the functions of these numbers.
+///
+/// # Errors
+/// As `program_of`: first at the first function beyond those that an image may have.
+fn add_all(
+    layout: &mut Layout,
+    functions: &mut Vec<Function>,
+    order: &[usize],
+) -> Result<(), Fault> {
     let source = layout.source;
-    let order = order_of_calls(source, &layout.linked, entry)?;
-    check_count(source, order.as_slice())?;
-    let places = places_of(layout.alloc, order.as_slice(), source.codes.len())?;
-    for number in &order {
-        if let Some(code) = source.codes.get(*number) {
-            add(layout, functions, *number, code, places.as_slice())?;
-        }
-    }
-    layout.end_region(false)
-}
-
-/// A fault at the first function beyond those that an image may have.
-fn check_count(source: &Source, order: &[usize]) -> Result<(), Fault> {
     if let Some(number) = order.get(FUNCTIONS)
         && let Some(code) = source.codes.get(*number)
     {
@@ -169,7 +145,12 @@ fn check_count(source: &Source, order: &[usize]) -> Result<(), Fault> {
         };
         return Err(Fault::new(code.line, reason));
     }
-    Ok(())
+    for number in order {
+        if let Some(code) = source.codes.get(*number) {
+            tried!(add(layout, functions, *number, code, order));
+        }
+    }
+    layout.end_region(false)
 }
 
 /// The program that a source is, from the global function `entry` on.
@@ -179,13 +160,15 @@ fn check_count(source: &Source, order: &[usize]) -> Result<(), Fault> {
 /// function; an array whose size isn't constant; an instruction that sandboxed code may not have; a name that
 /// stands nowhere; a form that compilers don't write; more functions, or bytes of data, than an image may have.
 pub fn program_of(alloc: Global, source: &Source, entry: &str) -> Result<Program, Fault> {
-    let mut layout = layout_of(source)?;
+    let files = source.files.clone()?;
+    let mut layout = tried!(layout_of(source));
+    let order = tried!(order_of_calls(source, &layout.linked, entry));
     let mut functions = Vec::new(alloc);
-    add_all(&mut layout, &mut functions, entry)?;
+    tried!(add_all(&mut layout, &mut functions, order.as_slice()));
     Ok(Program {
         functions,
         objects: layout.objects,
         regions: layout.regions,
-        files: source.files.clone()?,
+        files,
     })
 }
