@@ -74,12 +74,10 @@ fn insert_meters(
 ) -> Result<(), Fault> {
     let mut shares = vec![in alloc; plan.turns; program.functions.len()]?;
     for number in 0..shares.len() {
-        let most = if !plan.has_bounds {
-            0
-        } else if number == 0 {
-            FEW
-        } else {
-            SOME
+        let most = match (plan.has_bounds, number) {
+            (false, _) => 0,
+            (true, 0) => FEW,
+            (true, _) => SOME,
         };
         let mut bounds = bounds_of(alloc, program, ranges, number, state)?;
         bounds.limit(most);
@@ -175,5 +173,6 @@ pub fn make(alloc: Global, program: Program, plan: Plan) -> Result<Made, Fault> 
         text: String::new(alloc),
         budget: 0,
     };
-    fit(alloc, &mut made, plan, &mut state).and(Ok(made))
+    fit(alloc, &mut made, plan, &mut state)?;
+    Ok(made)
 }

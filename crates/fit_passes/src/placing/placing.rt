@@ -118,15 +118,16 @@ fn follow(
     if let Some(last) = placed.last_mut()
         && let End::Branch { next, .. } = &mut last.end
     {
-        let jump = Block {
-            steps: Vec::new(alloc),
-            end: End::Jump(*next),
-            slot: None,
-            line: last.line,
-        };
+        let (to, line) = (*next, last.line);
         *next = behind;
         lacks |= numbers.push(Some(placed.len())).is_err();
-        lacks |= placed.push(jump).is_err();
+        let jump = placed.push(Block {
+            steps: Vec::new(alloc),
+            end: End::Jump(to),
+            slot: None,
+            line,
+        });
+        lacks |= jump.is_err();
     }
     lacks
 }
