@@ -1,24 +1,14 @@
 //! The functions of a source.
 use crate::annotations::{Annotations, BlockNotes, FunctionNotes};
 use crate::data::push_data;
-use crate::length::Length;
-use crate::lines::{Slot, Told};
 use crate::names::names_of;
-use fit_code::{Block, End, Fault, Function, NO_LINE, Program, Range, Step};
+use crate::text::Text;
+use fit_code::{Block, End, Fault, Function, Line, NO_LINE, Program, Range, Step};
 use sbx_declare::{Bounds, Location};
 use std::alloc::{AllocError, Global};
 use v8_formats::{Instr, Operand};
 use v8_forms::suffixes;
 use v8_word::Cond;
-
-/// Which block of which function is told.
-#[derive(Clone, Copy)]
-struct BlockPlace<'n> {
-    name: &'n str,
-    frame: u32,
-    framed: bool,
-    number: usize,
-}
 
 /// Whether a program asks for a service.
 fn asks_for(program: &Program, service: u32) -> bool {
@@ -38,160 +28,159 @@ fn asks_for(program: &Program, service: u32) -> bool {
 }
 
 /// The services and the pages of stack.
-fn push_head(out: &mut String, program: &Program, room: u64) -> Result<(), AllocError> {
-    let get = if asks_for(program, 1) { ",get" } else { "" };
-    let put = if asks_for(program, 2) { ",put" } else { "" };
-    let pages = (room.saturating_add(64 + 4095) / 4096).max(1);
-    writeln!(out, ".services exit{get}{put}\n.stack {pages}")
+fn push_head(out: &mut Text, program: &Program, room: u64) {
+    out.add(".services exit");
+    if asks_for(program, 1) {
+        out.add(",get");
+    }
+    if asks_for(program, 2) {
+        out.add(",put");
+    }
+    let pages = room.saturating_add(64 + 4095) / 4096;
+    out.put("\n.stack ", &pages);
 }
 
 /// What is known where a block begins, and its fuel.
-fn push_notes(out: &mut String, notes: &BlockNotes) -> Result<(), AllocError> {
+fn push_notes(out: &mut Text, notes: &BlockNotes) {
     for cell in &notes.cells {
-        let location = Location(cell.location);
-        let range = Bounds(cell.range);
-        writeln!(out, ".cell {location},{range}")?;
+        out.put("\n.cell ", &Location(cell.location));
+        out.put(",", &Bounds(cell.range));
     }
-    let fuel = notes.fuel;
-    writeln!(out, ".fuel {fuel}")?;
+    out.put("\n.fuel ", &notes.fuel);
     for term in &notes.terms {
-        let location = Location(term.location);
-        let coefficient = term.coefficient;
-        writeln!(out, ".term {location},{coefficient}")?;
+        out.put("\n.term ", &Location(term.location));
+        out.put(",", &term.coefficient);
     }
-    Ok(())
 }
 
-/// The lines of a step; of a call with its slot.
-fn push_step(out: &mut String, told: &mut Told<'_>, step: &Step) -> Result<(), AllocError> {
-    if let Some(number) = step.callee
-        && let Some(callee) = told.names.get(number)
-    {
-        let slot = Slot(step.slot);
-        return writeln!(out, "    call {callee}\n    {slot}");
+/// The lines of steps; of a call with its slot.
+fn push_steps(out: &mut Text, files: &[String], names: &[String], steps: &[Step]) {
+    for step in steps {
+        if let Some(number) = step.callee
+            && let Some(callee) = names.get(number)
+        {
+            out.put("\n    call ", callee);
+            out.put_slot(&step.slot);
+        } else {
+            out.put_instr(files, &step.instr, step.line);
+        }
     }
-    told.push_instr(out, &step.instr, step.line)
 }
 
-/// The end of a block.
+/// The end of a function's block with a number.
 fn push_end(
-    out: &mut String,
-    told: &mut Told<'_>,
-    place: BlockPlace<'_>,
+    out: &mut Text,
+    files: &[String],
+    name: &str,
+    is_framed: bool,
+    number: usize,
     block: &Block,
-) -> Result<(), AllocError> {
+) {
     let (cond, to) = match block.end {
-        End::Jump(to) if to == place.number.saturating_add(1) => return Ok(()),
+        End::Jump(to) if to == number.saturating_add(1) => return,
         End::Jump(to) => (Cond::Always, to),
         End::Branch { cond, taken, .. } => (cond, taken),
-        End::Return(fields) => {
-            let (text, slot) = if place.framed {
-                ("ret", Some(Instr::Restore(fields)))
-            } else {
-                ("retl", block.slot)
-            };
-            let slot = Slot(slot);
-            told.push_text(out, text, block.line)?;
-            return writeln!(out, "    {slot}");
+        End::Return(fields) if is_framed => {
+            out.put_text(files, "ret", block.line);
+            return out.put_instr(files, &Instr::Restore(fields), NO_LINE);
         }
-        End::Exit => return told.push_text(out, "ta 0", block.line),
+        End::Return(_) => {
+            out.put_text(files, "retl", block.line);
+            return out.put_slot(&block.slot);
+        }
+        End::Exit => return out.put_text(files, "ta 0", block.line),
     };
     let suffix = match suffixes().get(usize::from(cond.code())) {
         Some(suffix) => *suffix,
         None => "n",
     };
-    let name = place.name;
-    let slot = Slot(block.slot);
-    writeln!(out, "    b{suffix} {name}.{to}\n    {slot}")
-}
-
-/// A block with a number; the first one begins with its function.
-fn push_block(
-    out: &mut String,
-    told: &mut Told<'_>,
-    place: BlockPlace<'_>,
-    block: &Block,
-    notes: Option<&BlockNotes>,
-) -> Result<(), AllocError> {
-    let BlockPlace {
-        name,
-        frame,
-        number,
-        ..
-    } = place;
-    if number > 0 {
-        writeln!(out, ".block {name}.{number}")?;
-    }
-    if let Some(notes) = notes {
-        push_notes(out, notes)?;
-    }
-    if number == 0 && frame > 0 {
-        writeln!(out, "    save %sp,-{frame},%sp")?;
-    }
-    for step in &block.steps {
-        push_step(out, told, step)?;
-    }
-    push_end(out, told, place, block)
+    out.put("\n    b", &suffix);
+    out.put(" ", &name);
+    out.put(".", &to);
+    out.put_slot(&block.slot);
 }
 
 /// Ranges, in a line each.
-fn push_ranges(out: &mut String, what: &str, ranges: &[Range]) -> Result<(), AllocError> {
+fn push_ranges(out: &mut Text, what: &str, ranges: &[Range]) {
     for range in ranges {
-        let range = Bounds(*range);
-        writeln!(out, "{what} {range}")?;
+        out.put(what, &Bounds(*range));
     }
-    Ok(())
 }
 
 /// The line that begins a function, and what it promises.
-fn push_function_head(
-    out: &mut String,
-    name: &str,
-    function: &Function,
-    notes: &FunctionNotes,
-) -> Result<(), AllocError> {
-    let kind = if function.framed { "framed" } else { "leaf" };
-    let frame = function.frame;
-    let FunctionNotes {
-        room,
-        budget,
-        depth,
-        ..
-    } = notes;
-    writeln!(
-        out,
-        "\n.function {name},{kind},{frame},{room},{budget}\n.depth {depth}"
-    )?;
-    push_ranges(out, ".param", function.params.as_slice())?;
-    push_ranges(out, ".result", function.results.as_slice())
+fn push_function_head(out: &mut Text, name: &str, function: &Function, notes: &FunctionNotes) {
+    out.put("\n\n.function ", &name);
+    let kind = if function.framed {
+        ",framed,"
+    } else {
+        ",leaf,"
+    };
+    out.put(kind, &function.frame);
+    out.put(",", &notes.room);
+    out.put(",", &notes.budget);
+    out.put("\n.depth ", &notes.depth);
+    push_ranges(out, "\n.param ", function.params.as_slice());
+    push_ranges(out, "\n.result ", function.results.as_slice());
 }
 
-/// A function, behind a source of some length.
-fn push_function(
-    out: &mut String,
-    length: &mut Length,
-    told: &mut Told<'_>,
+/// The blocks of a function of a program with these files and names; the first one begins with its function. Gives the
+/// line with which the source gets longer than the assembler reads.
+fn push_blocks(
+    out: &mut Text,
+    files: &[String],
+    names: &[String],
     name: &str,
     function: &Function,
-    notes: &FunctionNotes,
-) -> Result<(), Fault> {
-    push_function_head(out, name, function, notes)?;
+    notes: &[BlockNotes],
+) -> Option<Line> {
     for (number, block) in function.blocks.iter().enumerate() {
-        let place = BlockPlace {
-            name,
-            frame: function.frame,
-            framed: function.framed,
-            number,
-        };
-        push_block(out, told, place, block, notes.blocks.get(number))?;
-        let line = if block.line == NO_LINE {
-            function.line
-        } else {
-            block.line
-        };
-        length.count(out.as_str(), line)?;
+        if number > 0 {
+            out.put("\n.block ", &name);
+            out.put(".", &number);
+        }
+        if let Some(notes) = notes.get(number) {
+            push_notes(out, notes);
+        }
+        if number == 0 && function.frame > 0 {
+            out.put("\n    save %sp,-", &function.frame);
+            out.add(",%sp");
+        }
+        push_steps(out, files, names, block.steps.as_slice());
+        push_end(out, files, name, function.framed, number, block);
+        if out.is_too_long() {
+            return Some(if block.line == NO_LINE {
+                function.line
+            } else {
+                block.line
+            });
+        }
     }
-    Ok(())
+    None
+}
+
+/// The functions of a program with these names. Gives the line with which the source gets longer than the assembler
+/// reads.
+fn push_functions(
+    out: &mut Text,
+    program: &Program,
+    names: &[String],
+    annotations: &[FunctionNotes],
+) -> Option<Line> {
+    let files = program.files.as_slice();
+    for (number, function) in program.functions.iter().enumerate() {
+        if let Some(name) = names.get(number)
+            && let Some(notes) = annotations.get(number)
+        {
+            let name = name.as_str();
+            push_function_head(out, name, function, notes);
+            let blocks = notes.blocks.as_slice();
+            let line = push_blocks(out, files, names, name, function, blocks);
+            if line.is_some() {
+                return line;
+            }
+        }
+    }
+    None
 }
 
 /// A program as a source in the project's language, with the lines of C in comments. Its blocks stand in their places
@@ -199,29 +188,26 @@ fn push_function(
 ///
 /// # Errors
 /// At the line with which the source gets longer than the assembler reads: 1,000,000 lines, or 16,777,216 bytes.
-pub fn push_source(
+pub fn source_of(
     alloc: Global,
-    out: &mut String,
     program: &Program,
     annotations: &Annotations,
-) -> Result<(), Fault> {
-    let room = match annotations.functions.first() {
+) -> Result<String, Fault> {
+    let functions = annotations.functions.as_slice();
+    let room = match functions.first() {
         Some(notes) => notes.room,
         None => 0,
     };
-    push_head(out, program, room)?;
-    push_data(out, program)?;
-    let names = names_of(alloc, program)?;
-    let names = names.as_slice();
-    let mut told = Told::new(program, names);
-    let mut length = Length::none();
-    for (number, function) in program.functions.iter().enumerate() {
-        if let Some(name) = names.get(number)
-            && let Some(notes) = annotations.functions.get(number)
-        {
-            let name = name.as_str();
-            push_function(out, &mut length, &mut told, name, function, notes)?;
-        }
+    let mut out = Text::new(alloc);
+    let names = names_of(alloc, &mut out, program);
+    push_head(&mut out, program, room);
+    push_data(&mut out, program);
+    if let Some(line) = push_functions(&mut out, program, names.as_slice(), functions) {
+        return Err(out.excess(line));
     }
-    Ok(())
+    out.add("\n");
+    if out.lacks {
+        return Err(Fault::from(AllocError));
+    }
+    Ok(out.text)
 }

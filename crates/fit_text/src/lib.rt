@@ -4,9 +4,8 @@
 mod annotations;
 mod code;
 mod data;
-mod length;
-mod lines;
 mod names;
+mod text;
 
 pub use annotations::{Annotations, BlockNotes, FunctionNotes};
-pub use code::push_source;
+pub use code::source_of;

@@ -7,13 +7,14 @@ use fit_graph::{Order, order_of, successors_in};
 use std::alloc::{AllocError, Global};
 
 /// Adds the blocks that control goes back to, as an order of the blocks has it, but for the heads of loops with bounds:
-/// each round of another loop comes through one of them.
+/// each round of another loop comes through one of them. Says whether memory was refused.
 fn add_unbounded(
     function: &Function,
     order: &Order,
     bounds: &Bounds,
     heads: &mut Vec<usize>,
-) -> Result<(), AllocError> {
+) -> bool {
+    let mut lacks = false;
     // a block has two ways at most
     for way in 0..order.blocks.len().saturating_mul(2) {
         let place = way / 2;
@@ -24,10 +25,10 @@ fn add_unbounded(
             && !bounds.has_head(to)
             && !heads.contains(&to)
         {
-            heads.push(to)?;
+            lacks |= heads.push(to).is_err();
         }
     }
-    Ok(())
+    lacks
 }
 
 /// Whether a block stands behind one of some others in the order.
@@ -54,14 +55,14 @@ pub fn add_heads(
     heads: &mut Vec<usize>,
 ) -> Result<(), AllocError> {
     let order = order_of(alloc, function)?;
-    add_unbounded(function, &order, bounds, heads)?;
+    let mut lacks = add_unbounded(function, &order, bounds, heads);
     for within in &bounds.loops {
         if within.parent.is_none()
             && bounds.has_head(within.head)
             && is_behind(&order, within.head, heads.as_slice())
         {
-            heads.push(within.head)?;
+            lacks |= heads.push(within.head).is_err();
         }
     }
-    Ok(())
+    if lacks { Err(AllocError) } else { Ok(()) }
 }

@@ -28,24 +28,22 @@ fn word_move(register: Reg, distance: u32, stores: bool) -> Instr {
     }
 }
 
-/// A new word of a function's frame, by its distance from %sp.
-fn new_word(function: &mut Function) -> Result<u32, Fault> {
-    let distance = function.frame;
-    if !function.framed || distance > 4096 - 8 {
-        let what = "no register is left to count its turns in";
-        return Err(refused(function, function.line, what));
-    }
-    function.frame = distance.saturating_add(8);
-    Ok(distance)
-}
-
-/// A meter of so many turns that isn't in use yet.
+/// A meter of so many turns that isn't in use yet: in a register that has no other use or, where there is none, in a
+/// new word of the frame.
 fn meter_for(function: &mut Function, turns: u64) -> Result<Meter, Fault> {
     let unit = turns / GREATEST + 1;
     let count = (turns / unit).clamp(1, GREATEST);
+    let frame = function.frame;
     let (counter, word) = match free_register(function) {
         Some(free) => (free, None),
-        None => (register(7), Some(new_word(function)?)),
+        None if function.framed && frame <= 4096 - 8 => {
+            function.frame = frame.saturating_add(8);
+            (register(7), Some(frame))
+        }
+        None => {
+            let what = "no register is left to count its turns in";
+            return Err(refused(function, function.line, what));
+        }
     };
     Ok(Meter {
         register: counter,
@@ -67,45 +65,45 @@ fn line_of(function: &Function, block: usize) -> Line {
     }
 }
 
-/// A place of the meter before a block, and the block where the run ends because the meter is empty; gives the place's
-/// number.
+/// Adds a block of these instructions.
+fn add_block(
+    alloc: Global,
+    function: &mut Function,
+    instrs: &[Option<Instr>],
+    end: End,
+    slot: Option<Instr>,
+    line: Line,
+) -> Result<(), AllocError> {
+    let block = push_block(alloc, function, end, line)?;
+    block.slot = slot;
+    push_instrs(&mut block.steps, instrs, line)
+}
+
+/// Adds a place of the meter before a block, behind the block where the run ends because the meter is empty.
 fn add_place(
     alloc: Global,
     function: &mut Function,
     meter: &Meter,
     before: usize,
-) -> Result<usize, AllocError> {
+) -> Result<(), AllocError> {
     let line = line_of(function, before);
     let empty = function.blocks.len();
-    let word = EMPTY | line.number.min(0xffff);
-    let block = push_block(alloc, function, End::Exit, line)?;
-    push_instrs(&mut block.steps, &number_in(register(8), word), line)?;
+    let word = number_in(register(8), EMPTY | line.number.min(0xffff));
     let end = End::Branch {
         cond: Cond::Negative,
         taken: empty,
         next: before,
     };
-    let block = push_block(alloc, function, end, line)?;
-    if let Some(distance) = meter.word {
-        block.slot = Some(word_move(meter.register, distance, true));
-        let load = word_move(meter.register, distance, false);
-        push_instrs(&mut block.steps, &[Some(load)], line)?;
-    }
-    push_instrs(&mut block.steps, &counting(meter, 1), line)?;
-    Ok(empty.saturating_add(1))
-}
-
-/// The end with another block in the place of one.
-fn redirected(end: End, old: usize, new: usize) -> End {
-    match end {
-        End::Jump(block) if block == old => End::Jump(new),
-        End::Branch { cond, taken, next } => End::Branch {
-            cond,
-            taken: if taken == old { new } else { taken },
-            next: if next == old { new } else { next },
-        },
-        end => end,
-    }
+    let (load, store) = match meter.word {
+        Some(distance) => (
+            Some(word_move(meter.register, distance, false)),
+            Some(word_move(meter.register, distance, true)),
+        ),
+        None => (None, None),
+    };
+    let [high, low, count] = counting(meter, 1);
+    let exit = add_block(alloc, function, &word, End::Exit, None, line);
+    exit.and(add_block(alloc, function, &[load, high, low, count], end, store, line))
 }
 
 /// Puts a place before a block: whatever went to the block goes there, but for the blocks of a loop.
@@ -116,17 +114,26 @@ fn put_place(
     head: usize,
     within: Option<&Loop>,
 ) -> Result<(), AllocError> {
-    let place = add_place(alloc, function, meter, head)?;
+    let added = add_place(alloc, function, meter, head);
+    let place = function.blocks.len().saturating_sub(1);
     for (number, block) in function.blocks.iter_mut().enumerate() {
         let is_in = match within {
             Some(within) => within.has(number),
             None => false,
         };
-        if number != place && !is_in {
-            block.end = redirected(block.end, head, place);
+        if is_in || number == place {
+            continue;
+        }
+        match &mut block.end {
+            End::Jump(to) if *to == head => *to = place,
+            End::Branch { taken, next, .. } => {
+                *taken = if *taken == head { place } else { *taken };
+                *next = if *next == head { place } else { *next };
+            }
+            _ => {}
         }
     }
-    Ok(())
+    added
 }
 
 /// Whether a loop goes without the meter, and that around it doesn't.
@@ -140,23 +147,6 @@ fn is_counted_within(loops: &[Loop], within: &Loop, heads: &[usize]) -> bool {
     }
 }
 
-/// Puts places before loops that go without the meter in one that has it, on the ways into them, so that what comes
-/// before pays for the way there alone, and not for their rounds.
-fn put_entries(
-    alloc: Global,
-    function: &mut Function,
-    meter: &Meter,
-    loops: &[Loop],
-    heads: &[usize],
-) -> Result<(), AllocError> {
-    for within in loops {
-        if is_counted_within(loops, within, heads) {
-            put_place(alloc, function, meter, within.head, Some(within))?;
-        }
-    }
-    Ok(())
-}
-
 /// What the meter begins with is set where the function begins.
 fn put_start(function: &mut Function, meter: &Meter) -> Result<(), AllocError> {
     let [high, low] = number_in(meter.register, meter.count);
@@ -164,16 +154,19 @@ fn put_start(function: &mut Function, meter: &Meter) -> Result<(), AllocError> {
         Some(distance) => Some(word_move(meter.register, distance, true)),
         None => None,
     };
+    let mut put = Ok(());
     // the last of them first, since each stands before those that are there
     for instr in &[store, low, high] {
         if let Some(instr) = *instr {
-            insert_instr(function, 0, 0, instr, NO_LINE)?;
+            put = put.and(insert_instr(function, 0, 0, instr, NO_LINE));
         }
     }
-    Ok(())
+    put
 }
 
-/// Gives a function with these loops a meter of so many turns, which places before these blocks count down.
+/// Gives a function with these loops a meter of so many turns, which places before these blocks count down. There are
+/// also places before loops that go without the meter in one that has it, on the ways into them, so that what comes
+/// before pays for the way there alone, and not for their rounds.
 fn put_meter(
     alloc: Global,
     function: &mut Function,
@@ -182,11 +175,16 @@ fn put_meter(
     heads: &[usize],
 ) -> Result<Meter, Fault> {
     let meter = meter_for(function, turns)?;
+    let mut put = Ok(());
     for head in heads {
-        put_place(alloc, function, &meter, *head, None)?;
+        put = put.and(put_place(alloc, function, &meter, *head, None));
     }
-    put_entries(alloc, function, &meter, loops, heads)?;
-    put_start(function, &meter)?;
+    for within in loops {
+        if is_counted_within(loops, within, heads) {
+            put = put.and(put_place(alloc, function, &meter, within.head, Some(within)));
+        }
+    }
+    put.and(put_start(function, &meter))?;
     Ok(meter)
 }
 

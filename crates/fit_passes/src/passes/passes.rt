@@ -1,12 +1,11 @@
 //! From compiler-made assembly to an annotated source.
 use crate::metering::insert_meter;
-use crate::passes::unreached::end_unreached;
 use crate::placing::{fill, place};
 use fit_code::{Block, Fault, Function, NO_LINE, Program, Reason};
 use fit_fuel::{Meter, bounds_of, declare};
 use fit_ranges::Ranges;
 use fit_tests::{Options, Test, add_tests};
-use fit_text::push_source;
+use fit_text::source_of;
 use sbx_domain::State;
 use std::alloc::{AllocError, Global};
 
@@ -95,10 +94,11 @@ fn insert_meters(
 
 /// Places the blocks of each function.
 fn place_all(alloc: Global, program: &mut Program) -> Result<(), AllocError> {
+    let mut placed = Ok(());
     for function in program.functions.iter_mut() {
-        place(alloc, function)?;
+        placed = placed.and(place(alloc, function));
     }
-    Ok(())
+    placed
 }
 
 /// Places blocks, and adds the tests that are asked for then, until none is; the ranges are found anew. Tests know
@@ -127,21 +127,22 @@ fn settle_places(
     ))
 }
 
-/// Fills the slots of a program whose blocks stand in their places, and writes its annotated source. What a step leaves
-/// known in its place it leaves known in a slot, so that the ranges stay.
+/// Puts the blocks of a program with its tests and meters into their places, fills their slots, and writes its
+/// annotated source. What a step leaves known in its place it leaves known in a slot, so that the ranges stay.
 fn write_source(
     alloc: Global,
     made: &mut Made,
-    ranges: &Ranges,
+    options: Options,
+    ranges: &mut Ranges,
     meters: &[Option<Meter>],
     state: &mut State,
 ) -> Result<(), Fault> {
     let program = &mut made.program;
-    end_unreached(program, ranges)?;
+    settle_places(alloc, program, options, ranges, state)?;
+    fill(program, ranges)?;
     ranges.store(program)?;
-    fill(program);
     let notes = declare(alloc, program, ranges, meters, state)?;
-    push_source(alloc, &mut made.text, program, &notes)?;
+    made.text = source_of(alloc, program, &notes)?;
     if let Some(notes) = notes.functions.first() {
         made.budget = notes.budget;
     }
@@ -160,19 +161,18 @@ fn fit(alloc: Global, made: &mut Made, plan: Plan, state: &mut State) -> Result<
     let mut meters = Vec::new(alloc);
     insert_meters(alloc, program, plan, &ranges, &mut meters, state)?;
     options.drops = false;
-    settle_places(alloc, program, options, &mut ranges, state)?;
-    write_source(alloc, made, &ranges, meters.as_slice(), state)
+    write_source(alloc, made, options, &mut ranges, meters.as_slice(), state)
 }
 
 /// Makes an annotated source of a program.
 pub fn make(alloc: Global, program: Program, plan: Plan) -> Result<Made, Fault> {
+    let mut state = State::new(alloc)?;
     let mut made = Made {
         program,
         tests: Vec::new(alloc),
         text: String::new(alloc),
         budget: 0,
     };
-    let mut state = State::new(alloc)?;
     fit(alloc, &mut made, plan, &mut state)?;
     Ok(made)
 }

@@ -1,7 +1,13 @@
-//! Filling delay slots.
+//! Filling delay slots, and what becomes of blocks that control doesn't come to.
 use crate::placing::kinds::{is_plain, sets_codes};
-use fit_code::{Block, End, Program, Step};
+use fit_code::{Block, End, Function, Program, Step};
 use fit_graph::effects_of;
+use fit_ranges::Ranges;
+use fit_tests::{Kind, number_in, push_instrs};
+use std::alloc::AllocError;
+
+/// The register of the exit word, %o0.
+const EXIT_WORD: u8 = 8;
 
 /// Whether a step may go to a slot.
 fn is_movable(step: &Step) -> bool {
@@ -18,11 +24,15 @@ fn may_pass(step: &Step, later: &Step) -> bool {
 /// The place of the step that may go to the slot of a jump or a branch: the last one or, at a branch, the one before
 /// the comparison that is the last.
 fn found_for(steps: &[Step], is_branch: bool) -> Option<usize> {
-    let (last, before) = steps.split_last()?;
+    let Some((last, before)) = steps.split_last() else {
+        return None;
+    };
     if is_movable(last) {
         return Some(before.len());
     }
-    let (candidate, others) = before.split_last()?;
+    let Some((candidate, others)) = before.split_last() else {
+        return None;
+    };
     if is_branch && sets_codes(&last.instr) && is_movable(candidate) && may_pass(candidate, last) {
         Some(others.len())
     } else {
@@ -32,15 +42,13 @@ fn found_for(steps: &[Step], is_branch: bool) -> Option<usize> {
 
 /// Fills the slot of a block's end, where it has one; a jump to the block `after` falls through, and has none.
 fn fill_end(block: &mut Block, after: usize) {
-    if block.slot.is_some() {
-        return;
-    }
-    let found = match block.end {
-        End::Branch { .. } => found_for(block.steps.as_slice(), true),
-        End::Jump(to) if to != after => found_for(block.steps.as_slice(), false),
-        _ => None,
+    let is_branch = match block.end {
+        End::Branch { .. } => true,
+        End::Jump(to) if to != after => false,
+        _ => return,
     };
-    if let Some(place) = found
+    if block.slot.is_none()
+        && let Some(place) = found_for(block.steps.as_slice(), is_branch)
         && place < block.steps.len()
     {
         let step = block.steps.remove(place);
@@ -69,13 +77,39 @@ fn fill_calls(steps: &mut Vec<Step>) {
     }
 }
 
-/// Fills slots: what stands before a branch, a jump or a call, and may as well stand behind it, goes to its slot.
-/// Blocks stand in their places then, and go on to the next one without a jump.
-pub fn fill(program: &mut Program) {
-    for function in program.functions.iter_mut() {
-        for (place, block) in function.blocks.iter_mut().enumerate() {
+/// Fills the slots of a function, by its number, whose blocks stand in their places, and makes the blocks to which
+/// control doesn't come ends of the run, with the exit word of their lines as where a test of an index fails.
+fn fill_function(
+    function: &mut Function,
+    ranges: &Ranges,
+    number: usize,
+) -> Result<(), AllocError> {
+    let kind = Kind::Index.number().saturating_mul(65_536);
+    let mut filled = Ok(());
+    for (place, block) in function.blocks.iter_mut().enumerate() {
+        if ranges.reaches(number, place) {
             fill_end(block, place.saturating_add(1));
             fill_calls(&mut block.steps);
+        } else {
+            let word = kind.saturating_add(block.line.number.min(0xffff).cast_signed());
+            let instrs = number_in(EXIT_WORD, word);
+            block.steps.clear();
+            block.end = End::Exit;
+            block.slot = None;
+            filled = filled.and(push_instrs(&mut block.steps, &instrs, block.line));
         }
     }
+    filled
+}
+
+/// Fills slots: what stands before a branch, a jump or a call, and may as well stand behind it, goes to its slot.
+/// Blocks stand in their places then, and go on to the next one without a jump. Those to which control doesn't come,
+/// as behind a test that always fails, are ends of the run: nothing is known where they begin, and the verifier refuses
+/// a block that reads what no cell names.
+pub fn fill(program: &mut Program, ranges: &Ranges) -> Result<(), AllocError> {
+    let mut filled = Ok(());
+    for (number, function) in program.functions.iter_mut().enumerate() {
+        filled = filled.and(fill_function(function, ranges, number));
+    }
+    filled
 }

@@ -1,7 +1,7 @@
 //! An order of a function's blocks in which control mostly goes on to the next one.
 use fit_code::{Block, End, Function, opposite};
 use fit_graph::order_of;
-use fit_tests::{push_block, push_instrs};
+use fit_tests::push_instrs;
 use std::alloc::{AllocError, Global};
 use std::mem;
 use v8_formats::{Instr, Upper};
@@ -56,133 +56,108 @@ fn straighten(function: &mut Function) {
     }
 }
 
-/// Blocks in their new order, and the new number of each old one.
-#[derive(Drop)]
-struct Chain {
-    blocks: Vec<usize>,
-    numbers: Vec<Option<usize>>,
+/// The new number of a block; none of one that isn't placed.
+fn number_in(numbers: &[Option<usize>], block: usize) -> Option<usize> {
+    match numbers.get(block) {
+        Some(number) => *number,
+        None => None,
+    }
 }
 
-impl Chain {
-    fn is_placed(&self, block: usize) -> bool {
-        matches!(self.numbers.get(block), Some(Some(_)))
-    }
-
-    /// The new number of a block; 0 of one that has none.
-    fn number_of(&self, block: usize) -> usize {
-        match self.numbers.get(block) {
-            Some(Some(number)) => *number,
-            _ => 0,
+/// What has to stand behind a block with this end; none where anything may. A branch whose next block stands elsewhere
+/// is turned.
+fn follower(numbers: &[Option<usize>], end: &mut End) -> Option<usize> {
+    match *end {
+        End::Jump(to) if number_in(numbers, to).is_none() => Some(to),
+        End::Branch { next, .. } if number_in(numbers, next).is_none() => Some(next),
+        End::Branch { cond, taken, next } if number_in(numbers, taken).is_none() => {
+            *end = End::Branch {
+                cond: opposite(cond),
+                taken: next,
+                next: taken,
+            };
+            Some(taken)
         }
+        _ => None,
     }
 }
 
-/// What has to stand behind a placed block; none where anything may. A branch whose next block stands elsewhere is
-/// turned, or gets a block that jumps there.
-fn follower(
-    alloc: Global,
-    function: &mut Function,
-    chain: &mut Chain,
-    block: usize,
-) -> Result<Option<usize>, AllocError> {
-    let count = function.blocks.len();
-    let Some(placed) = function.blocks.get_mut(block) else {
-        return Ok(None);
-    };
-    let (cond, taken, next) = match placed.end {
-        End::Branch { cond, taken, next } => (cond, taken, next),
-        End::Jump(to) if !chain.is_placed(to) => return Ok(Some(to)),
-        _ => return Ok(None),
-    };
-    if !chain.is_placed(next) {
-        return Ok(Some(next));
-    }
-    if !chain.is_placed(taken) {
-        placed.end = End::Branch {
-            cond: opposite(cond),
-            taken: next,
-            next: taken,
-        };
-        return Ok(Some(taken));
-    }
-    placed.end = End::Branch {
-        cond,
-        taken,
-        next: count,
-    };
-    let line = placed.line;
-    push_block(alloc, function, End::Jump(next), line)?;
-    chain.numbers.push(None)?;
-    Ok(Some(count))
-}
-
-/// Places a block, and behind it what follows.
+/// Places a block, and behind it what follows. Behind a branch both of whose blocks stand elsewhere comes a new block,
+/// which jumps to the next one. Says whether memory was refused.
 fn follow(
     alloc: Global,
-    function: &mut Function,
-    chain: &mut Chain,
+    blocks: &mut [Block],
+    placed: &mut Vec<Block>,
+    numbers: &mut Vec<Option<usize>>,
     first: usize,
-) -> Result<(), AllocError> {
-    let mut block = first;
-    // Each turn places one block; each old one may bring a new one.
-    for _ in 0..function.blocks.len().saturating_mul(2) {
-        if let Some(number) = chain.numbers.get_mut(block) {
-            *number = Some(chain.blocks.len());
+) -> bool {
+    let mut lacks = false;
+    let mut at = first;
+    // each turn places a block
+    for _ in 0..blocks.len() {
+        let Some(block) = blocks.get_mut(at) else {
+            return lacks;
+        };
+        if let Some(number) = numbers.get_mut(at) {
+            *number = Some(placed.len());
         }
-        chain.blocks.push(block)?;
-        match follower(alloc, function, chain, block)? {
-            Some(next) => block = next,
+        let next = follower(numbers.as_slice(), &mut block.end);
+        let placing = placed.push(Block {
+            steps: mem::replace(&mut block.steps, Vec::new(alloc)),
+            end: block.end,
+            slot: block.slot,
+            line: block.line,
+        });
+        lacks |= placing.is_err();
+        match next {
+            Some(next) => at = next,
             None => break,
         }
     }
-    Ok(())
-}
-
-/// The end with the new numbers.
-fn renumbered(chain: &Chain, end: End) -> End {
-    match end {
-        End::Jump(to) => End::Jump(chain.number_of(to)),
-        End::Branch { cond, taken, next } => End::Branch {
-            cond,
-            taken: chain.number_of(taken),
-            next: chain.number_of(next),
-        },
-        end => end,
+    let behind = numbers.len();
+    if let Some(last) = placed.last_mut()
+        && let End::Branch { next, .. } = &mut last.end
+    {
+        let (to, line) = (*next, last.line);
+        *next = behind;
+        lacks |= numbers.push(Some(placed.len())).is_err();
+        let jump = placed.push(Block {
+            steps: Vec::new(alloc),
+            end: End::Jump(to),
+            slot: None,
+            line,
+        });
+        lacks |= jump.is_err();
     }
+    lacks
 }
 
-/// Puts a function's blocks in the order of the chain, which has each of them once at most.
-fn reorder(alloc: Global, function: &mut Function, chain: &Chain) -> Result<(), AllocError> {
-    let mut placed = Vec::new(alloc);
-    for place in chain.blocks.as_slice() {
-        if let Some(block) = function.blocks.get_mut(*place) {
-            placed.push(Block {
-                steps: mem::replace(&mut block.steps, Vec::new(alloc)),
-                end: renumbered(chain, block.end),
-                slot: block.slot,
-                line: block.line,
-            })?;
+/// Puts the new numbers into ends.
+fn renumber(blocks: &mut [Block], numbers: &[Option<usize>]) {
+    for block in blocks.iter_mut() {
+        match &mut block.end {
+            End::Jump(to) => *to = number_in(numbers, *to).unwrap_or(0),
+            End::Branch { taken, next, .. } => {
+                *taken = number_in(numbers, *taken).unwrap_or(0);
+                *next = number_in(numbers, *next).unwrap_or(0);
+            }
+            End::Return(_) | End::Exit => {}
         }
     }
-    function.blocks = placed;
-    Ok(())
 }
 
 /// A leaf's first block has an instruction, also where it only goes on to the next block.
 fn fill_first(function: &mut Function) -> Result<(), AllocError> {
-    let line = function.line;
-    let framed = function.framed;
-    if let Some(first) = function.blocks.first_mut()
-        && !framed
-        && first.steps.is_empty()
-    {
-        let nothing = Instr::Sethi(Upper {
-            rd: Reg::G0,
-            imm22: 0,
-        });
-        push_instrs(&mut first.steps, &[Some(nothing)], line)?;
+    let nothing = Instr::Sethi(Upper {
+        rd: Reg::G0,
+        imm22: 0,
+    });
+    match function.blocks.first_mut() {
+        Some(first) if !function.framed && first.steps.is_empty() => {
+            push_instrs(&mut first.steps, &[Some(nothing)], function.line)
+        }
+        _ => Ok(()),
     }
-    Ok(())
 }
 
 /// Puts the blocks of a function in an order in which control mostly goes on to the next one, without those that
@@ -191,15 +166,20 @@ fn fill_first(function: &mut Function) -> Result<(), AllocError> {
 pub fn place(alloc: Global, function: &mut Function) -> Result<(), AllocError> {
     straighten(function);
     let order = order_of(alloc, function)?;
-    let mut chain = Chain {
-        blocks: Vec::new(alloc),
-        numbers: vec![in alloc; None; function.blocks.len()]?,
-    };
+    let mut numbers = vec![in alloc; None; function.blocks.len()]?;
+    let mut placed = Vec::new(alloc);
+    let mut lacks = false;
     for block in order.blocks.as_slice() {
-        if !chain.is_placed(*block) {
-            follow(alloc, function, &mut chain, *block)?;
+        if number_in(numbers.as_slice(), *block).is_none() {
+            let blocks = function.blocks.as_mut_slice();
+            lacks |= follow(alloc, blocks, &mut placed, &mut numbers, *block);
         }
     }
-    reorder(alloc, function, &chain)?;
-    fill_first(function)
+    renumber(placed.as_mut_slice(), numbers.as_slice());
+    function.blocks = placed;
+    if lacks {
+        Err(AllocError)
+    } else {
+        fill_first(function)
+    }
 }
