@@ -1,9 +1,8 @@
 //! Runs of an accepted image on the fast flat machine in pieces, beside a line's run.
 
 use crate::runs::{Counts, Run};
-use sbx_engine::Accepted;
+use sbx_engine::{Accepted, Paced, Stand};
 use sbx_flat::Traffic;
-use sbx_engine::{Paced, Stand};
 use std::alloc::{AllocError, Global};
 
 /// How many turns a step may make: fewer than a SAVE makes that finds no window free.

@@ -1,8 +1,7 @@
 //! What isn't shown of a function's steps.
 use crate::cuts::Memory;
-use fit_graph::{return_from, run_to_call};
 use fit_code::{Block, End, Function, Line, Program, Region};
-use fit_graph::{Effects, effects_of, read_at_end};
+use fit_graph::{Effects, effects_of, read_at_end, return_from, run_to_call};
 use fit_ranges::{Origin, Ranges, Trace, end_of, named_object, origin_of, trace_of};
 use sbx_domain::State;
 use sbx_range::{Range, excludes_zero, range_of_address};

@@ -2,9 +2,8 @@
 //! number there whose low bits are right, as 1,073,741,823 for -1 before a shift by 2; with the small one the sum
 //! doesn't overflow.
 use crate::cuts::by_immediate;
-use fit_graph::run_step;
 use fit_code::{Block, End, Program};
-use fit_graph::{Locations, effects_of};
+use fit_graph::{Locations, effects_of, run_step};
 use fit_ranges::Ranges;
 use sbx_domain::State;
 use sbx_range::is_single;

@@ -3,8 +3,8 @@ use crate::asks::{Access, Ask, Asking, Lack, asks_of, needed_alignment, shorten_
 use crate::cuts::{Memory, clearing, drop_compare, insert_instr};
 use crate::plans::{Kind, Test, plan_in};
 use crate::settling::answers::{Answer, Options, Planned, SUM, Tests};
-use fit_graph::range_in;
 use fit_code::{Block, End, Fault, Function, NO_LINE, Program, Reason};
+use fit_graph::range_in;
 use fit_ranges::{Origin, Ranges, bounds_in_constants, bounds_of};
 use sbx_domain::State;
 use sbx_range::excludes_zero;
