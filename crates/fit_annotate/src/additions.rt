@@ -1,29 +1,41 @@
 //! The annotations that a source hasn't got yet, and where they stand.
 use crate::annotation::{Addition, Annotation, Total, Value};
-use crate::finding::Finding;
-use crate::lines::Head;
+use crate::lines::{CellLine, Head, Read};
 use fit_fuel::Total as Taken;
+use fit_ranges::Ranges;
 use fit_text::BlockNotes;
 use sbx_image::{Cell, Function, Range};
-use std::alloc::AllocError;
 
-/// What is put into a source, by line.
+/// What is known of a function of a program.
+#[derive(Clone, Copy)]
+pub struct Known<'k> {
+    pub read: &'k Read,
+    pub ranges: &'k Ranges,
+    /// Its number.
+    pub number: usize,
+    /// What the image says of it, and whether the source tells depths.
+    pub said: &'k Function,
+    pub tells_depths: bool,
+    /// What it takes.
+    pub taken: Taken,
+    /// What is found of its blocks; nothing where its fuel isn't found, or where the source says it.
+    pub blocks: &'k [BlockNotes],
+}
+
+/// What is put into a source.
 #[derive(Drop)]
 pub struct Added {
     pub additions: Vec<Addition>,
     pub totals: Vec<Total>,
+    /// Whether memory was refused, so that some lack.
+    pub lacks: bool,
 }
 
-/// The line before which the cell of a location stands; none where the source has it.
-fn place_of_cell(found: &Finding<'_>, head: &Head, location: u16) -> Option<usize> {
-    let cells = found.read.cells.as_slice();
-    for said in cells.get(head.cells_before..).unwrap_or(&[]) {
-        if said.line > head.last_cell {
-            break;
-        }
+/// The line before which the cell of a location stands in a block that has these; none where the source has it.
+fn place_of_cell(head: &Head, cells: &[CellLine], location: u16) -> Option<usize> {
+    for said in cells {
         if said.location >= location {
-            let is_other = said.location > location;
-            return if is_other { Some(said.line) } else { None };
+            return (said.location > location).then_some(said.line);
         }
     }
     Some(head.last_cell.saturating_add(1))
@@ -31,131 +43,87 @@ fn place_of_cell(found: &Finding<'_>, head: &Head, location: u16) -> Option<usiz
 
 impl Added {
     /// Adds an annotation before a line.
-    fn push(
-        &mut self,
-        before: usize,
-        name: &'static str,
-        location: Option<u16>,
-        value: Value,
-    ) -> Result<(), AllocError> {
+    fn push(&mut self, before: usize, name: &'static str, location: Option<u16>, value: Value) {
         let annotation = Annotation {
             name,
             location,
             value,
         };
-        self.additions.push(Addition { before, annotation })?;
-        Ok(())
+        self.lacks |= self
+            .additions
+            .push(Addition { before, annotation })
+            .is_err();
     }
 
     /// Adds the cells of a block that the source hasn't got.
-    fn add_cells(
-        &mut self,
-        found: &Finding<'_>,
-        head: &Head,
-        cells: &[Cell],
-    ) -> Result<(), AllocError> {
+    fn add_cells(&mut self, read: &Read, head: &Head, cells: &[Cell]) {
+        let said = read.cells.as_slice();
+        let said = said.get(head.first_cell..head.next_cell).unwrap_or(&[]);
         for cell in cells {
-            if let Some(before) = place_of_cell(found, head, cell.location) {
+            if let Some(before) = place_of_cell(head, said, cell.location) {
                 let value = Value::Range(cell.range);
-                tried!(self.push(before, ".cell ", Some(cell.location), value));
+                self.push(before, ".cell ", Some(cell.location), value);
             }
         }
-        Ok(())
     }
 
     /// Adds a block's fuel.
-    fn add_fuel(&mut self, head: &Head, notes: &BlockNotes) -> Result<(), AllocError> {
+    fn add_fuel(&mut self, head: &Head, notes: &BlockNotes) {
         let before = head.last_cell.saturating_add(1);
-        tried!(self.push(before, ".fuel ", None, Value::Number(notes.fuel)));
+        self.push(before, ".fuel ", None, Value::Number(notes.fuel));
         for term in notes.terms.as_slice() {
             let value = Value::Number(i64::from(term.coefficient));
-            tried!(self.push(before, ".term ", Some(term.location), value));
+            self.push(before, ".term ", Some(term.location), value);
         }
-        Ok(())
     }
 
     /// Adds params or results behind a line, of which the source says so many already.
-    fn add_ranges(
-        &mut self,
-        line: usize,
-        name: &'static str,
-        said: usize,
-        ranges: &[Range],
-    ) -> Result<(), AllocError> {
+    fn add_ranges(&mut self, line: usize, name: &'static str, said: usize, ranges: &[Range]) {
         for range in ranges.get(said..).unwrap_or(&[]) {
-            tried!(self.push(line.saturating_add(1), name, None, Value::Range(*range)));
+            self.push(line.saturating_add(1), name, None, Value::Range(*range));
         }
-        Ok(())
     }
 
     /// The numbers of a function's line, where the source says 0; its depth, where the source tells depths and not
     /// this one; what it takes for granted and gives back, as far as the source hasn't got it.
-    fn add_head(
-        &mut self,
-        found: &Finding<'_>,
-        number: usize,
-        head: &Head,
-        said: &Function,
-        taken: Taken,
-    ) -> Result<(), AllocError> {
+    fn add_head(&mut self, known: &Known<'_>, head: &Head) {
+        let Known { said, taken, .. } = *known;
         let (line, room, budget) = (head.line, taken.room, taken.budget.unwrap_or(0));
-        if said.budget != budget || u64::from(said.stack_room) != room {
-            self.totals.push(Total { line, room, budget })?;
+        if (said.budget != budget) | (u64::from(said.stack_room) != room) {
+            let total = Total { line, room, budget };
+            self.lacks |= self.totals.push(total).is_err();
         }
-        if found.image.version() == 3 && taken.depth > 0 && !head.says_depth {
+        if known.tells_depths & (taken.depth > 0) & !head.says_depth {
             let depth = Value::Number(i64::try_from(taken.depth).unwrap_or(i64::MAX));
-            tried!(self.push(line.saturating_add(1), ".depth ", None, depth));
+            self.push(line.saturating_add(1), ".depth ", None, depth);
         }
-        let params = found.ranges.params(number);
-        tried!(self.add_ranges(head.last_param, ".param ", said.params.len(), params));
-        let results = match found.ranges.results().get(number) {
-            Some(results) => results.as_slice(),
-            None => &[],
-        };
-        self.add_ranges(head.last_result, ".result ", said.results.len(), results)
+        let params = known.ranges.params(known.number);
+        self.add_ranges(head.last_param, ".param ", said.params.len(), params);
+        let results = known.ranges.results();
+        if known.number < results.len() {
+            let results = results[known.number].as_slice();
+            self.add_ranges(head.last_result, ".result ", said.results.len(), results);
+        }
     }
 
-    /// Adds what one function hasn't got.
-    fn add_function(
-        &mut self,
-        found: &Finding<'_>,
-        number: usize,
-        said: &Function,
-        taken: Taken,
-    ) -> Result<(), AllocError> {
-        for (block, head) in found.heads_of(number).iter().enumerate() {
+    /// Adds what one function hasn't got: what stands before one line in the order in which it is added.
+    pub fn add_function(&mut self, known: &Known<'_>) {
+        let Known {
+            read,
+            ranges,
+            number,
+            blocks,
+            ..
+        } = *known;
+        for (block, head) in read.heads_of(number).iter().enumerate() {
             if block == 0 {
-                tried!(self.add_head(found, number, head, said, taken));
-            } else if let Some(cells) = found.ranges.cells(number, block) {
-                tried!(self.add_cells(found, head, cells));
+                self.add_head(known, head);
+            } else if let Some(cells) = ranges.cells(number, block) {
+                self.add_cells(read, head, cells);
             }
-            if let Some(blocks) = found.blocks.get(number)
-                && let Some(notes) = blocks.get(block)
-            {
-                tried!(self.add_fuel(head, notes));
+            if block < blocks.len() {
+                self.add_fuel(head, &blocks[block]);
             }
         }
-        Ok(())
     }
-
-    /// Adds what a source hasn't got, by line: what stands before one line in the order in which it was added.
-    fn add_all(&mut self, found: &Finding<'_>) -> Result<(), AllocError> {
-        for (number, said) in found.image.functions().iter().enumerate() {
-            if let Some(Some(taken)) = found.totals.get(number) {
-                tried!(self.add_function(found, number, said, *taken));
-            }
-        }
-        self.additions.sort_by_key(|addition| addition.before)
-    }
-}
-
-/// What a source hasn't got of what is known of its program.
-pub fn additions_of(found: &Finding<'_>) -> Result<Added, AllocError> {
-    let alloc = found.read.alloc;
-    let mut added = Added {
-        additions: Vec::new(alloc),
-        totals: Vec::new(alloc),
-    };
-    tried!(added.add_all(found));
-    Ok(added)
 }

@@ -1,9 +1,11 @@
 //! A source with all annotations that can be found.
-use crate::additions::additions_of;
+use crate::additions::Added;
 use crate::finding::Finding;
-use crate::inserting::insert;
-use crate::notes::Note;
-use fit_code::Fault;
+use crate::lines::Read;
+use crate::notes::{Note, Notes};
+use fit_code::{Fault, Program};
+use fit_ranges::Ranges;
+use sbx_domain::State;
 use sbx_image::Image;
 use std::alloc::Global;
 use std::mem::replace;
@@ -16,15 +18,37 @@ pub struct Annotated {
     pub notes: Vec<Note>,
 }
 
-/// A source with what it hasn't got of what is found of its program, which is looked at here, and the notes.
-fn made_of(found: &mut Finding<'_>, source: &[u8]) -> Result<Annotated, Fault> {
-    tried!(found.look_at_all());
-    let added = additions_of(found)?;
-    let (additions, totals) = (added.additions.as_slice(), added.totals.as_slice());
-    let alloc = found.read.alloc;
-    let text = tried!(insert(alloc, source, additions, totals));
-    let notes = replace(&mut found.notes, Vec::new(alloc));
-    Ok(Annotated { text, notes })
+/// The same as `with_annotations`, where the source is read into this.
+fn made_of(
+    read: &mut Read,
+    file: &str,
+    source: &[u8],
+    image: &Image,
+    state: &mut State,
+) -> Result<Annotated, Fault> {
+    read.take(file, source, image)?;
+    let alloc = read.alloc;
+    let said = replace(&mut read.said, Vec::new(alloc));
+    let ranges = Ranges::beside(alloc, &read.program, said, state)?;
+    let mut found = Finding {
+        image,
+        ranges,
+        spared: replace(&mut read.spared, Vec::new(alloc)),
+        read,
+        state,
+        totals: Vec::new(alloc),
+        blocks: Vec::new(alloc),
+        notes: Notes {
+            list: Vec::new(alloc),
+            lacks: false,
+        },
+        added: Added {
+            additions: Vec::new(alloc),
+            totals: Vec::new(alloc),
+            lacks: false,
+        },
+    };
+    found.annotate(source)
 }
 
 /// A source in a file of a name with what it hasn't got of what is found of its program, by the image that the
@@ -38,6 +62,28 @@ pub fn with_annotations(
     source: &[u8],
     image: &Image,
 ) -> Result<Annotated, Fault> {
-    let mut found = tried!(Finding::of(alloc, file, source, image));
-    made_of(&mut found, source)
+    let mut state = State::new(alloc)?;
+    // nothing is read yet
+    let mut read = Read {
+        alloc,
+        program: Program {
+            functions: Vec::new(alloc),
+            objects: Vec::new(alloc),
+            regions: Vec::new(alloc),
+            files: Vec::new(alloc),
+        },
+        words: Vec::new(alloc),
+        heads: Vec::new(alloc),
+        firsts: Vec::new(alloc),
+        cells: Vec::new(alloc),
+        spared: Vec::new(alloc),
+        said: Vec::new(alloc),
+        blocks: Vec::new(alloc),
+        slots: Vec::new(alloc),
+        weights: Vec::new(alloc),
+        block_cells: Vec::new(alloc),
+        steps: Vec::new(alloc),
+        lacks: false,
+    };
+    made_of(&mut read, file, source, image, &mut state)
 }

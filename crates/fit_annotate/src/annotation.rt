@@ -1,7 +1,5 @@
 //! What is put into a source.
-use sbx_declare::{Bounds, Location};
 use sbx_image::Range;
-use std::fmt::{self, Formatter, Write};
 
 /// What an annotation says.
 #[derive(Clone, Copy)]
@@ -32,21 +30,4 @@ pub struct Total {
     pub line: usize,
     pub room: u64,
     pub budget: u64,
-}
-
-impl fmt::Display for Annotation {
-    fn fmt<W: Write>(&self, f: &mut Formatter<W>) -> fmt::Result {
-        tried!(f.write_str(self.name));
-        if let Some(location) = self.location {
-            let location = Location(location);
-            tried!(write!(f, "{location},"));
-        }
-        match self.value {
-            Value::Number(number) => write!(f, "{number}"),
-            Value::Range(range) => {
-                let bounds = Bounds(range);
-                write!(f, "{bounds}")
-            }
-        }
-    }
 }

@@ -2,17 +2,6 @@
 //! else of it changes is looked at by `fit_kept`.
 #![tactic(auto)]
 
-/// What a result holds; with an error the function ends, as by `?`. That converts the error as well, here to itself,
-/// and stands so often in this crate that its check would take longer by it.
-macro_rules! tried {
-    ($result:expr) => {
-        match $result {
-            Ok(value) => value,
-            Err(error) => return Err(error),
-        }
-    };
-}
-
 mod additions;
 mod annotating;
 mod annotation;

@@ -29,6 +29,28 @@ pub struct Note {
     pub asked: Asked,
 }
 
+/// Notes, as they are made.
+#[derive(Drop)]
+pub struct Notes {
+    pub list: Vec<Note>,
+    /// Whether memory was refused, so that something lacks.
+    pub lacks: bool,
+}
+
+impl Notes {
+    /// Notes what isn't shown at a line.
+    pub fn add(&mut self, line: u32, asked: Asked) {
+        self.lacks |= self.list.push(Note { line, asked }).is_err();
+    }
+
+    /// Notes a number that the source says at a line, where it doesn't suffice; 0 is none.
+    pub fn add_less(&mut self, line: u32, what: &'static str, said: u64, least: u64) {
+        if (0 < said) & (said < least) {
+            self.add(line, Asked::More { what, least });
+        }
+    }
+}
+
 /// A note as one line, with the name of its file.
 #[derive(Drop)]
 pub struct Shown<'n> {
@@ -43,70 +65,80 @@ impl Note {
     }
 }
 
-fn write_range<W: Write>(f: &mut Formatter<W>, range: Range) -> Result<(), Error> {
-    let (lo, hi) = (range.lo, range.hi);
-    if lo == i32::MIN && hi == i32::MAX {
-        f.write_str("any word")
-    } else {
-        write!(f, "{lo} to {hi}")
+/// A range in words.
+#[derive(Clone, Copy)]
+struct Words(Range);
+
+impl fmt::Display for Words {
+    fn fmt<W: Write>(&self, f: &mut Formatter<W>) -> Result<(), Error> {
+        let (lo, hi) = (self.0.lo, self.0.hi);
+        if (lo == i32::MIN) & (hi == i32::MAX) {
+            f.write_str("any word")
+        } else {
+            write!(f, "{lo} to {hi}")
+        }
     }
 }
 
 /// An address that isn't shown to lie in the data.
 fn write_access<W: Write>(f: &mut Formatter<W>, access: &Access) -> Result<(), Error> {
-    tried!(f.write_str("the address may be "));
-    tried!(write_range(f, access.range));
-    let size = access.size;
-    if access.range.alignment < needed_alignment(size) {
-        tried!(write!(f, ", and no multiple of {size}"));
-    }
-    f.write_str(if access.writes {
-        ": it isn't shown to lie in data that may be written; compare what it is worked out from with its bounds before"
+    let (words, size) = (Words(access.range), access.size);
+    let asked = if access.writes {
+        "it isn't shown to lie in data that may be written; compare what it is worked out from with its bounds before"
     } else {
-        ": it isn't shown to lie in the data; compare what it is worked out from with its bounds before"
-    })
+        "it isn't shown to lie in the data; compare what it is worked out from with its bounds before"
+    };
+    if access.range.alignment < needed_alignment(size) {
+        write!(
+            f,
+            "the address may be {words}, and no multiple of {size}: {asked}"
+        )
+    } else {
+        write!(f, "the address may be {words}: {asked}")
+    }
 }
 
-fn write_lack<W: Write>(f: &mut Formatter<W>, lack: &Lack) -> Result<(), Error> {
-    let (location, what) = match lack {
-        Lack::Defined(location) => (
-            *location,
-            " is read, and may be undefined: give it a value on each way here",
-        ),
-        Lack::Given(location) => (
-            *location,
-            " may be undefined, and the function that is called takes it for granted: give it a value before",
-        ),
-        Lack::Placed(access) => return write_access(f, access),
-        Lack::Divisible(_, range) => {
-            tried!(f.write_str("the divisor may be 0: it may be "));
-            tried!(write_range(f, *range));
-            return f.write_str(
-                "; compare it with 0 before, and divide in a block where it isn't 0",
-            );
-        }
-    };
-    let location = Location(location);
-    write!(f, "{location}{what}")
-}
+/// What is behind a location that may be undefined where it is read, and where a function is called that is given it.
+const UNDEFINED: &str = "is read, and may be undefined: give it a value on each way here";
+
+const GIVEN: &str =
+    "may be undefined, and the function that is called takes it for granted: give it a value before";
+
+/// What is behind a divisor's range.
+const DIVISOR: &str = "compare it with 0 before, and divide in a block where it isn't 0";
+
+const NO_WAY: &str =
+    "no way leads to the block, and nothing is known where it begins: leave it out, or branch there";
+
+const NO_COUNTER: &str =
+    "no counter was found for the loop that begins here: count its rounds in a register, by `deccc` and `bne`";
+
+const NO_CALLEE: &str =
+    "no fuel is given, since that of a function that it calls isn't known: see the notes of that one";
 
 impl fmt::Display for Asked {
     fn fmt<W: Write>(&self, f: &mut Formatter<W>) -> Result<(), Error> {
         match self {
-            Asked::Shown(lack) => write_lack(f, lack),
-            Asked::Way => f.write_str(
-                "no way leads to the block, and nothing is known where it begins: leave it out, or branch there",
-            ),
-            Asked::Counter => f.write_str(
-                "no counter was found for the loop that begins here: count its rounds in a register, by `deccc` and `bne`",
-            ),
+            Asked::Shown(Lack::Defined(location)) => {
+                let location = Location(*location);
+                write!(f, "{location} {UNDEFINED}")
+            }
+            Asked::Shown(Lack::Given(location)) => {
+                let location = Location(*location);
+                write!(f, "{location} {GIVEN}")
+            }
+            Asked::Shown(Lack::Placed(access)) => write_access(f, access),
+            Asked::Shown(Lack::Divisible(_, range)) => {
+                let words = Words(*range);
+                write!(f, "the divisor may be 0: it may be {words}; {DIVISOR}")
+            }
+            Asked::Way => f.write_str(NO_WAY),
+            Asked::Counter => f.write_str(NO_COUNTER),
             Asked::Fuel(fault) => {
                 let reason = &fault.reason;
                 write!(f, "no fuel is given: {reason}")
             }
-            Asked::Callee => f.write_str(
-                "no fuel is given, since that of a function that it calls isn't known: see the notes of that one",
-            ),
+            Asked::Callee => f.write_str(NO_CALLEE),
             Asked::More { what, least } => write!(f, "{what} has to be at least {least}"),
         }
     }

@@ -7,11 +7,13 @@ mod codes;
 mod plain;
 mod points;
 mod slots;
+mod stops;
 
 pub use blocks::{function_of, result_register};
-pub use codes::{give_one_entry, prune, repeat_compares};
-pub use plain::{push_step, put_plainly, step_of};
+pub use codes::{give_one_entry, repeat_compares};
+pub use plain::{put_plainly, step_of};
 pub use points::{
-    Access, Layout, Points, access_of, bit_of, fault_of, fields_of, form_fault, layout_of,
-    next_register, operands_read, points_of, read_by, signed, word_of, written,
+    Access, Layout, Points, access_of, bit_of, fields_of, layout_of, name_of, next_register,
+    operands_read, points_of, read_by, signed, word_of, written,
 };
+pub use stops::Stops;

@@ -4,7 +4,6 @@
 
 mod bounds;
 mod declaring;
-mod memory;
 mod meter;
 mod task;
 mod totals;

@@ -1,7 +1,7 @@
 //! What is looked at.
 use crate::meter::Meter;
 use crate::totals::Total;
-use fit_code::Program;
+use fit_code::{Function, Program};
 use fit_ranges::Ranges;
 use std::alloc::Global;
 
@@ -19,9 +19,10 @@ pub struct Task<'t> {
     pub spared: &'t [u64],
 }
 
-/// The same, with its program.
+/// The same, with its program and its text.
 #[derive(Clone, Copy)]
 pub struct Setting<'s> {
     pub program: &'s Program,
+    pub function: &'s Function,
     pub task: &'s Task<'s>,
 }

@@ -2,7 +2,7 @@
 use crate::source::{Datum, Fix, Source, SymbolPlace};
 use crate::strings::push_string;
 use crate::text::{expression_of, first_operand, is_name, number_of};
-use fit_code::{Fault, Naming};
+use fit_code::Naming;
 use std::mem;
 use v8_syntax::bytes_between;
 
@@ -33,14 +33,14 @@ impl Source {
             bytes: Vec::new(self.alloc),
             fixes: Vec::new(self.alloc),
         };
-        if let Err(failed) = self.objects.push(object) {
-            self.note(Fault::from(failed));
+        if self.objects.push(object).is_err() {
+            self.lack();
         }
     }
 
     /// Adds zeros, and bytes behind them, to the object that is read, which has a label, and aligns them: as many as
     /// all may have.
-    fn add(&mut self, zeros: usize, bytes: &[u8]) {
+    pub(crate) fn add(&mut self, zeros: usize, bytes: &[u8]) {
         let align = mem::replace(&mut self.align, 1) as usize;
         let count = bytes.len().saturating_add(zeros);
         self.total = self.total.saturating_add(count);
@@ -53,8 +53,8 @@ impl Source {
             if self.total <= BYTES {
                 let resized = object.bytes.resize(at.saturating_add(zeros), 0);
                 let extended = object.bytes.extend_from_slice(bytes);
-                if let Err(error) = resized.and(extended) {
-                    self.note(Fault::from(error));
+                if resized.is_err() | extended.is_err() {
+                    self.lack();
                 }
                 return;
             }
@@ -87,8 +87,8 @@ impl Source {
                 offset: number,
                 line,
             };
-            if let Err(failed) = object.fixes.push(fix) {
-                self.note(Fault::from(failed));
+            if object.fixes.push(fix).is_err() {
+                self.lack();
             }
         }
     }
@@ -99,12 +99,12 @@ impl Source {
         match push_string(text, ends, &mut bytes) {
             Ok(true) => self.add(0, bytes.as_slice()),
             Ok(false) => self.unreadable("a string that can't be read"),
-            Err(error) => self.note(Fault::from(error)),
+            Err(_) => self.lack(),
         }
     }
 
     /// A number from 0 up to a bound.
-    fn natural(&mut self, text: &[u8], most: u32) -> u32 {
+    pub(crate) fn natural(&mut self, text: &[u8], most: u32) -> u32 {
         match number_of(text) {
             Some(number) if 0 <= number && number <= i64::from(most) => number as u32,
             _ => {
@@ -112,13 +112,6 @@ impl Source {
                 0
             }
         }
-    }
-
-    /// So many zeros.
-    pub(crate) fn room(&mut self, text: &[u8]) {
-        let (first, _) = first_operand(text);
-        let bytes = self.natural(first, 0xffff_ffff);
-        self.add(bytes as usize, &[])
     }
 
     /// What the next data are aligned to: a power of 2.

@@ -1,19 +1,8 @@
 //! Directives.
 use crate::source::{Section, Source};
 use crate::text::{first_operand, first_word, is_name, number_of, unquoted};
-use fit_code::{Fault, Line, Naming};
-use v8_syntax::beside;
-
-/// The last name of a path.
-fn base_name(path: &[u8]) -> &[u8] {
-    let mut start: usize = 0;
-    for (place, byte) in path.iter().enumerate() {
-        if *byte == b'/' {
-            start = place.saturating_add(1);
-        }
-    }
-    path.get(start..).unwrap_or(&[])
-}
+use fit_code::{Line, Naming};
+use v8_syntax::{beside, bytes_between};
 
 /// What a directive asks for.
 #[derive(Clone, Copy)]
@@ -123,7 +112,8 @@ impl Source {
         }
     }
 
-    /// `NUMBER "FOLDER" "NAME"`, where the folder may be left out; a name alone is the assembly's own.
+    /// `NUMBER "FOLDER" "NAME"`, where the folder may be left out; a name alone is the assembly's own. The file has the
+    /// last name of the path.
     fn file_line(&mut self, text: &[u8]) {
         let (number, rest) = first_word(text);
         let Some(number) = number_of(number) else {
@@ -133,9 +123,15 @@ impl Source {
         let (second, _) = first_word(behind);
         let path = if second.is_empty() { first } else { second };
         let path = unquoted(path).unwrap_or(path);
-        let file = self.add_file(base_name(path));
-        if let Err(failed) = self.numbered.insert(number, file) {
-            self.note(Fault::from(failed));
+        let mut start: usize = 0;
+        for (place, byte) in path.iter().enumerate() {
+            if *byte == b'/' {
+                start = place.saturating_add(1);
+            }
+        }
+        let file = self.add_file(bytes_between(path, start, path.len()));
+        if self.numbered.insert(number, file).is_err() {
+            self.lack();
         }
     }
 
@@ -191,7 +187,11 @@ impl Source {
             (Directive::Align { .. }, Section::Code) => {}
             (_, Section::Code) => self.unreadable("data among instructions"),
             (Directive::Align { is_power }, _) => self.aligned(text, is_power),
-            (Directive::Room, _) => self.room(text),
+            (Directive::Room, _) => {
+                let (first, _) = first_operand(text);
+                let bytes = self.natural(first, 0xffff_ffff);
+                self.add(bytes as usize, &[])
+            }
             _ => self.data_list(directive, text),
         }
     }

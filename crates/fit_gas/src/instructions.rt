@@ -1,7 +1,7 @@
 //! Instructions: the assembler's own spellings over the statements of the source language.
 use crate::source::{Item, Part, Reference, Source};
 use crate::text::{expression_of, first_operand, place_of};
-use fit_code::{Fault, Naming, Reason};
+use fit_code::{Naming, Reason};
 use sbx_text::{TextFault, tokens};
 use v8_formats::{Instr, encode};
 use v8_syntax::{Symbols, SyntaxFault, beside, bytes_between, is_same, parse_instr};
@@ -74,33 +74,25 @@ fn part_in(text: &[u8]) -> Option<Place> {
     None
 }
 
-/// Whether a register of the floating-point unit is named.
-fn names_float(text: &[u8]) -> bool {
-    let mut percent = false;
-    let mut float = false;
-    for byte in text {
-        if float && byte.is_ascii_digit() {
-            return true;
-        }
-        float = percent && *byte == b'f';
-        percent = *byte == b'%';
-    }
-    false
-}
-
-/// Whether a number has zeros in front, which would make it octal.
-fn has_octal(text: &[u8]) -> bool {
+/// Whether a register of the floating-point unit is named among operands; and whether a number there has zeros in
+/// front, which would make it octal.
+fn float_and_octal(text: &[u8]) -> (bool, bool) {
     let mut before = b' ';
+    let mut float = false;
     let mut zero = false;
+    let mut names_float = false;
+    let mut has_octal = false;
     for byte in text {
-        if zero && byte.is_ascii_digit() {
-            return true;
-        }
+        let byte = *byte;
+        let is_digit = byte.is_ascii_digit();
+        names_float |= float & is_digit;
+        has_octal |= zero & is_digit;
+        float = (before == b'%') & (byte == b'f');
         let is_first = !before.is_ascii_alphanumeric() & (before != b'.') & (before != b'_');
-        zero = is_first & (*byte == b'0');
-        before = *byte;
+        zero = is_first & (byte == b'0');
+        before = byte;
     }
-    false
+    (names_float, has_octal)
 }
 
 /// Mnemonics that begin as those of branches or of floating point do, and are others.
@@ -135,8 +127,8 @@ impl Source {
             if self.in_code
                 && let Some(code) = self.codes.last_mut()
             {
-                if let Err(failed) = code.items.push(item) {
-                    self.note(Fault::from(failed));
+                if code.items.push(item).is_err() {
+                    self.lack();
                 }
             } else {
                 self.unreadable("an instruction outside of a function");
@@ -155,7 +147,7 @@ impl Source {
     ) {
         let line = match pieces.concat(self.alloc) {
             Ok(line) => line,
-            Err(error) => return self.note(Fault::from(error)),
+            Err(_) => return self.lack(),
         };
         let found = match tokens(self.alloc, line.as_slice()) {
             Ok(tokens) => parse_instr(line.as_slice(), tokens.as_slice(), &Nameless),
@@ -201,10 +193,11 @@ impl Source {
     /// An instruction, and what stands behind its mnemonic.
     pub(crate) fn instruction(&mut self, word: &[u8], text: &[u8]) {
         let is_plain = beside(word, &OTHERS).is_some();
-        if (word.starts_with(b"f") & !is_plain) | names_float(text) {
+        let (names_float, has_octal) = float_and_octal(text);
+        if (word.starts_with(b"f") & !is_plain) | names_float {
             return self.named(Naming::Floating, word);
         }
-        if has_octal(text) {
+        if has_octal {
             return self.named(Naming::Operands, word);
         }
         let is_call = is_same(word, b"call");

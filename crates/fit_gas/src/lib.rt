@@ -10,5 +10,5 @@ mod strings;
 mod text;
 
 pub use instructions::with_part;
-pub use linking::{Linked, links_of, named_fault};
+pub use linking::{Linked, links_of};
 pub use source::{Code, Datum, Fix, Item, Part, Reference, Source, Symbol, SymbolPlace};

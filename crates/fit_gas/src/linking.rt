@@ -1,7 +1,6 @@
 //! What the names of several files stand for.
 use crate::source::{Source, SymbolPlace};
-use fit_code::{Fault, Line, Naming, Reason};
-use std::alloc::Global;
+use fit_code::{Fault, Naming, Reason};
 use std::collections::BTreeMap;
 
 /// Where the symbols of a source stand, in whichever file.
@@ -27,14 +26,6 @@ impl Linked<'_> {
     }
 }
 
-/// A fault that names something.
-pub fn named_fault(alloc: Global, line: Line, naming: Naming, name: &str) -> Fault {
-    match String::from_str(alloc, name) {
-        Ok(name) => Fault::new(line, Reason::Named(naming, name)),
-        Err(error) => Fault::from(error),
-    }
-}
-
 /// Finds where global names stand.
 ///
 /// # Errors
@@ -45,8 +36,8 @@ pub fn links_of(source: &Source) -> Result<Linked<'_>, Fault> {
         if symbol.is_global & !matches!(symbol.place, SymbolPlace::Nowhere) {
             let before = globals.insert(symbol.name.as_str(), symbol.place)?;
             if before.is_some() {
-                let naming = Naming::DefinedTwice;
-                return Err(named_fault(source.alloc, symbol.line, naming, symbol.name.as_str()));
+                let reason = Reason::Named(Naming::DefinedTwice, symbol.name.clone()?);
+                return Err(Fault::new(symbol.line, reason));
             }
         }
     }

@@ -1,7 +1,7 @@
 //! What is read of assembly, before its names are resolved.
-use crate::text::{content, first_label, first_word, is_name, place_among, shown};
+use crate::text::{first_label, first_word, is_name, place_among, place_of, shown};
 use fit_code::{Fault, Line, Naming, Reason};
-use std::alloc::Global;
+use std::alloc::{AllocError, Global};
 use std::collections::BTreeMap;
 use v8_syntax::bytes_between;
 
@@ -166,6 +166,11 @@ impl Source {
         }
     }
 
+    /// Notes want of memory.
+    pub(crate) fn lack(&mut self) {
+        self.note(Fault::from(AllocError))
+    }
+
     /// Notes a fault at the line that is read.
     pub(crate) fn refuse(&mut self, reason: Reason) {
         self.note(Fault::new(self.line(), reason))
@@ -185,8 +190,8 @@ impl Source {
     fn owned(&mut self, text: &str) -> String {
         match String::from_str(self.alloc, text) {
             Ok(made) => made,
-            Err(error) => {
-                self.note(Fault::from(error));
+            Err(_) => {
+                self.lack();
                 String::new(self.alloc)
             }
         }
@@ -205,8 +210,8 @@ impl Source {
             self.too_many("files", 200_000);
         }
         let name = self.owned(shown(name));
-        if let Err(failed) = self.files.push(name) {
-            self.note(Fault::from(failed));
+        if self.files.push(name).is_err() {
+            self.lack();
         }
         number
     }
@@ -225,8 +230,8 @@ impl Source {
             self.too_many("names", 200_000);
         }
         let key = self.owned(text);
-        if let Err(failed) = self.names.insert(key, number) {
-            self.note(Fault::from(failed));
+        if self.names.insert(key, number).is_err() {
+            self.lack();
         }
         let symbol = Symbol {
             name: self.owned(text),
@@ -235,8 +240,8 @@ impl Source {
             place: SymbolPlace::Nowhere,
             line: self.line(),
         };
-        if let Err(failed) = self.symbols.push(symbol) {
-            self.note(Fault::from(failed));
+        if self.symbols.push(symbol).is_err() {
+            self.lack();
         }
         number
     }
@@ -275,8 +280,8 @@ impl Source {
                 line: self.place,
                 items: Vec::new(self.alloc),
             };
-            if let Err(failed) = self.codes.push(code) {
-                self.note(Fault::from(failed));
+            if self.codes.push(code).is_err() {
+                self.lack();
             }
         } else if self.in_code
             && let Some(code) = self.codes.last()
@@ -288,9 +293,13 @@ impl Source {
         }
     }
 
-    /// A line of assembly: labels, and a directive, an instruction or nothing behind them.
+    /// A line of assembly: labels, and a directive, an instruction or nothing behind them, and a comment. A line that
+    /// begins with `#` is one.
     fn read_line(&mut self, line: &[u8]) {
-        let mut text = content(line);
+        let mut text = bytes_between(line, 0, place_of(b'!', line)).trim_ascii();
+        if text.starts_with(b"#") {
+            return;
+        }
         for _ in 0..=line.len() {
             let Some((name, rest)) = first_label(text) else {
                 break;

@@ -64,15 +64,6 @@ pub fn place_of(wanted: u8, text: &[u8]) -> usize {
     text.len()
 }
 
-/// A line without its comment and the blanks around it. A line that begins with `#` is a comment.
-pub fn content(line: &[u8]) -> &[u8] {
-    let text = bytes_between(line, 0, place_of(b'!', line)).trim_ascii();
-    match text.first() {
-        Some(b'#') => &[],
-        _ => text,
-    }
-}
-
 /// What stands before the first blank, and what stands behind it.
 pub fn first_word(text: &[u8]) -> (&[u8], &[u8]) {
     let end = place_among(b" \t\r", text);
@@ -99,25 +90,21 @@ pub fn first_label(text: &[u8]) -> Option<(&[u8], &[u8])> {
     }
 }
 
-/// The value of a digit or a letter; 36 of another byte.
-fn digit_value(byte: u8) -> u8 {
-    match byte {
-        b'0'..=b'9' => byte - b'0',
-        b'a'..=b'z' => byte - b'a' + 10,
-        b'A'..=b'Z' => byte - b'A' + 10,
-        _ => 36,
-    }
-}
-
 /// The number of some digits, below 2^40.
 pub fn digits_of(digits: &[u8], radix: u8) -> Option<i64> {
     let mut value: i64 = 0;
     for byte in digits {
-        let digit = digit_value(*byte);
+        let byte = *byte;
+        let digit = match byte {
+            b'0'..=b'9' => byte - b'0',
+            b'a'..=b'z' => byte - b'a' + 10,
+            b'A'..=b'Z' => byte - b'A' + 10,
+            _ => 36,
+        };
         value = value
             .saturating_mul(i64::from(radix))
             .saturating_add(i64::from(digit));
-        if digit >= radix || value >= LIMIT {
+        if (digit >= radix) | (value >= LIMIT) {
             return None;
         }
     }

@@ -6,6 +6,7 @@
 mod cells;
 mod graph;
 mod live;
+mod means;
 
 pub use cells::{
     Growth, Shape, Thresholds, are_same, enter, go_along, join, range_in, return_from, run_step,
@@ -13,6 +14,7 @@ pub use cells::{
 };
 pub use graph::{
     Loop, Order, Tangle, enters_beside_head, loops_of, order_of, predecessors_of, reached_from,
-    successors_in, successors_of, tangle_of, way_of, ways_to,
+    successors_in, successors_of, tangle_of,
 };
 pub use live::{Effects, Liveness, Locations, effects_in, effects_of, read_at_end};
+pub use means::Means;

@@ -51,13 +51,12 @@ pub fn annotate(alloc: Global, file: &str, source: &[u8]) -> Result<Annotated, R
     ensures without { IfOk result (λ made. without (lines_of made.text.items) ≡ without (lines_of source.now)) }
     ensures means { IfOk result (λ made. IsOk (source_image made.text.items)) }
 {
-    let image = match assemble(alloc, source) {
-        Ok(image) => image,
+    let made = match assemble(alloc, source) {
+        Ok(image) => match kept(alloc, file, source, &image) {
+            Ok(made) => made,
+            Err(fault) => return Err(Refusal::Program(fault)),
+        },
         Err(fault) => return Err(Refusal::Source(fault)),
-    };
-    let made = match kept(alloc, file, source, &image) {
-        Ok(made) => made,
-        Err(fault) => return Err(Refusal::Program(fault)),
     };
     match assemble(alloc, made.text.as_slice()) {
         Ok(_image) => Ok(made),

@@ -1,11 +1,11 @@
 //! What lines are by the readers of the assembler.
-ghost use Rattle.std.specs.Prelude.{◌≡◌, ◌++◌, ◌∷◌, [], false, Ok, IsTrue, IfOk, IfSome};
+ghost use Rattle.std.specs.Prelude.{◌≡◌, ◌++◌, ◌∷◌, [], false, true, Ok, IsTrue, IfSome};
 ghost use Rattle.sbx_text.specs.Tokens.{tokens_of};
 ghost use Rattle.fit_kept.specs.Lines.{annotates, declares_function, is_annotation, bare, Fills};
 
 use sbx_directives::{Directive, Statement, label_count, read_statement};
 use sbx_text::{TextFault, Token, tokens};
-use std::alloc::{AllocError, Global};
+use std::alloc::Global;
 use v8_syntax::bytes_between;
 
 /// Whether a line says an annotation behind its labels.
@@ -25,15 +25,17 @@ fn annotates(statement: Statement) -> bool
     )
 }
 
-/// Whether a line is an annotation alone.
+/// Whether a line is an annotation alone; not where memory was refused, which is noted.
 #[tactic(auto, unfolding(crate::specs::Lines::is_annotation))]
-pub fn is_annotation(alloc: Global, line: &[u8]) -> Result<bool, AllocError>
-    ensures { IfOk result (λ answer. answer ≡ is_annotation line.now) }
+pub fn is_annotation(alloc: Global, line: &[u8], lacks: &mut bool) -> bool
+    ensures { IsTrue result → is_annotation line.now ≡ true }
 {
     match tokens(alloc, line) {
-        Ok(found) => Ok(annotates(read_statement(line, found.as_slice()))),
-        Err(TextFault::Memory(want)) => Err(AllocError::from(want)),
-        Err(_fault) => Ok(false),
+        Ok(found) => annotates(read_statement(line, found.as_slice())),
+        Err(fault) => {
+            *lacks |= matches!(fault, TextFault::Memory(_));
+            false
+        }
     }
 }
 
@@ -71,28 +73,29 @@ fn parts_in<'l>(line: &'l [u8], tokens: &[Token]) -> Option<Parts<'l>>
     })
 }
 
-/// The parts of a line; none where it is no `.function`.
-fn parts_of(alloc: Global, line: &[u8]) -> Result<Option<Parts<'_>>, AllocError>
-    ensures stays { IfOk result (λ found. IfSome found (λ parts. is_annotation line.now ≡ false)) }
-    ensures bare { IfOk result (λ found. IfSome found (λ parts. bare line.now
-        ≡ parts.before.now ++ (48 ∷ []) ++ parts.between.now ++ (48 ∷ []) ++ parts.behind.now)) }
+/// The parts of a line; none where it is no `.function`, or memory was refused, which is noted.
+fn parts_of<'l>(alloc: Global, line: &'l [u8], lacks: &mut bool) -> Option<Parts<'l>>
+    ensures stays { IfSome result (λ parts. is_annotation line.now ≡ false) }
+    ensures bare { IfSome result (λ parts. bare line.now
+        ≡ parts.before.now ++ (48 ∷ []) ++ parts.between.now ++ (48 ∷ []) ++ parts.behind.now) }
 {
     match tokens(alloc, line) {
-        Ok(found) => Ok(parts_in(line, found.as_slice())),
-        Err(TextFault::Memory(want)) => Err(AllocError::from(want)),
-        Err(_fault) => Ok(None),
+        Ok(found) => parts_in(line, found.as_slice()),
+        Err(fault) => {
+            *lacks |= matches!(fault, TextFault::Memory(_));
+            None
+        }
     }
 }
 
-/// Whether a line differs from another one by a function's numbers alone.
-pub fn fills(alloc: Global, old: &[u8], new: &[u8]) -> Result<bool, AllocError>
-    ensures { IfOk result (λ answer. IsTrue answer → Fills old.now new.now) }
+/// Whether a line differs from another one by a function's numbers alone; not where memory was refused, which is noted.
+pub fn fills(alloc: Global, old: &[u8], new: &[u8], lacks: &mut bool) -> bool
+    ensures { IsTrue result → Fills old.now new.now }
 {
-    let Some(old) = parts_of(alloc, old)? else {
-        return Ok(false);
-    };
-    let Some(new) = parts_of(alloc, new)? else {
-        return Ok(false);
-    };
-    Ok(old.before == new.before && old.between == new.between && old.behind == new.behind)
+    match (parts_of(alloc, old, lacks), parts_of(alloc, new, lacks)) {
+        (Some(old), Some(new)) => {
+            old.before == new.before && old.between == new.between && old.behind == new.behind
+        }
+        _ => false,
+    }
 }

@@ -2,44 +2,76 @@
 use fit_code::{Block, End, Fault, Function, Program};
 use fit_gas::Source;
 use fit_legal::program_of;
-use std::alloc::{AllocError, Global};
+use std::alloc::Global;
+use std::fmt::Display;
 use std::process::Abort;
 use v8_formats::encode;
 
-fn push_end(text: &mut String, end: End) -> Result<(), AllocError> {
+/// What is told of a source.
+#[derive(Drop)]
+struct Told {
+    text: String,
+    /// Whether memory was refused, so that something lacks in it.
+    lacks: bool,
+}
+
+impl Told {
+    fn nothing(alloc: Global) -> Told {
+        Told {
+            text: String::new(alloc),
+            lacks: false,
+        }
+    }
+
+    fn add(&mut self, text: &str) {
+        self.lacks |= self.text.push_str(text).is_err();
+    }
+
+    fn put<D: Display>(&mut self, before: &str, value: &D) {
+        self.lacks |= write!(self.text, "{before}{value}").is_err();
+    }
+
+    fn is(&self, wanted: &str) -> bool {
+        !self.lacks && self.text.as_str() == wanted
+    }
+}
+
+fn push_end(told: &mut Told, end: End) {
     match end {
-        End::Jump(to) => write!(text, ">{to}"),
-        End::Branch { taken, next, .. } => write!(text, "?{taken},{next}"),
-        End::Return(_) => text.push_str("."),
-        End::Exit => text.push_str("!"),
+        End::Jump(to) => told.put(">", &to),
+        End::Branch { taken, next, .. } => {
+            told.put("?", &taken);
+            told.put(",", &next);
+        }
+        End::Return(_) => told.add("."),
+        End::Exit => told.add("!"),
     }
 }
 
 /// The words of a block's steps, and its end.
-fn push_block(text: &mut String, block: &Block) -> Result<(), AllocError> {
+fn push_block(told: &mut Told, block: &Block) {
     for step in block.steps.as_slice() {
         let word = encode(&step.instr);
-        write!(text, " {word:08x}")?;
+        told.lacks |= write!(told.text, " {word:08x}").is_err();
     }
-    text.push_str(" ")?;
-    push_end(text, block.end)
+    told.add(" ");
+    push_end(told, block.end);
 }
 
-fn push_function(text: &mut String, function: &Function) -> Result<(), AllocError> {
-    let frame = function.frame;
-    text.push_str(function.name.as_str())?;
-    write!(text, " {frame}:")?;
+fn push_function(told: &mut Told, function: &Function) {
+    told.add(function.name.as_str());
+    told.put(" ", &function.frame);
+    told.add(":");
     for block in function.blocks.as_slice() {
-        push_block(text, block)?;
+        push_block(told, block);
     }
-    text.push_str("\n")
+    told.add("\n");
 }
 
-fn push_program(text: &mut String, program: &Program) -> Result<(), AllocError> {
+fn push_program(told: &mut Told, program: &Program) {
     for function in program.functions.as_slice() {
-        push_function(text, function)?;
+        push_function(told, function);
     }
-    Ok(())
 }
 
 /// Whether a program has these regions: whether each may be read alone, where it begins, and how many bytes it has.
@@ -54,19 +86,13 @@ fn has_regions(program: &Program, wanted: &[(bool, u32, u32)]) -> bool {
     program.regions.len() == wanted.len()
 }
 
-fn push_fault(text: &mut String, files: &[String], fault: &Fault) -> Result<(), AllocError> {
-    let shown = fault.shown(files);
-    write!(text, "{shown}")
-}
-
 /// Whether a fault is shown so, where its file has this name.
 pub(crate) fn is_shown(alloc: Global, fault: &Fault, name: &str, wanted: &str) -> bool {
-    let mut text = String::new(alloc);
-    let is_told = match String::from_str(alloc, name) {
-        Ok(name) => push_fault(&mut text, &[name], fault).is_ok(),
-        Err(AllocError) => false,
-    };
-    is_told && text.as_str() == wanted
+    let mut told = Told::nothing(alloc);
+    if let Ok(name) = String::from_str(alloc, name) {
+        told.put("", &fault.shown(&[name]));
+    }
+    told.is(wanted)
 }
 
 /// What each source begins with.
@@ -80,20 +106,15 @@ fn made(source: &mut Source, body: &str) -> Result<Program, Fault> {
     program_of(source.alloc, source, "main")
 }
 
-/// Adds what is told of a program, or why there is none.
-fn push_told(text: &mut String, source: &mut Source, body: &str) -> Result<(), AllocError> {
-    match made(source, body) {
-        Ok(program) => push_program(text, &program),
-        Err(fault) => push_fault(text, source.files.as_slice(), &fault),
-    }
-}
-
 /// Whether this is told of a program, or is why there is none.
 fn tells(alloc: Global, body: &str, wanted: &str) -> bool {
     let mut source = Source::new(alloc);
-    let mut text = String::new(alloc);
-    let is_told = push_told(&mut text, &mut source, body).is_ok();
-    is_told && text.as_str() == wanted
+    let mut told = Told::nothing(alloc);
+    match made(&mut source, body) {
+        Ok(program) => push_program(&mut told, &program),
+        Err(fault) => told.put("", &fault.shown(source.files.as_slice())),
+    }
+    told.is(wanted)
 }
 
 /// Asserts that each row is told.

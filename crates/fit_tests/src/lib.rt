@@ -8,5 +8,5 @@ mod plans;
 mod settling;
 
 pub use asks::{Access, Asking, Lack, asks_of, needed_alignment};
-pub use cuts::{insert_instr, number_in, push_block, push_instrs, register};
+pub use cuts::{number_in, push_block, push_instrs, register};
 pub use settling::{Kind, Options, Test, add_tests};

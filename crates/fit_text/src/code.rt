@@ -12,9 +12,9 @@ use v8_word::Cond;
 
 /// Whether a program asks for a service.
 fn asks_for(program: &Program, service: u32) -> bool {
-    for function in &program.functions {
-        for block in &function.blocks {
-            for step in &block.steps {
+    for function in program.functions.as_slice() {
+        for block in function.blocks.as_slice() {
+            for step in block.steps.as_slice() {
                 if let Instr::Ticc(trap) = step.instr
                     && let Operand::Immediate(number) = trap.operand2
                     && number == service
@@ -42,12 +42,12 @@ fn push_head(out: &mut Text, program: &Program, room: u64) {
 
 /// What is known where a block begins, and its fuel.
 fn push_notes(out: &mut Text, notes: &BlockNotes) {
-    for cell in &notes.cells {
+    for cell in notes.cells.as_slice() {
         out.put("\n.cell ", &Location(cell.location));
         out.put(",", &Bounds(cell.range));
     }
     out.put("\n.fuel ", &notes.fuel);
-    for term in &notes.terms {
+    for term in notes.terms.as_slice() {
         out.put("\n.term ", &Location(term.location));
         out.put(",", &term.coefficient);
     }
@@ -57,9 +57,9 @@ fn push_notes(out: &mut Text, notes: &BlockNotes) {
 fn push_steps(out: &mut Text, files: &[String], names: &[String], steps: &[Step]) {
     for step in steps {
         if let Some(number) = step.callee
-            && let Some(callee) = names.get(number)
+            && number < names.len()
         {
-            out.put("\n    call ", callee);
+            out.put("\n    call ", &names[number]);
             out.put_slot(&step.slot);
         } else {
             out.put_instr(files, &step.instr, step.line);
@@ -90,10 +90,8 @@ fn push_end(
         }
         End::Exit => return out.put_text(files, "ta 0", block.line),
     };
-    let suffix = match suffixes().get(usize::from(cond.code())) {
-        Some(suffix) => *suffix,
-        None => "n",
-    };
+    let place = usize::from(cond.code());
+    let suffix = suffixes().get(place).copied().unwrap_or("n");
     out.put("\n    b", &suffix);
     out.put(" ", &name);
     out.put(".", &to);
@@ -133,13 +131,13 @@ fn push_blocks(
     function: &Function,
     notes: &[BlockNotes],
 ) -> Option<Line> {
-    for (number, block) in function.blocks.iter().enumerate() {
+    for (number, block) in function.blocks.as_slice().iter().enumerate() {
         if number > 0 {
             out.put("\n.block ", &name);
             out.put(".", &number);
         }
-        if let Some(notes) = notes.get(number) {
-            push_notes(out, notes);
+        if number < notes.len() {
+            push_notes(out, &notes[number]);
         }
         if number == 0 && function.frame > 0 {
             out.put("\n    save %sp,-", &function.frame);
@@ -167,11 +165,9 @@ fn push_functions(
     annotations: &[FunctionNotes],
 ) -> Option<Line> {
     let files = program.files.as_slice();
-    for (number, function) in program.functions.iter().enumerate() {
-        if let Some(name) = names.get(number)
-            && let Some(notes) = annotations.get(number)
-        {
-            let name = name.as_str();
+    for (number, function) in program.functions.as_slice().iter().enumerate() {
+        if number < names.len() && number < annotations.len() {
+            let (name, notes) = (names[number].as_str(), &annotations[number]);
             push_function_head(out, name, function, notes);
             let blocks = notes.blocks.as_slice();
             let line = push_blocks(out, files, names, name, function, blocks);
@@ -202,12 +198,11 @@ pub fn source_of(
     let names = names_of(alloc, &mut out, program);
     push_head(&mut out, program, room);
     push_data(&mut out, program);
-    if let Some(line) = push_functions(&mut out, program, names.as_slice(), functions) {
-        return Err(out.excess(line));
-    }
+    let excess = push_functions(&mut out, program, names.as_slice(), functions);
     out.add("\n");
-    if out.lacks {
-        return Err(Fault::from(AllocError));
+    match excess {
+        Some(line) => Err(out.excess(line)),
+        None if out.lacks => Err(Fault::from(AllocError)),
+        None => Ok(out.text),
     }
-    Ok(out.text)
 }

@@ -56,7 +56,7 @@ fn push_region(out: &mut Text, region: &Region, objects: &[Object]) {
 
 /// The regions of a program; the code comes behind them.
 pub fn push_data(out: &mut Text, program: &Program) {
-    for region in &program.regions {
+    for region in program.regions.as_slice() {
         push_region(out, region, program.objects.as_slice());
     }
     out.add("\n\n.text");

@@ -27,12 +27,11 @@ fn stands_in(names: &[String], text: &str) -> bool {
 
 /// Whether a name may stand in a source, where `$` may not.
 fn may_stand(name: &str) -> bool {
+    let mut may_stand = name.len() <= LONGEST;
     for byte in name.as_bytes() {
-        if !byte.is_ascii_alphanumeric() && *byte != b'_' && *byte != b'.' {
-            return false;
-        }
+        may_stand &= byte.is_ascii_alphanumeric() | (*byte == b'_') | (*byte == b'.');
     }
-    name.len() <= LONGEST
+    may_stand
 }
 
 /// Whether a name ends as that of a block does, or as one that is made here.

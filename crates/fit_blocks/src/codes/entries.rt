@@ -1,9 +1,10 @@
 //! A loop that control enters at several places, as a `goto` may, gets one entry: who comes by another one goes through
 //! copies of the loop's blocks, as far as that one entry.
 use crate::codes::pruning::moved;
+use crate::stops::Stops;
 use fit_code::{Block, Function};
 use fit_graph::{Tangle, reached_from, successors_of, tangle_of};
-use std::alloc::{AllocError, Global};
+use std::mem;
 
 /// So many steps may be copied of a function that has fewer itself.
 const FEW: usize = 256;
@@ -20,119 +21,138 @@ const ENTRIES: usize = 8;
 /// Blocks are copied in functions of so many at most, a quarter of those that an image's may have.
 const BLOCKS: usize = 1024;
 
-/// The numbers of the copies of a loop's blocks, behind those of all blocks, and how many steps are copied, where each
-/// block's end counts as one.
+/// A loop that gets one entry.
 #[derive(Drop)]
-struct Copies {
+struct Splitter<'s> {
+    stops: &'s mut Stops,
+    successors: Vec<Vec<usize>>,
+    tangle: Tangle,
+    /// For each block the number of its copy, if it is copied, behind those of all blocks.
     numbers: Vec<Option<usize>>,
-    steps: usize,
+    /// These by the entry that was the best one so far.
+    least: Vec<Option<usize>>,
 }
 
-/// What is copied where one of a loop's entries stays: what comes behind the others, as far as that one.
-fn copies_beside(
-    alloc: Global,
-    function: &Function,
-    successors: &[Vec<usize>],
-    tangle: &Tangle,
-    entry: usize,
-) -> Result<Copies, AllocError> {
-    let mut within = Vec::from_slice(alloc, tangle.holds.as_slice())?;
-    if let Some(held) = within.get_mut(entry) {
-        *held = false;
-    }
-    let entries = tangle.entries.as_slice();
-    let holds = reached_from(alloc, successors, entries, within.as_slice())?;
-    let mut numbers = Vec::new(alloc);
-    let mut steps: usize = 0;
-    let mut next = holds.len();
-    for (number, held) in holds.iter().enumerate() {
-        let mut copy = None;
-        if *held && let Some(block) = function.blocks.get(number) {
-            steps = steps.saturating_add(block.steps.len()).saturating_add(1);
-            copy = Some(next);
-            next = next.saturating_add(1);
+impl Splitter<'_> {
+    /// Finds what is copied where one of the loop's entries stays: what comes behind the others, as far as that one.
+    /// Says how many steps are, where each block's end counts as one.
+    fn copy_beside(&mut self, blocks: &[Block], entry: usize) -> usize {
+        let alloc = self.stops.alloc;
+        let mut within = self
+            .stops
+            .made(Vec::from_slice(alloc, self.tangle.holds.as_slice()));
+        let held = within.as_mut_slice();
+        if entry < held.len() {
+            held[entry] = false;
         }
-        numbers.push(copy)?;
+        let entries = self.tangle.entries.as_slice();
+        let found = reached_from(
+            alloc,
+            self.successors.as_slice(),
+            entries,
+            within.as_slice(),
+        );
+        let copied = self.stops.made(found);
+        self.numbers.clear();
+        let mut steps: usize = 0;
+        let mut next = blocks.len();
+        for (block, is_copied) in blocks.iter().zip(copied.as_slice().iter()) {
+            let mut copy = None;
+            if *is_copied {
+                steps = steps.saturating_add(block.steps.len()).saturating_add(1);
+                copy = Some(next);
+                next = next.saturating_add(1);
+            }
+            self.stops.push(&mut self.numbers, copy);
+        }
+        steps
     }
-    Ok(Copies { numbers, steps })
-}
 
-/// What is copied where that entry stays by which it is least, of so many steps at most.
-fn least_copies(
-    alloc: Global,
-    function: &Function,
-    tangle: &Tangle,
-    room: usize,
-) -> Result<Option<Copies>, AllocError> {
-    let successors = successors_of(alloc, function)?;
-    let mut bound = room.saturating_add(1);
-    let mut least = None;
-    for (place, entry) in tangle.entries.iter().enumerate() {
-        if place == ENTRIES {
-            break;
+    /// Looks for the entry that stays, by which the fewest steps are copied. Says how many are: none, and more than
+    /// there is room for, where that has not enough.
+    fn choose(&mut self, blocks: &[Block], room: usize) -> usize {
+        let mut bound = room.saturating_add(1);
+        for place in 0..ENTRIES {
+            if let Some(entry) = self.tangle.entries.get(place).copied() {
+                let steps = self.copy_beside(blocks, entry);
+                if steps < bound {
+                    bound = steps;
+                    mem::swap(&mut self.numbers, &mut self.least);
+                }
+            }
         }
-        let copies = copies_beside(alloc, function, successors.as_slice(), tangle, *entry)?;
-        if copies.steps < bound {
-            bound = copies.steps;
-            least = Some(copies);
-        }
+        bound
     }
-    Ok(least)
-}
 
-/// Copies blocks of a loop, to which ways from elsewhere and those of the copies lead from then on.
-fn copy_blocks(
-    alloc: Global,
-    function: &mut Function,
-    tangle: &Tangle,
-    numbers: &[Option<usize>],
-) -> Result<(), AllocError> {
-    for (number, copy) in numbers.iter().enumerate() {
-        if let Some(block) = function.blocks.get_mut(number)
-            && let Some(held) = tangle.holds.get(number)
-        {
-            let end = moved(block.end, numbers);
-            if copy.is_some() {
-                let copy = Block {
-                    steps: Vec::from_slice(alloc, block.steps.as_slice())?,
-                    end,
-                    slot: block.slot,
-                    line: block.line,
-                };
-                function.blocks.push(copy)?;
-            } else if !*held {
-                block.end = end;
+    /// Copies blocks of the loop, to which ways from elsewhere and those of the copies lead from then on.
+    fn copy_blocks(&mut self, function: &mut Function) {
+        let numbers = self.least.as_slice();
+        for (number, copy) in numbers.iter().enumerate() {
+            if let Some(block) = function.blocks.get_mut(number)
+                && let Some(held) = self.tangle.holds.get(number)
+            {
+                let end = moved(block.end, numbers);
+                if copy.is_some() {
+                    let steps = Vec::from_slice(self.stops.alloc, block.steps.as_slice());
+                    let copy = Block {
+                        steps: self.stops.made(steps),
+                        end,
+                        slot: block.slot,
+                        line: block.line,
+                    };
+                    self.stops.push(&mut function.blocks, copy);
+                } else if !*held {
+                    block.end = end;
+                }
             }
         }
     }
-    Ok(())
 }
 
 /// How many steps of a function may be copied: as many as it has, if they aren't too many.
 fn room_of(function: &Function) -> usize {
     let mut steps: usize = 0;
-    for block in &function.blocks {
+    for block in function.blocks.as_slice() {
         steps = steps.saturating_add(block.steps.len()).saturating_add(1);
     }
     steps.max(FEW).min(STEPS.saturating_sub(steps))
 }
 
+/// Gives a loop of a function one entry by copies of so many steps at most; says how many were copied. None where there
+/// is no such loop; more than there may be, and nothing is copied, where it has more.
+fn split(stops: &mut Stops, function: &mut Function, room: usize) -> Option<usize> {
+    let alloc = stops.alloc;
+    let tangle = match tangle_of(alloc, function) {
+        Ok(found) => found?,
+        Err(_) => {
+            stops.lack();
+            return None;
+        }
+    };
+    let successors = stops.made(successors_of(alloc, function));
+    let mut splitter = Splitter {
+        stops,
+        successors,
+        tangle,
+        numbers: Vec::new(alloc),
+        least: Vec::new(alloc),
+    };
+    let steps = splitter.choose(function.blocks.as_slice(), room);
+    splitter.copy_blocks(function);
+    Some(steps)
+}
+
 /// Gives each loop of a function one entry, a head that is on each way to its blocks, as far as the copies have no more
 /// steps than the function has: the other loops stay as they are.
-pub fn give_one_entry(alloc: Global, function: &mut Function) -> Result<(), AllocError> {
+pub fn give_one_entry(stops: &mut Stops, function: &mut Function) {
     let mut room = room_of(function);
     for _ in 0..LOOPS {
         if function.blocks.len() > BLOCKS {
-            return Ok(());
+            break;
         }
-        let Some(tangle) = tangle_of(alloc, function)? else {
-            return Ok(());
-        };
-        let Some(copies) = least_copies(alloc, function, &tangle, room)? else {
-            return Ok(());
-        };
-        room = room.saturating_sub(copies.steps);
-        copy_blocks(alloc, function, &tangle, copies.numbers.as_slice())?;
+        match split(stops, function, room) {
+            Some(steps) if steps <= room => room = room.saturating_sub(steps),
+            _ => break,
+        }
     }
-    Ok(())
 }

@@ -1,8 +1,8 @@
 //! Blocks that control doesn't come to are left out, and no block goes to the first one.
 use crate::slots::number_marked;
-use fit_code::{Block, End, Fault, Function};
+use crate::stops::Stops;
+use fit_code::{Block, End, Function};
 use fit_graph::order_of;
-use std::alloc::Global;
 
 /// The other number of a block; its own where it has none.
 fn number_of(numbers: &[Option<usize>], block: usize) -> usize {
@@ -22,40 +22,30 @@ pub(crate) fn moved(end: End, numbers: &[Option<usize>]) -> End {
     }
 }
 
-/// Whether a block goes to the first one.
-fn goes_to_first(function: &Function) -> bool {
-    for block in &function.blocks {
-        let [taken, next] = block.end.ways();
-        if (taken == Some(0)) | (next == Some(0)) {
-            return true;
+/// Puts the blocks that have numbers where these say, and their ends by these. No number is above that of its block.
+fn put_blocks(blocks: &mut [Block], numbers: &[Option<usize>]) {
+    for (place, number) in numbers.iter().enumerate() {
+        if let Some(number) = *number
+            && (number < blocks.len()) & (place < blocks.len())
+        {
+            blocks[place].end = moved(blocks[place].end, numbers);
+            blocks.swap(number, place);
         }
     }
-    false
 }
 
-/// Leaves out the blocks that can't be reached, and puts an empty block first where a block goes to the first one.
-pub fn prune(alloc: Global, function: &mut Function) -> Result<(), Fault> {
-    let mut numbers = order_of(alloc, function)?.places;
-    let goes_to_first = goes_to_first(function);
-    let _ = number_marked(numbers.as_mut_slice(), usize::from(goes_to_first));
-    let mut old = std::mem::replace(&mut function.blocks, Vec::new(alloc));
-    for _ in 0..old.len() {
-        if let Some(mut block) = old.pop()
-            && let Some(Some(_)) = numbers.get(old.len())
-        {
-            block.end = moved(block.end, numbers.as_slice());
-            function.blocks.push(block)?;
-        }
+/// Leaves out the blocks that can't be reached, and the first one, which is empty, where no other block goes to the one
+/// that it goes to.
+pub fn prune(stops: &mut Stops, function: &mut Function, goes_to_second: bool) {
+    let Ok(order) = order_of(stops.alloc, function) else {
+        return stops.lack();
+    };
+    let mut numbers = order.places;
+    let numbers = numbers.as_mut_slice();
+    if !goes_to_second && !numbers.is_empty() {
+        numbers[0] = None;
     }
-    function.blocks.reverse();
-    if goes_to_first {
-        let first = Block {
-            steps: Vec::new(alloc),
-            end: End::Jump(1),
-            slot: None,
-            line: function.line,
-        };
-        function.blocks.insert(0, first)?;
-    }
-    Ok(())
+    let count = number_marked(numbers, 0);
+    put_blocks(function.blocks.as_mut_slice(), numbers);
+    function.blocks.truncate(count);
 }

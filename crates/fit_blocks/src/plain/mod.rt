@@ -3,4 +3,4 @@ mod plain;
 mod steps;
 
 pub use plain::{against_zero, put_plainly};
-pub use steps::{push_step, step_of};
+pub use steps::step_of;

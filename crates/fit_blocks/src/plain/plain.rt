@@ -1,7 +1,6 @@
 //! Instructions in forms of which more is known.
-use crate::plain::steps::push_step;
-use fit_code::{Fault, Function, Step};
-use std::alloc::Global;
+use crate::stops::Stops;
+use fit_code::{Function, Step};
 use v8_formats::{Instr, Operand, Three};
 use v8_word::Reg;
 
@@ -24,44 +23,57 @@ fn named_alone(fields: &Three) -> Option<Reg> {
     }
 }
 
-/// Whether a sum adds a register to itself.
-fn doubles(fields: &Three) -> bool {
-    match fields.operand2 {
-        Operand::Register(second) => fields.rs1 == second && second != Reg::G0,
-        Operand::Immediate(_) => false,
-    }
-}
-
 /// Pushes a step in forms of which more is known: `tst r` as `cmp r,0`, `orcc a,0,d` as a move and a compare of `d`
 /// with 0, and a number added to itself as a shift.
-fn push_plain(steps: &mut Vec<Step>, step: &Step) -> Result<(), Fault> {
+fn push_plain(stops: &mut Stops, steps: &mut Vec<Step>, step: &Step) {
     let instr = match step.instr {
         Instr::OrCc(fields) => match named_alone(&fields) {
             Some(register) if fields.rd == Reg::G0 => against_zero(register),
             Some(_) => {
                 let instr = Instr::Or(fields);
-                push_step(steps, Step { instr, ..*step })?;
+                stops.push(steps, Step { instr, ..*step });
                 against_zero(fields.rd)
             }
             None => step.instr,
         },
-        Instr::Add(fields) if doubles(&fields) => Instr::Sll(Three {
+        Instr::Add(
+            Three {
+                rd,
+                rs1,
+                operand2: Operand::Register(second),
+            },
+        ) if (rs1 == second) & (second != Reg::G0) => Instr::Sll(Three {
+            rd,
+            rs1,
             operand2: Operand::Immediate(1),
-            ..fields
         }),
         other => other,
     };
-    push_step(steps, Step { instr, ..*step })
+    stops.push(steps, Step { instr, ..*step })
 }
 
-/// Puts plainer forms into a function.
-pub fn put_plainly(alloc: Global, function: &mut Function) -> Result<(), Fault> {
+/// The number of a function in the program, by its number in the source.
+fn place_in(order: &[usize], code: usize) -> usize {
+    for (place, number) in order.iter().enumerate() {
+        if *number == code {
+            return place;
+        }
+    }
+    0
+}
+
+/// Puts plainer forms into a function, and gives its calls the numbers of the program's functions, of which `order` has
+/// those in the source.
+pub fn put_plainly(stops: &mut Stops, function: &mut Function, order: &[usize]) {
     for block in function.blocks.iter_mut() {
-        let mut steps = Vec::new(alloc);
-        for step in &block.steps {
-            push_plain(&mut steps, step)?;
+        let mut steps = Vec::new(stops.alloc);
+        for step in block.steps.as_slice() {
+            let mut step = *step;
+            if let Some(callee) = step.callee {
+                step.callee = Some(place_in(order, callee));
+            }
+            push_plain(stops, &mut steps, &step);
         }
         block.steps = steps;
     }
-    Ok(())
 }

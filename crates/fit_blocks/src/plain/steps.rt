@@ -1,5 +1,5 @@
-//! Steps, and lists of them.
-use fit_code::{Fault, Line, Step};
+//! Steps.
+use fit_code::{Line, Step};
 use v8_formats::Instr;
 
 /// A step that is no call and names no object.
@@ -11,9 +11,4 @@ pub fn step_of(instr: Instr, line: Line) -> Step {
         object: None,
         slot: None,
     }
-}
-
-/// Puts a step behind others.
-pub fn push_step(steps: &mut Vec<Step>, step: Step) -> Result<(), Fault> {
-    Ok(steps.extend_from_slice(&[step])?)
 }

@@ -51,24 +51,23 @@ pub struct Access {
     pub stores: bool,
 }
 
+/// How many bytes the accesses of the first minor opcodes move (appendix F, "Format 3"); 0 where that is none.
+const MOVED: [u32; 16] = [4, 1, 2, 8, 4, 1, 2, 8, 0, 1, 2, 0, 0, 1, 0, 4];
+
 /// The access that an instruction makes.
 pub fn access_of(instr: &Instr) -> Option<Access> {
-    let (fields, bytes, stores) = match *instr {
-        Instr::LoadUnsignedByte(fields) | Instr::LoadSignedByte(fields) => (fields, 1, false),
-        Instr::LoadUnsignedHalf(fields) | Instr::LoadSignedHalf(fields) => (fields, 2, false),
-        Instr::Load(fields) => (fields, 4, false),
-        Instr::LoadDouble(fields) => (fields, 8, false),
-        Instr::StoreByte(fields) | Instr::LoadStoreUnsignedByte(fields) => (fields, 1, true),
-        Instr::StoreHalf(fields) => (fields, 2, true),
-        Instr::Store(fields) | Instr::Swap(fields) => (fields, 4, true),
-        Instr::StoreDouble(fields) => (fields, 8, true),
-        _ => return None,
-    };
-    Some(Access {
-        fields,
-        bytes,
-        stores,
-    })
+    let word = encode(instr);
+    let minor = bits_of(word, 19, 6) as usize;
+    let bytes = if minor < 16 { MOVED[minor] } else { 0 };
+    if (word >> 30 == 3) & (bytes > 0) {
+        Some(Access {
+            fields: three_of(word),
+            bytes,
+            stores: minor & 4 != 0,
+        })
+    } else {
+        None
+    }
 }
 
 /// The register next to an even one.
@@ -104,34 +103,22 @@ pub fn read_by(instr: &Instr) -> u32 {
     let Some(fields) = fields_of(instr) else {
         return 0;
     };
-    match instr {
-        Instr::ReadY(_) => 0,
-        Instr::StoreDouble(_) => {
-            bit_of(fields.rd) | bit_of(next_register(fields.rd)) | operands_read(&fields)
-        }
+    let stored = match instr {
+        Instr::ReadY(_) => return 0,
+        Instr::StoreDouble(_) => bit_of(fields.rd) | bit_of(next_register(fields.rd)),
         Instr::StoreByte(_) | Instr::StoreHalf(_) | Instr::Store(_) | Instr::Swap(_) => {
-            bit_of(fields.rd) | operands_read(&fields)
+            bit_of(fields.rd)
         }
-        _ => operands_read(&fields),
-    }
+        _ => 0,
+    };
+    stored | operands_read(&fields)
 }
 
-/// The minor opcode of an arithmetic or logic instruction (appendix F, "Format 3").
-fn minor_of(instr: &Instr) -> Option<u32> {
-    let word = encode(instr);
-    if word >> 30 == 2 {
-        Some(bits_of(word, 19, 6))
-    } else {
-        None
-    }
-}
-
-/// Whether an instruction sets the condition codes.
+/// Whether an instruction sets the condition codes, by its minor opcode (appendix F, "Format 3").
 pub fn sets_codes(instr: &Instr) -> bool {
-    match minor_of(instr) {
-        Some(minor) => 0x10 <= minor && minor <= 0x24,
-        None => false,
-    }
+    let word = encode(instr);
+    let minor = bits_of(word, 19, 6);
+    (word >> 30 == 2) & (0x10 <= minor) & (minor <= 0x24)
 }
 
 /// Whether an instruction reads the condition codes: ADDX, SUBX and MULScc.
@@ -140,14 +127,6 @@ pub fn reads_codes(instr: &Instr) -> bool {
         instr,
         Instr::Addx(_) | Instr::Subx(_) | Instr::AddxCc(_) | Instr::SubxCc(_) | Instr::MulsCc(_)
     )
-}
-
-/// Whether an instruction does nothing: SETHI of %g0.
-pub fn is_nop(instr: &Instr) -> bool {
-    match instr {
-        Instr::Sethi(upper) => upper.rd == Reg::G0,
-        _ => false,
-    }
 }
 
 /// The number of the service that `ta n` asks for; none of another trap.
@@ -160,16 +139,16 @@ pub fn service_of(trap: &Trap) -> Option<u32> {
     }
 }
 
-/// Whether sandboxed code may have an instruction within a block: arithmetic, loads and stores of the data's space,
-/// SETHI, reads and writes of Y, and the services get and put.
+/// Whether sandboxed code may have an instruction within a block that is no trap: arithmetic, loads and stores of the
+/// data's space, SETHI, reads and writes of Y.
 pub fn is_allowed(instr: &Instr) -> bool {
     match instr {
         Instr::Sethi(_) | Instr::ReadY(_) | Instr::WriteY(_) => true,
-        Instr::Ticc(trap) => matches!(service_of(trap), Some(1 | 2)),
         Instr::TaddCcTv(_) | Instr::TsubCcTv(_) => false,
-        other => match minor_of(other) {
-            Some(minor) => minor <= 0x27,
-            None => access_of(other).is_some(),
-        },
+        other => {
+            let word = encode(other);
+            let is_plain = (word >> 30 == 2) & (bits_of(word, 19, 6) <= 0x27);
+            is_plain | access_of(other).is_some()
+        }
     }
 }

@@ -1,9 +1,8 @@
 //! Where the objects of a program lie.
 use crate::points::fields::word_of;
+use crate::stops::Stops;
 use fit_code::{Fault, Line, NO_LINE, Naming, Object, Reason, Region};
-use fit_gas::{Fix, Linked, Source, SymbolPlace, links_of, named_fault};
-use std::alloc::Global;
-use std::collections::BTreeMap;
+use fit_gas::{Fix, Linked, Source, SymbolPlace, links_of};
 
 /// Where the data of an image begin.
 const DATA: u32 = 0x8_0000;
@@ -26,7 +25,7 @@ const PAGE: u32 = 4_096;
 /// Objects in two regions, each with its address from when it is added: the constants, and what may be written.
 #[derive(Drop)]
 pub struct Layout<'l> {
-    pub alloc: Global,
+    pub stops: Stops,
     pub source: &'l Source,
     pub linked: Linked<'l>,
     pub objects: Vec<Object>,
@@ -34,8 +33,8 @@ pub struct Layout<'l> {
     pub regions: Vec<Region>,
     /// Of each object of the source its number here.
     numbers: Vec<usize>,
-    /// Of functions of the source the objects of their arguments in memory.
-    arguments: BTreeMap<usize, usize>,
+    /// Functions of the source, each with the object of its arguments in memory.
+    arguments: Vec<(usize, usize)>,
     /// Where the region begins that objects are added to.
     start: u32,
     /// Where the last object ends, and the line that it was added for.
@@ -44,86 +43,84 @@ pub struct Layout<'l> {
 }
 
 impl Layout<'_> {
-    /// A fault where data end behind what an image may have.
-    fn check_end(&self) -> Result<(), Fault> {
-        if self.end.saturating_add(TAIL) > DATA + MOST {
+    /// Whether the data end where an image's may, which is noted where they don't.
+    fn ends_within(&mut self) -> bool {
+        let ends_within = self.end.saturating_add(TAIL) <= DATA + MOST;
+        if !ends_within {
             let reason = Reason::TooMany {
                 what: "bytes of data",
                 most: u64::from(MOST),
             };
-            return Err(Fault::new(self.line, reason));
+            self.stops.note(Fault::new(self.line, reason));
         }
-        Ok(())
+        ends_within
     }
 
-    /// Adds an object of zeros, for a line; gives its number.
-    ///
-    /// # Errors
-    /// At the line, where it would end behind what an image may have.
+    /// Adds an object, for a line: some bytes, and zeros behind them up to a length. Gives its number. It is a fault at
+    /// the line where it would end behind what an image may have.
     pub fn add(
         &mut self,
         name: String,
         readonly: bool,
         align: u32,
-        bytes: usize,
+        bytes: &[u8],
+        length: usize,
         line: Line,
-    ) -> Result<usize, Fault> {
+    ) -> usize {
         let number = self.objects.len();
         let padded = self.end.saturating_add(PAD);
         let start = padded.checked_next_multiple_of(align).unwrap_or(u32::MAX);
-        self.end = start.saturating_add(u32::try_from(bytes).unwrap_or(u32::MAX));
+        self.end = start.saturating_add(u32::try_from(length).unwrap_or(u32::MAX));
         self.line = line;
-        self.check_end()?;
         let mut object = Object {
             name,
             readonly,
             align,
-            bytes: Vec::new(self.alloc),
+            bytes: Vec::new(self.stops.alloc),
             start,
         };
-        let filled = object.bytes.resize(bytes, 0);
-        self.objects.push(object)?;
-        filled?;
-        Ok(number)
+        if self.ends_within() {
+            self.stops.take(object.bytes.extend_from_slice(bytes));
+            self.stops.take(object.bytes.resize(length, 0));
+        }
+        self.stops.push(&mut self.objects, object);
+        number
     }
 
     /// Adds the objects of the source that are constants, or those that aren't, each for the line where its name stands
     /// first.
-    fn add_all(&mut self, readonly: bool) -> Result<(), Fault> {
+    fn add_all(&mut self, readonly: bool) {
         let source = self.source;
         for (place, datum) in source.objects.iter().enumerate() {
             if datum.readonly == readonly
                 && let Some(symbol) = source.symbols.get(datum.symbol)
             {
-                let name = symbol.name.clone()?;
+                let name = self.stops.owned(symbol.name.as_str());
                 let align = datum.align.max(8);
-                let number = self.add(name, readonly, align, datum.bytes.len(), symbol.line)?;
-                self.fill(number, 0, datum.bytes.as_slice());
-                if let Some(found) = self.numbers.get_mut(place) {
-                    *found = number;
+                let bytes = datum.bytes.as_slice();
+                let number = self.add(name, readonly, align, bytes, bytes.len(), symbol.line);
+                let numbers = self.numbers.as_mut_slice();
+                if place < numbers.len() {
+                    numbers[place] = number;
                 }
             }
         }
-        Ok(())
     }
 
     /// The object of so many bytes for the arguments in memory of a function of the source, which a line asks for.
-    ///
-    /// # Errors
-    /// At the line, where it would end behind what an image may have.
-    pub fn arguments_of(
-        &mut self,
-        function: usize,
-        bytes: usize,
-        line: Line,
-    ) -> Result<usize, Fault> {
-        if let Some(object) = self.arguments.get(&function) {
-            return Ok(*object);
+    pub fn arguments_of(&mut self, function: usize, bytes: usize, line: Line) -> usize {
+        for (known, object) in &self.arguments {
+            if *known == function {
+                return *object;
+            }
         }
-        let name = format!(in self.alloc; "arguments of function {function}")?;
-        let object = self.add(name, false, 8, bytes, line)?;
-        self.arguments.insert(function, object)?;
-        Ok(object)
+        let mut name = String::new(self.stops.alloc);
+        if write!(name, "arguments of function {function}").is_err() {
+            self.stops.lack();
+        }
+        let object = self.add(name, false, 8, &[], bytes, line);
+        self.stops.push(&mut self.arguments, (function, object));
+        object
     }
 
     /// The address of an object plus a number, as a word.
@@ -136,103 +133,104 @@ impl Layout<'_> {
     }
 
     /// The region that objects were added to ends; what is added from here on lies on pages of its own.
-    pub fn end_region(&mut self, readonly: bool) -> Result<(), Fault> {
+    pub fn end_region(&mut self, readonly: bool) {
         let start = self.start;
         let end = self.end.saturating_add(TAIL);
         let length = end.saturating_sub(start).saturating_add(7) & !7;
         let behind = start.saturating_add(length);
         self.start = behind.checked_next_multiple_of(PAGE).unwrap_or(u32::MAX);
         self.end = self.start.saturating_add(HEAD);
-        Ok(
-            self.regions.push(Region {
-                readonly,
-                start,
-                length,
-            })?,
-        )
+        let region = Region {
+            readonly,
+            start,
+            length,
+        };
+        self.stops.push(&mut self.regions, region);
     }
 
-    /// Puts bytes into an object.
-    fn fill(&mut self, number: usize, at: usize, bytes: &[u8]) {
-        if let Some(object) = self.objects.get_mut(number) {
-            let mut place = at;
-            for byte in bytes {
-                if let Some(found) = object.bytes.get_mut(place) {
-                    *found = *byte;
-                }
-                place = place.saturating_add(1);
-            }
-        }
-    }
-
-    /// The object that a symbol stands for, by its number here.
-    pub fn object_of(&self, symbol: usize, line: Line) -> Result<usize, Fault> {
+    /// The object that a symbol stands for, by its number here. It is a fault at a line where it stands for none.
+    pub fn object_of(&mut self, symbol: usize, line: Line) -> usize {
         let naming = match self.linked.place(symbol) {
             SymbolPlace::Object(datum) => {
                 let number = self.numbers.get(datum).copied().unwrap_or(0);
-                return Ok(number);
+                return number;
             }
             SymbolPlace::Nowhere => Naming::NotDefined,
             _ => Naming::AddressOfFunction,
         };
-        Err(fault_of(self.source, line, naming, symbol))
+        let name = name_of(self.source, symbol);
+        self.stops.named(line, naming, name);
+        0
     }
 
     /// Fills in the addresses that an object of the source holds.
-    fn fill_all(&mut self, place: usize, fixes: &[Fix]) -> Result<(), Fault> {
+    fn fill(&mut self, place: usize, fixes: &[Fix]) {
         let number = self.numbers.get(place).copied().unwrap_or(0);
         for fix in fixes {
-            let object = self.object_of(fix.symbol, fix.line)?;
+            let object = self.object_of(fix.symbol, fix.line);
             let word = self.address(object, fix.offset);
-            self.fill(number, fix.at, &word.to_be_bytes());
+            if let Some(object) = self.objects.get_mut(number) {
+                put_word(object.bytes.as_mut_slice(), fix.at, word);
+            }
         }
-        Ok(())
     }
 
     /// Adds the objects of the source, the constants first.
-    fn lay_out(&mut self) -> Result<(), Fault> {
+    fn lay_out(&mut self) {
         let source = self.source;
-        self.numbers.resize(source.objects.len(), 0)?;
-        self.add_all(true)?;
+        let resized = self.numbers.resize(source.objects.len(), 0);
+        self.stops.take(resized);
+        self.add_all(true);
         if !self.objects.is_empty() {
-            self.end_region(true)?;
-            self.check_end()?;
+            self.end_region(true);
+            let _ = self.ends_within();
         }
-        self.add_all(false)?;
+        self.add_all(false);
         for (place, datum) in source.objects.iter().enumerate() {
-            self.fill_all(place, datum.fixes.as_slice())?;
+            self.fill(place, datum.fixes.as_slice());
         }
-        Ok(())
     }
 }
 
-/// A fault at a name of the source.
-pub fn fault_of(source: &Source, line: Line, naming: Naming, symbol: usize) -> Fault {
-    let name = match source.symbols.get(symbol) {
+/// The name of a symbol.
+pub fn name_of(source: &Source, symbol: usize) -> &str {
+    match source.symbols.get(symbol) {
         Some(found) => found.name.as_str(),
         None => "?",
-    };
-    named_fault(source.alloc, line, naming, name)
+    }
 }
 
-/// Lays out the objects of a source: the constants first, on pages that may be read alone.
+/// Puts a word at a place among bytes, the most significant byte first.
+fn put_word(bytes: &mut [u8], at: usize, word: u32) {
+    let mut place = at;
+    for byte in word.to_be_bytes() {
+        if place < bytes.len() {
+            bytes[place] = byte;
+            place += 1;
+        }
+    }
+}
+
+/// Lays out the objects of a source: the constants first, on pages that may be read alone. What stops it is noted in
+/// the layout: an address of what is no object; more bytes than an image may have.
 ///
 /// # Errors
-/// A global name that stands at two places; an address of what is no object; more bytes than an image may have.
+/// A global name that stands at two places.
 pub fn layout_of(source: &Source) -> Result<Layout<'_>, Fault> {
     let alloc = source.alloc;
+    let linked = links_of(source)?;
     let mut layout = Layout {
-        alloc,
+        stops: Stops { alloc, first: None },
         source,
-        linked: links_of(source)?,
+        linked,
         objects: Vec::new(alloc),
         regions: Vec::new(alloc),
         numbers: Vec::new(alloc),
-        arguments: BTreeMap::new(alloc),
+        arguments: Vec::new(alloc),
         start: DATA,
         end: DATA + HEAD,
         line: NO_LINE,
     };
-    layout.lay_out()?;
+    layout.lay_out();
     Ok(layout)
 }

@@ -6,8 +6,8 @@ mod layout;
 mod points;
 
 pub use fields::{
-    Access, access_of, bit_of, fields_of, is_nop, next_register, operands_read, read_by,
-    reads_codes, sets_codes, signed, word_of, written,
+    Access, access_of, bit_of, fields_of, next_register, operands_read, read_by, reads_codes,
+    sets_codes, signed, word_of, written,
 };
-pub use layout::{Layout, fault_of, layout_of};
-pub use points::{Flow, Point, Points, form_fault, points_of};
+pub use layout::{Layout, layout_of, name_of};
+pub use points::{Flow, Point, Points, points_of};

@@ -1,8 +1,8 @@
 //! The instructions of a function with their numbers filled in, and what each does to the flow of control.
-use crate::points::layout::Layout;
-use fit_code::{Fault, Line, Reason, Step};
-use fit_gas::{Code, Item};
-use std::alloc::AllocError;
+use crate::points::flow::{flow_of, step_from};
+use crate::points::layout::{Layout, name_of};
+use fit_code::{Line, Step};
+use fit_gas::Code;
 use v8_formats::Three;
 use v8_word::Cond;
 
@@ -11,6 +11,8 @@ use v8_word::Cond;
 pub enum Flow {
     /// Nothing: control goes on.
     On,
+    /// Nothing, and the instruction does nothing else.
+    Nothing,
     /// A branch to a point.
     Branch { cond: Cond, annul: bool, to: usize },
     Call,
@@ -38,60 +40,20 @@ pub struct Points {
     pub list: Vec<Point>,
 }
 
-impl Points {
-    /// A fault of the function.
-    pub fn fault(&self, line: Line, what: &'static str) -> Fault {
-        form_fault(&self.name, line, what)
+/// The instructions of a function, by its number in the source. What stops it is noted: an instruction that sandboxed
+/// code may not have; a jump that is no return; a branch out of the function; a name that stands nowhere, or is a
+/// function's where an object's is wanted.
+pub fn points_of(layout: &mut Layout, number: usize, code: &Code) -> Points {
+    let name = name_of(layout.source, code.symbol);
+    let mut list = Vec::new(layout.stops.alloc);
+    for item in code.items.as_slice() {
+        let step = step_from(layout, item);
+        let flow = flow_of(layout, (number, name), &step.instr, item);
+        layout.stops.push(&mut list, Point { step, flow });
     }
-}
-
-/// A fault of the function of a name.
-pub fn form_fault(function: &String, line: Line, what: &'static str) -> Fault {
-    let name: Result<String, AllocError> = function.clone();
-    match name {
-        Ok(function) => Fault::new(line, Reason::Form { function, what }),
-        Err(error) => Fault::from(error),
+    Points {
+        name: layout.stops.owned(name),
+        line: code.line,
+        list,
     }
-}
-
-/// What points are made with.
-#[derive(Drop)]
-pub struct Maker<'m, 'l> {
-    pub layout: &'m Layout<'l>,
-    /// The number of the function in the source.
-    pub code: usize,
-    pub points: Points,
-}
-
-impl Maker<'_, '_> {
-    fn add(&mut self, item: &Item) -> Result<(), Fault> {
-        let step = self.step(item)?;
-        let flow = self.flow(&step.instr, item.line, item.reference)?;
-        Ok(self.points.list.push(Point { step, flow })?)
-    }
-}
-
-/// The instructions of a function, by its number in the source.
-///
-/// # Errors
-/// An instruction that sandboxed code may not have; a jump that is no return; a branch out of the function; a name
-/// that stands nowhere, or is a function's where an object's is wanted.
-pub fn points_of(layout: &Layout, number: usize, code: &Code) -> Result<Points, Fault> {
-    let name = match layout.source.symbols.get(code.symbol) {
-        Some(symbol) => symbol.name.clone()?,
-        None => String::new(layout.alloc),
-    };
-    let mut maker = Maker {
-        layout,
-        code: number,
-        points: Points {
-            name,
-            line: code.line,
-            list: Vec::new(layout.alloc),
-        },
-    };
-    for item in &code.items {
-        maker.add(item)?;
-    }
-    Ok(maker.points)
 }

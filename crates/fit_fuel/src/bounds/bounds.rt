@@ -1,9 +1,8 @@
 //! The counters of loops.
 use crate::bounds::changes::{Passage, add_ways};
 use crate::bounds::rounds::least_of_round;
-use crate::memory::Memory;
 use crate::task::{Setting, Task};
-use fit_code::{Function, Program};
+use fit_code::{Memory, Program};
 use fit_graph::{Loop, enters_beside_head, loops_of, range_in};
 use fit_ranges::Ranges;
 use sbx_domain::State;
@@ -48,50 +47,48 @@ impl Bounds {
     }
 
     /// Finds the loops of a function and their bounds.
-    pub(crate) fn find(
-        &mut self,
-        setting: &Setting<'_>,
-        function: &Function,
-        state: &mut State,
-    ) -> Result<(), AllocError> {
-        let is_plain = enters_beside_head(setting.task.alloc, function)?.is_none();
-        self.loops = loops_of(setting.task.alloc, function)?;
-        let mut memory = Memory::new();
+    pub(crate) fn find(&mut self, setting: &Setting<'_>, state: &mut State, memory: &mut Memory) {
+        let (alloc, function) = (setting.task.alloc, setting.function);
+        let mut is_plain = false;
+        match enters_beside_head(alloc, function) {
+            Ok(entered) => is_plain = entered.is_none(),
+            Err(error) => memory.take(Err(error)),
+        }
+        match loops_of(alloc, function) {
+            Ok(loops) => self.loops = loops,
+            Err(error) => memory.take(Err(error)),
+        }
         for within in self.loops.as_slice() {
             let bound = if is_plain {
-                bound_of(setting, function, within, state, &mut memory)
+                bound_of(setting, within, state, memory)
             } else {
                 None
             };
             memory.push(&mut self.bounds, bound);
         }
-        memory.told()
     }
 
     /// Leaves the bounds of those loops alone that have a steady one of at most so many rounds, and only such loops in
     /// them.
     pub fn limit(&mut self, most: u64) {
+        let bounds = self.bounds.as_mut_slice();
+        let loops = self.loops.as_slice();
         // an inner loop stands behind those around it, which are as unbounded as it is
-        for place in (0..self.loops.len()).rev() {
-            if let Some(bound) = self.at(place)
-                && bound.is_steady
-                && bound.rounds <= most
-            {
-                continue;
+        for place in (0..loops.len()).rev() {
+            if place < bounds.len() {
+                let is_kept = match bounds[place] {
+                    Some(bound) => bound.is_steady & (bound.rounds <= most),
+                    None => false,
+                };
+                if !is_kept {
+                    bounds[place] = None;
+                    if let Some(parent) = loops[place].parent
+                        && parent < bounds.len()
+                    {
+                        bounds[parent] = None;
+                    }
+                }
             }
-            self.forget(place);
-            if place < self.loops.len()
-                && let Some(parent) = self.loops[place].parent
-            {
-                self.forget(parent);
-            }
-        }
-    }
-
-    /// Forgets the bound of the loop at a place.
-    fn forget(&mut self, place: usize) {
-        if place < self.bounds.len() {
-            self.bounds[place] = None;
         }
     }
 
@@ -155,26 +152,8 @@ fn course_of(passages: &[Passage], location: u16) -> Option<Course> {
     }
 }
 
-/// The bound that a location gives that changes by so much in a round at least; none where that may be nothing.
-fn bound_with(cell: &Cell, course: Course, least: u64) -> Option<Bound> {
-    let Cell { location, range } = *cell;
-    let change = match i64::try_from(least) {
-        Ok(0) | Err(_) => return None,
-        Ok(amount) if course.falls => amount.saturating_neg(),
-        Ok(amount) => amount,
-    };
-    let width = i64::from(range.hi).saturating_sub(i64::from(range.lo));
-    let rounds = width.unsigned_abs() / change.unsigned_abs();
-    Some(Bound {
-        location,
-        change,
-        rounds: rounds.saturating_add(1),
-        is_steady: course.is_steady,
-    })
-}
-
-/// The bound that a location of a loop's head gives; none where it doesn't change one way, or isn't known throughout
-/// the loop.
+/// The bound that a location of a loop's head gives; none where it doesn't change one way, where it may not change in a
+/// round, and where it isn't known throughout the loop.
 fn bound_by(
     setting: &Setting<'_>,
     within: &Loop,
@@ -182,34 +161,41 @@ fn bound_by(
     cell: &Cell,
     memory: &mut Memory,
 ) -> Option<Bound> {
-    let Some(course) = course_of(passages, cell.location) else {
+    let Cell { location, range } = *cell;
+    let Some(course) = course_of(passages, location) else {
         return None;
     };
-    if !is_known_throughout(setting, within, cell.location) {
+    if !is_known_throughout(setting, within, location) {
         return None;
     }
     let (alloc, blocks) = (setting.task.alloc, within.holds.len());
-    let least = least_of_round(alloc, passages, cell.location, within.head, blocks, memory);
-    bound_with(cell, course, least)
-}
-
-/// Whether a bound is better than another one: a steady one than others, and then that of fewer rounds.
-fn is_better(bound: &Bound, other: &Bound) -> bool {
-    if bound.is_steady == other.is_steady {
-        bound.rounds < other.rounds
-    } else {
-        bound.is_steady
-    }
-}
-
-/// The better bound of two, the first where none is; none where there is none.
-fn better(found: Option<Bound>, other: Option<Bound>) -> Option<Bound> {
-    let Some(bound) = found else {
-        return other;
+    let least = least_of_round(alloc, passages, location, within.head, blocks, memory);
+    let Ok(amount) = i64::try_from(least) else {
+        return None;
     };
-    match other {
-        Some(more) if is_better(&more, &bound) => other,
-        _ => found,
+    if least == 0 {
+        return None;
+    }
+    let width = i64::from(range.hi).saturating_sub(i64::from(range.lo));
+    let rounds = width.unsigned_abs() / least;
+    Some(Bound {
+        location,
+        change: if course.falls {
+            amount.saturating_neg()
+        } else {
+            amount
+        },
+        rounds: rounds.saturating_add(1),
+        is_steady: course.is_steady,
+    })
+}
+
+/// Whether a bound is better than what was found: a steady one than others, and then that of fewer rounds.
+fn is_better(bound: &Bound, found: &Option<Bound>) -> bool {
+    match found {
+        Some(other) if bound.is_steady == other.is_steady => bound.rounds < other.rounds,
+        Some(_) => bound.is_steady,
+        None => true,
     }
 }
 
@@ -217,29 +203,21 @@ fn better(found: Option<Bound>, other: Option<Bound>) -> Option<Bound> {
 /// where no location counts.
 fn bound_of(
     setting: &Setting<'_>,
-    function: &Function,
     within: &Loop,
     state: &mut State,
     memory: &mut Memory,
 ) -> Option<Bound> {
     let task = setting.task;
-    let Some(cells) = task.ranges.cells(task.number, within.head) else {
-        return None;
-    };
+    let cells = task.ranges.cells(task.number, within.head).unwrap_or(&[]);
     let mut passages = Vec::new(task.alloc);
-    add_ways(
-        setting,
-        function,
-        within,
-        cells,
-        &mut passages,
-        state,
-        memory,
-    );
+    add_ways(setting, within, cells, &mut passages, state, memory);
     let mut found = None;
     for cell in cells {
-        let other = bound_by(setting, within, passages.as_slice(), cell, memory);
-        found = better(found, other);
+        if let Some(bound) = bound_by(setting, within, passages.as_slice(), cell, memory)
+            && is_better(&bound, &found)
+        {
+            found = Some(bound);
+        }
     }
     found
 }
@@ -254,6 +232,7 @@ pub fn bounds_of(
     state: &mut State,
 ) -> Result<Bounds, AllocError> {
     let mut found = Bounds::none(alloc);
+    let mut memory = Memory::new(alloc);
     if number < program.functions.len() {
         let task = Task {
             alloc,
@@ -265,9 +244,10 @@ pub fn bounds_of(
         };
         let setting = Setting {
             program,
+            function: &program.functions[number],
             task: &task,
         };
-        found.find(&setting, &program.functions[number], state)?;
+        found.find(&setting, state, &mut memory);
     }
-    Ok(found)
+    memory.told(found)
 }

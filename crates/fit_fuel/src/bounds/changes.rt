@@ -1,9 +1,8 @@
 //! By how much locations change along the ways of a loop.
-use crate::memory::Memory;
 use crate::task::Setting;
 use crate::ways::Way;
 use arrayvec::ArrayVec;
-use fit_code::Function;
+use fit_code::Memory;
 use fit_graph::{Loop, range_in, successors_in};
 use sbx_domain::State;
 use sbx_form::FormTerm;
@@ -110,7 +109,6 @@ fn add_way(
 /// Adds the ways that stay in a loop of a function, for each location that its head knows.
 pub fn add_ways(
     setting: &Setting<'_>,
-    function: &Function,
     within: &Loop,
     known: &[Cell],
     passages: &mut Vec<Passage>,
@@ -121,7 +119,7 @@ pub fn add_ways(
     for place in 0..within.holds.len().saturating_mul(2) {
         let (block, way) = (place / 2, place % 2);
         if within.has(block)
-            && let Some(to) = successors_in(function, block)[way]
+            && let Some(to) = successors_in(setting.function, block)[way]
             && within.has(to)
         {
             let to = if to == within.head { None } else { Some(to) };

@@ -1,7 +1,7 @@
 //! By how much locations change in a round of a loop.
 use crate::bounds::changes::Passage;
-use crate::memory::Memory;
 use crate::ways::{constant_at, settle};
+use fit_code::Memory;
 use std::alloc::Global;
 
 /// The least change of a location in a round: of the ways from the head back to it, in a function of so many blocks. 0

@@ -24,30 +24,9 @@ fn counted(fuel: &Fuel, within: &Loop) -> i64 {
     inside.saturating_sub(behind)
 }
 
-/// The turns that a loop may take: where the meter has a place in it, all that the meter begins with.
-fn turns_of(fuel: &Fuel, meter: Option<&Meter>, within: &Loop) -> i64 {
-    match meter {
-        Some(meter) if has_place(within, fuel.places.as_slice()) => {
-            i64::from(meter.count).saturating_mul(i64::from(meter.unit))
-        }
-        _ => counted(fuel, within),
-    }
-}
-
-/// The line of a loop: that from which it goes back to its head.
-fn line_of(function: &Function, within: &Loop) -> Option<Line> {
-    let Some(latch) = within.latches.first() else {
-        return None;
-    };
-    if *latch < function.blocks.len() {
-        Some(function.blocks[*latch].line)
-    } else {
-        None
-    }
-}
-
-/// The line of that of a function's loops that may take the most turns, the first and outermost of those. None in a
-/// function without loops.
+/// The line of that of a function's loops that may take the most turns, the first and outermost of those: that from
+/// which it goes back to its head. None in a function without loops. A loop in which the meter has a place may take all
+/// that the meter begins with.
 pub fn dearest_loop(
     function: &Function,
     loops: &[Loop],
@@ -57,11 +36,17 @@ pub fn dearest_loop(
     let mut found = None;
     let mut most = i64::MIN;
     for within in loops {
-        let turns = turns_of(fuel, meter, within);
-        if (found.is_none() || turns > most)
-            && let Some(line) = line_of(function, within)
+        let turns = match meter {
+            Some(meter) if has_place(within, fuel.places.as_slice()) => {
+                i64::from(meter.count).saturating_mul(i64::from(meter.unit))
+            }
+            _ => counted(fuel, within),
+        };
+        if (found.is_none() | (turns > most))
+            && let Some(latch) = within.latches.first()
+            && *latch < function.blocks.len()
         {
-            found = Some(line);
+            found = Some(function.blocks[*latch].line);
             most = turns;
         }
     }

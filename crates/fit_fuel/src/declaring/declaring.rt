@@ -32,73 +32,47 @@ pub fn refused(function: &Function, line: Line, what: &'static str) -> Fault {
     }
 }
 
-/// Lets the places of a function's meter, if it has one, take as much as has to be paid for.
-fn weighed_anew(program: &mut Program, task: &Task<'_>, fuel: &mut Fuel) -> Weighed {
-    let Some(meter) = task.meter else {
-        return Weighed::Same;
-    };
-    if task.number >= program.functions.len() {
-        return Weighed::Same;
-    }
-    set_weights(&mut program.functions[task.number], meter, fuel)
-}
-
-/// Finds the bounds of a function's loops, and its fuel, where its meter takes as much as has to be paid for; says
-/// where there is none why, and of which line, if it is of one. Which bounds there are doesn't depend on what the
-/// meter takes.
+/// Finds the bounds of a function's loops, and its fuel, where its meter, if it has one, takes as much as has to be
+/// paid for; says where there is none why, and of which line, if it is of one. Which bounds there are doesn't depend on
+/// what the meter takes.
 fn settle(
     program: &mut Program,
     task: &Task<'_>,
     bounds: &mut Bounds,
     fuel: &mut Fuel,
     state: &mut State,
-) -> Result<Option<(Option<Line>, &'static str)>, AllocError> {
-    if task.number < program.functions.len() {
-        let function = &program.functions[task.number];
-        fuel.take_blocks(task.alloc, function, task.meter);
+) -> Option<(Option<Line>, &'static str)> {
+    for round in 0..ROUNDS {
+        if task.number >= program.functions.len() {
+            break;
+        }
         let setting = Setting {
             program,
+            function: &program.functions[task.number],
             task: &*task,
         };
-        bounds.find(&setting, function, state)?;
-    }
-    for _ in 0..ROUNDS {
-        let setting = Setting {
-            program,
-            task: &*task,
+        if round == 0 {
+            fuel.take_blocks(task.alloc, setting.function, task.meter);
+            bounds.find(&setting, state, &mut fuel.memory);
+        }
+        if !find_fuel(&setting, bounds, fuel, state) {
+            break;
+        }
+        let weighed = match task.meter {
+            Some(meter) => set_weights(&mut program.functions[task.number], meter, fuel),
+            None => Weighed::Same,
         };
-        let is_found = find_fuel(&setting, bounds, fuel, state);
-        let weighed = if is_found {
-            weighed_anew(program, task, fuel)
-        } else {
-            Weighed::Same
-        };
-        fuel.memory.told()?;
         match weighed {
-            Weighed::Same if is_found => return Ok(None),
-            Weighed::Same => break,
+            Weighed::Same => return None,
             Weighed::More => {}
-            Weighed::TooMuch(line) => return Ok(Some((Some(line), TOO_MUCH))),
+            Weighed::TooMuch(line) => return Some((Some(line), TOO_MUCH)),
         }
     }
-    Ok(Some((None, "no fuel was found for its loops")))
+    Some((None, "no fuel was found for its loops"))
 }
 
-/// A budget that is too great, told at the loop that takes the most of it, or at the function if it has none.
-fn too_great(
-    function: &Function,
-    bounds: &Bounds,
-    fuel: &Fuel,
-    task: &Task<'_>,
-    turns: u64,
-) -> Fault {
-    let dearest = dearest_loop(function, bounds.loops.as_slice(), fuel, task.meter);
-    let is_loop = dearest.is_some();
-    let line = dearest.unwrap_or(function.line);
-    Fault::new(line, Reason::Budget { turns, is_loop })
-}
-
-/// Finds the fuel of a function, which each of its blocks says then, and what a call takes.
+/// Finds the fuel of a function, which each of its blocks says then, and what a call takes. A budget that is too great
+/// is told at the loop that takes the most of it, or at the function if it has none.
 fn find_total(
     program: &mut Program,
     task: &Task<'_>,
@@ -106,7 +80,9 @@ fn find_total(
     fuel: &mut Fuel,
     state: &mut State,
 ) -> Result<(u64, Total), Fault> {
-    let lack = settle(program, task, bounds, fuel, state)?;
+    let lack = settle(program, task, bounds, fuel, state);
+    fuel.fill(task.ranges, task.number);
+    fuel.memory.told(())?;
     if task.number >= program.functions.len() {
         return Err(Fault::new(NO_LINE, Reason::Unreadable("no function")));
     }
@@ -115,15 +91,14 @@ fn find_total(
         return Err(refused(function, line.unwrap_or(function.line), what));
     }
     let first = constant_at(fuel.constants.as_slice(), 0).unwrap_or(0);
-    let budget = u64::try_from(first).unwrap_or(0);
-    if budget >= BOUND {
-        return Err(too_great(function, bounds, fuel, task, budget));
+    let turns = u64::try_from(first).unwrap_or(0);
+    if turns >= BOUND {
+        let dearest = dearest_loop(function, bounds.loops.as_slice(), fuel, task.meter);
+        let is_loop = dearest.is_some();
+        let line = dearest.unwrap_or(function.line);
+        return Err(Fault::new(line, Reason::Budget { turns, is_loop }));
     }
-    fuel.fill(task.ranges, task.number);
-    match fuel.memory.told() {
-        Ok(()) => Ok((budget, total_of(function, Some(budget), task.known))),
-        Err(error) => Err(Fault::from(error)),
-    }
+    Ok((turns, total_of(function, Some(turns), task.known)))
 }
 
 /// What one function declares. The places of a meter take what the dearest way to the next one weighs. A loop that
@@ -135,13 +110,51 @@ pub fn declare_function(
 ) -> Result<FunctionNotes, Fault> {
     let mut bounds = Bounds::none(task.alloc);
     let mut fuel = Fuel::none(task.alloc);
-    let (budget, total) = find_total(program, task, &mut bounds, &mut fuel, state)?;
-    Ok(FunctionNotes {
-        budget,
-        room: total.room,
-        depth: total.depth,
-        blocks: fuel.blocks,
-    })
+    match find_total(program, task, &mut bounds, &mut fuel, state) {
+        Ok((budget, total)) => Ok(FunctionNotes {
+            budget,
+            room: total.room,
+            depth: total.depth,
+            blocks: fuel.blocks,
+        }),
+        Err(fault) => Err(fault),
+    }
+}
+
+/// Adds what each function of a program declares, from the last one on, since each calls those behind it alone, and
+/// puts it into their order then.
+fn declare_each(
+    alloc: Global,
+    program: &mut Program,
+    (ranges, meters): (&Ranges, &[Option<Meter>]),
+    known: &mut [Option<Total>],
+    functions: &mut Vec<FunctionNotes>,
+    state: &mut State,
+) -> Result<(), Fault> {
+    for number in (0..known.len()).rev() {
+        let task = Task {
+            alloc,
+            ranges,
+            number,
+            meter: match meters.get(number) {
+                Some(Some(meter)) => Some(meter),
+                _ => None,
+            },
+            known: &*known,
+            spared: &[],
+        };
+        let notes = declare_function(program, &task, state)?;
+        known[number] = Some(Total {
+            budget: Some(notes.budget),
+            room: notes.room,
+            depth: notes.depth,
+        });
+        if functions.push(notes).is_err() {
+            return Err(Fault::from(AllocError));
+        }
+    }
+    functions.reverse();
+    check_limits(program, functions.as_slice())
 }
 
 /// What a program declares whose blocks stand in their places: cells, fuel, budgets, stack room, depths. The places of
@@ -155,33 +168,11 @@ pub fn declare(
     state: &mut State,
 ) -> Result<Annotations, Fault> {
     let mut known: Vec<Option<Total>> = vec![in alloc; None; program.functions.len()]?;
-    let mut annotations = Annotations {
-        functions: Vec::new(alloc),
-    };
-    // the last one first, since each calls those behind it alone
-    for number in (0..known.len()).rev() {
-        let task = Task {
-            alloc,
-            ranges,
-            number,
-            meter: match meters.get(number) {
-                Some(Some(meter)) => Some(meter),
-                _ => None,
-            },
-            known: known.as_slice(),
-            spared: &[],
-        };
-        let notes = declare_function(program, &task, state)?;
-        if number < known.len() {
-            known[number] = Some(Total {
-                budget: Some(notes.budget),
-                room: notes.room,
-                depth: notes.depth,
-            });
-        }
-        annotations.functions.push(notes)?;
+    let mut functions = Vec::new(alloc);
+    let basis = (ranges, meters);
+    let known = known.as_mut_slice();
+    match declare_each(alloc, program, basis, known, &mut functions, state) {
+        Ok(()) => Ok(Annotations { functions }),
+        Err(fault) => Err(fault),
     }
-    annotations.functions.reverse();
-    check_limits(program, &annotations)?;
-    Ok(annotations)
 }

@@ -1,6 +1,6 @@
 //! Limits of an image that a program may pass.
 use fit_code::{Block, End, Fault, Function, Line, Program, Reason};
-use fit_text::{Annotations, FunctionNotes};
+use fit_text::FunctionNotes;
 
 /// The most words of code.
 const WORDS: u64 = 65_536;
@@ -57,9 +57,11 @@ impl Found {
         self.check(line, "the blocks of a function", blocks, 4096);
         self.check(line, "the stack that calls take", notes.room, STACK);
         self.words = self.words.saturating_add(1);
-        for (number, block) in function.blocks.iter().enumerate() {
-            if number < notes.blocks.len() {
-                let terms = notes.blocks[number].terms.len() as u64;
+        let (blocks, noted) = (function.blocks.as_slice(), notes.blocks.as_slice());
+        for number in 0..blocks.len() {
+            if number < noted.len() {
+                let block = &blocks[number];
+                let terms = noted[number].terms.len() as u64;
                 self.check(block.line, "the loops around a block", terms, 8);
                 self.words = self.words.saturating_add(words_of(block));
             }
@@ -68,25 +70,27 @@ impl Found {
     }
 }
 
-/// Whether a program is within the limits of an image; else the first one that it passes, with its line.
-pub fn check_limits(program: &Program, annotations: &Annotations) -> Result<(), Fault> {
+/// Whether a program of which this is said is within the limits of an image; else the first one that it passes, with
+/// its line.
+pub fn check_limits(program: &Program, annotations: &[FunctionNotes]) -> Result<(), Fault> {
     let mut found = Found {
         words: 0,
         excess: None,
     };
-    for (number, function) in program.functions.iter().enumerate() {
-        if number < annotations.functions.len() {
-            found.check_function(function, &annotations.functions[number]);
+    for (number, function) in program.functions.as_slice().iter().enumerate() {
+        if number < annotations.len() {
+            found.check_function(function, &annotations[number]);
         }
     }
-    let Some(excess) = found.excess else {
-        return Ok(());
-    };
-    let Excess {
-        line,
-        what,
-        count,
-        most,
-    } = excess;
-    Err(Fault::new(line, Reason::TooGreat { what, count, most }))
+    match found.excess {
+        Some(excess) => {
+            let reason = Reason::TooGreat {
+                what: excess.what,
+                count: excess.count,
+                most: excess.most,
+            };
+            Err(Fault::new(excess.line, reason))
+        }
+        None => Ok(()),
+    }
 }

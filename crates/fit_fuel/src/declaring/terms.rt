@@ -1,8 +1,8 @@
 //! The terms of blocks: what is left in the meter, and so many turns for each round that is left to a counter.
 use crate::bounds::{Bound, Bounds};
-use crate::memory::Memory;
 use crate::task::{Setting, Task};
 use crate::ways::{Fuel, constant_at};
+use fit_code::Memory;
 use fit_graph::{Loop, range_in};
 use fit_text::BlockNotes;
 use sbx_domain::State;
@@ -30,19 +30,18 @@ fn add_term(terms: &mut Vec<Term>, term: Term, memory: &mut Memory) {
 
 /// Begins with the terms of the meter, in each block that knows it.
 fn begin(task: &Task<'_>, blocks: &mut [BlockNotes], memory: &mut Memory) {
-    for (block, notes) in blocks.iter_mut().enumerate() {
+    for block in 0..blocks.len() {
+        let notes = &mut blocks[block];
         notes.terms.clear();
-        if let Some(meter) = task.meter {
-            let location = meter.location();
-            let cells = task.ranges.cells(task.number, block).unwrap_or(&[]);
-            if range_in(cells, location).is_some() {
-                let coefficient = i32::try_from(meter.unit).unwrap_or(i32::MAX);
-                let term = Term {
-                    location,
-                    coefficient,
-                };
-                memory.push(&mut notes.terms, term);
-            }
+        let cells = task.ranges.cells(task.number, block).unwrap_or(&[]);
+        if let Some(meter) = task.meter
+            && range_in(cells, meter.location()).is_some()
+        {
+            let term = Term {
+                location: meter.location(),
+                coefficient: i32::try_from(meter.unit).unwrap_or(i32::MAX),
+            };
+            memory.push(&mut notes.terms, term);
         }
     }
 }

@@ -1,6 +1,5 @@
 //! The places of a meter, and what they take.
-use crate::memory::Memory;
-use fit_code::{Block, End, Step};
+use fit_code::{Block, End, Memory, Step};
 use v8_formats::{Cond, Instr, Operand, Reg, Three, Upper};
 
 /// What a function counts its turns by.
@@ -71,23 +70,23 @@ pub fn counting(meter: &Meter, weight: u32) -> [Option<Instr>; 3] {
 /// What a block takes that is a place of the meter where no weight was set yet: it counts down, and control leaves
 /// where the count is below 0.
 pub fn taken_by(meter: &Meter, block: &Block) -> Option<u32> {
-    match (block.end, &block.steps.last()?.instr) {
-        (
-            End::Branch {
-                cond: Cond::Negative,
-                ..
-            },
-            Instr::SubCc(
-                Three {
-                    rd,
-                    rs1,
-                    operand2: Operand::Immediate(weight),
-                },
-            ),
-        ) if *rd == meter.register
-            && *rs1 == meter.register
-            && block.slot.is_some() == meter.word.is_some() => Some(*weight),
-        _ => None,
+    if matches!(
+        block.end,
+        End::Branch {
+            cond: Cond::Negative,
+            ..
+        }
+    )
+        && let Some(last) = block.steps.last()
+        && let Instr::SubCc(fields) = last.instr
+        && let Operand::Immediate(weight) = fields.operand2
+        && fields.rd == meter.register
+        && fields.rs1 == meter.register
+        && block.slot.is_some() == meter.word.is_some()
+    {
+        Some(weight)
+    } else {
+        None
     }
 }
 

@@ -1,8 +1,9 @@
 //! By how much the constant of a block's fuel has to exceed that of the block behind it.
-use crate::memory::Memory;
 use crate::task::Setting;
 use crate::ways::sums::Sum;
 use crate::ways::weights::weight_of_block;
+use fit_code::Memory;
+use fit_graph::{Loop, successors_in};
 use fit_text::BlockNotes;
 use sbx_domain::State;
 use sbx_parts::Term;
@@ -28,25 +29,41 @@ fn terms_at(blocks: &[BlockNotes], block: usize) -> &[Term] {
     }
 }
 
-/// What one way out of a block costs, where these are the blocks' terms; nothing where it can't be gone.
-pub fn cost_of_way(
+/// A way out of a block, in a loop or of the function, with what it costs, where these are the blocks' terms. Nothing
+/// where it can't be gone, and where it isn't looked at: of a loop's block where it leaves the loop, and of a block at
+/// which the function or the run ends the second.
+pub fn way_of(
     setting: &Setting<'_>,
+    within: Option<&Loop>,
     blocks: &[BlockNotes],
     (from, way): (usize, usize),
-    to: Option<usize>,
     state: &mut State,
     memory: &mut Memory,
-) -> Option<i64> {
+) -> Option<Way> {
+    let to = successors_in(setting.function, from)[way % 2];
+    let is_asked = match (within, to) {
+        (Some(within), Some(to)) => within.has(from) & within.has(to),
+        (Some(_), None) => false,
+        (None, _) => to.is_some() | (way == 0),
+    };
     let (ranges, number) = (setting.task.ranges, setting.task.number);
+    if !is_asked || (to.is_some() && !ranges.run_block(setting.program, number, from, way, state)) {
+        return None;
+    }
     let mut sum = Sum::of(setting.task.alloc, weight_of_block(setting, from));
     sum.take_terms(terms_at(blocks, from));
     if let Some(to) = to {
-        if !ranges.run_block(setting.program, number, from, way, state) {
-            return None;
-        }
         sum.add_terms(state, terms_at(blocks, to));
     }
-    memory.take(sum.memory.told());
-    // nothing is known of a function's first block, whose fuel has no terms
-    Some(sum.greatest(ranges.cells(number, from).unwrap_or(&[])))
+    memory.take(sum.memory.told(()));
+    Some(Way {
+        from,
+        to: match within {
+            Some(within) if to == Some(within.head) => None,
+            _ => to,
+        },
+        is_metered: false,
+        // nothing is known of a function's first block, whose fuel has no terms
+        cost: sum.greatest(ranges.cells(number, from).unwrap_or(&[])),
+    })
 }

@@ -10,17 +10,6 @@ pub fn constant_at(constants: &[Option<i64>], block: usize) -> Option<i64> {
     }
 }
 
-/// What a way asks of its block's constant; none where that isn't known yet.
-fn asked(constants: &[Option<i64>], way: &Way) -> Option<i64> {
-    let Some(to) = way.to else {
-        return Some(way.cost);
-    };
-    match constant_at(constants, to) {
-        Some(there) => Some(way.cost.saturating_add(there)),
-        None => None,
-    }
-}
-
 /// Raises constants to what the ways ask for, once; says whether one rose. The way on from a place of the meter is left
 /// out.
 fn raise(constants: &mut [Option<i64>], ways: &[Way]) -> bool {
@@ -28,7 +17,13 @@ fn raise(constants: &mut [Option<i64>], ways: &[Way]) -> bool {
     for place in (0..ways.len()).rev() {
         let way = &ways[place];
         if !way.is_metered && way.from < constants.len() {
-            let wanted = asked(constants, way);
+            let wanted = match way.to {
+                Some(to) => match constant_at(constants, to) {
+                    Some(there) => Some(way.cost.saturating_add(there)),
+                    None => None,
+                },
+                None => Some(way.cost),
+            };
             // what isn't known is less than all that is
             if wanted > constants[way.from] {
                 constants[way.from] = wanted;

@@ -1,7 +1,7 @@
 //! Sums of multiples of locations, and the greatest value that they can have. A sum past the greatest number stays
 //! there, and is refused as a budget.
-use crate::memory::Memory;
 use arrayvec::ArrayVec;
+use fit_code::Memory;
 use fit_graph::range_in;
 use sbx_domain::State;
 use sbx_form::FormTerm;
@@ -37,7 +37,7 @@ impl Sum {
         Sum {
             constant,
             multiples: Vec::new(alloc),
-            memory: Memory::new(),
+            memory: Memory::new(alloc),
         }
     }
 

@@ -7,21 +7,18 @@ use v8_formats::Instr;
 /// What SAVE weighs, and RESTORE.
 const WINDOW: u64 = 25;
 
-/// The budget of a function that is called, where it is known; else nothing.
-fn budget_of(known: &[Option<Total>], callee: usize) -> u64 {
-    if callee < known.len()
-        && let Some(total) = known[callee]
-    {
-        total.budget.unwrap_or(0)
-    } else {
-        0
-    }
-}
-
-/// What a step weighs; a call its slot and the callee's budget, too.
+/// What a step weighs; a call its slot and the callee's budget, too, where that is known.
 fn weight_of_step(known: &[Option<Total>], step: &Step) -> u64 {
     match step.callee {
-        Some(callee) => budget_of(known, callee).saturating_add(2),
+        Some(callee) => {
+            let mut budget: u64 = 0;
+            if callee < known.len()
+                && let Some(total) = known[callee]
+            {
+                budget = total.budget.unwrap_or(0);
+            }
+            budget.saturating_add(2)
+        }
         None if matches!(step.instr, Instr::Ticc(_)) => 5,
         None => 1,
     }
@@ -50,12 +47,7 @@ fn signed(turns: u64) -> i64 {
 
 /// What a block weighs, by its place in the function and what is known of what it calls, without what is spared.
 pub fn weight_of_block(setting: &Setting<'_>, place: usize) -> i64 {
-    let task = setting.task;
-    let functions = setting.program.functions.as_slice();
-    if task.number >= functions.len() {
-        return 0;
-    }
-    let function = &functions[task.number];
+    let (task, function) = (setting.task, setting.function);
     if place >= function.blocks.len() {
         return 0;
     }

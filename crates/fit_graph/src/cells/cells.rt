@@ -35,29 +35,27 @@ impl Growth<'_> {
     }
 }
 
-/// A range of a location that holds the words of both.
-fn grown(growth: Growth, location: u16, old: Range, new: Range) -> Range {
-    let mut both = hull(old, new);
-    if both.lo < old.lo {
-        both.lo = growth.end(location, both.lo, true);
-    }
-    if both.hi > old.hi {
-        both.hi = growth.end(location, both.hi, false);
-    }
-    both
-}
-
 /// Leaves of cells what they have in common with others, where the ranges of the first ones grow so. Both stand by
 /// location.
 pub fn join(growth: Growth, cells: &mut Vec<Cell>, others: &[Cell]) {
+    let slots = cells.as_mut_slice();
     let mut count: usize = 0;
-    for place in 0..cells.len() {
-        if let Some(cell) = cells.get(place).copied()
-            && let Some(range) = range_in(others, cell.location)
-            && let Some(slot) = cells.get_mut(count)
+    for place in 0..slots.len() {
+        let Cell { location, range } = slots[place];
+        if let Some(other) = range_in(others, location)
+            && count < slots.len()
         {
-            slot.location = cell.location;
-            slot.range = grown(growth, cell.location, cell.range, range);
+            let mut both = hull(range, other);
+            if both.lo < range.lo {
+                both.lo = growth.end(location, both.lo, true);
+            }
+            if both.hi > range.hi {
+                both.hi = growth.end(location, both.hi, false);
+            }
+            slots[count] = Cell {
+                location,
+                range: both,
+            };
             count = count.saturating_add(1);
         }
     }

@@ -1,6 +1,6 @@
 //! The numbers that a function compares the words of its locations with: where a range that grows in a loop is to stop,
 //! one of these mostly ends it.
-use crate::cells::entries::{Entries, location_of, number_of};
+use crate::cells::entries::Entries;
 use crate::live::effects_in;
 use fit_code::{Function, Step};
 use sbx_domain::frame_word_of;
@@ -8,8 +8,8 @@ use std::alloc::Global;
 use v8_formats::{Operand, Reg, Three};
 use v8_meaning::{Loading, Op, Operation, Transfer, operation_of};
 
-/// A location that is compared with more numbers than this one hands none on.
-const MOST: usize = 100;
+/// In the place of a location, where nothing is known of a word.
+const UNKNOWN: u16 = 0xffff;
 
 /// What a register holds, as far as its block tells: the word that a location had where the block began, and a number
 /// more; the number alone where the location is 0.
@@ -20,6 +20,11 @@ struct Held {
 }
 
 impl Held {
+    /// The word of a location.
+    fn word(location: u16) -> Held {
+        Held { location, more: 0 }
+    }
+
     /// A number alone.
     fn number(number: i64) -> Held {
         Held {
@@ -29,18 +34,18 @@ impl Held {
     }
 
     /// A sum, of which one has to be a number alone.
-    fn plus(self, other: Held) -> Option<Held> {
-        if self.location != 0 && other.location != 0 {
-            return None;
+    fn plus(self, other: Held) -> Held {
+        if (self.location != 0) & (other.location != 0) {
+            return Held::word(UNKNOWN);
         }
-        Some(Held {
+        Held {
             location: self.location.max(other.location),
             more: self.more.saturating_add(other.more),
-        })
+        }
     }
 
     fn is_zero(self) -> bool {
-        self.location == 0 && self.more == 0
+        (self.location == 0) & (self.more == 0)
     }
 }
 
@@ -55,52 +60,49 @@ struct Compared {
 /// What the registers of a block hold, step by step.
 #[derive(Clone, Copy)]
 struct Registers {
-    held: [Option<Held>; 32],
+    held: [Held; 32],
 }
 
 impl Registers {
     /// The registers where a block begins.
     fn begun() -> Registers {
-        let mut held = [None; 32];
+        let mut held = [Held::word(0); 32];
         for location in 0..32u16 {
-            held[usize::from(location)] = Some(Held { location, more: 0 });
+            held[usize::from(location)].location = location;
         }
         Registers { held }
     }
 
-    fn of(&self, register: Reg) -> Option<Held> {
+    fn of(&self, register: Reg) -> Held {
         self.held[usize::from(register.number())]
     }
 
-    fn of_operand(&self, operand: Operand) -> Option<Held> {
+    fn of_operand(&self, operand: Operand) -> Held {
         match operand {
             Operand::Register(register) => self.of(register),
-            Operand::Immediate(number) => Some(Held::number(i64::from(number.cast_signed()))),
+            Operand::Immediate(number) => Held::number(i64::from(number.cast_signed())),
         }
     }
 
-    fn put(&mut self, register: Reg, held: Option<Held>) {
+    fn put(&mut self, register: Reg, held: Held) {
         if register != Reg::G0 {
             self.held[usize::from(register.number())] = held;
         }
     }
 
-    /// What an operation gives, of which enough is known.
-    fn result(&self, op: Op, fields: &Three) -> Option<Held> {
-        let (Some(first), Some(second)) = (self.of(fields.rs1), self.of_operand(fields.operand2))
-        else {
-            return None;
-        };
+    /// What an operation gives.
+    fn result(&self, op: Op, fields: &Three) -> Held {
+        let (first, second) = (self.of(fields.rs1), self.of_operand(fields.operand2));
         match op {
             Op::Add | Op::AddCc => first.plus(second),
             Op::Sub | Op::SubCc if second.location == 0 => {
                 first.plus(Held::number(second.more.saturating_neg()))
             }
-            Op::Or | Op::OrCc if first.is_zero() || second.is_zero() => first.plus(second),
-            Op::Or if first.location == 0 && second.location == 0 => {
-                Some(Held::number(first.more | second.more))
+            Op::Or | Op::OrCc if first.is_zero() | second.is_zero() => first.plus(second),
+            Op::Or if (first.location == 0) & (second.location == 0) => {
+                Held::number(first.more | second.more)
             }
-            _ => None,
+            _ => Held::word(UNKNOWN),
         }
     }
 
@@ -108,7 +110,7 @@ impl Registers {
     fn forget(&mut self, mask: u32) {
         for number in 1..32 {
             if mask >> number & 1 == 1 {
-                self.held[number] = None;
+                self.held[number] = Held::word(UNKNOWN);
             }
         }
     }
@@ -125,11 +127,9 @@ impl Compared {
     }
 
     /// Two words are compared.
-    fn compare(&mut self, first: Option<Held>, second: Option<Held>) {
-        let (Some(first), Some(second)) = (first, second) else {
-            return;
-        };
-        if first.location == second.location {
+    fn compare(&mut self, first: Held, second: Held) {
+        let is_known = (first.location != UNKNOWN) & (second.location != UNKNOWN);
+        if !is_known | (first.location == second.location) {
             return;
         }
         if second.location == 0 {
@@ -143,59 +143,28 @@ impl Compared {
         }
     }
 
-    /// A location gets the numbers of another one, unless they are many.
-    fn take_over(&mut self, to: u16, from: u16) {
-        let count = self.entries.list.len();
-        for place in 0..count {
-            if let Some(known) = self.entries.list.get(place).copied()
-                && location_of(known) == from
-            {
-                self.entries.add(to, &[number_of(known)]);
-            }
-        }
-        if self.entries.list.len().saturating_sub(count) > MOST {
-            self.entries.list.truncate(count);
-        }
-    }
-
-    /// Two locations that are compared with each other get each other's numbers.
-    fn join_pairs(&mut self) {
-        self.entries.sort();
-        for place in 0..self.pairs.len() {
-            if let Some((to, from)) = self.pairs.get(place).copied() {
-                self.take_over(to, from);
-            }
-        }
-    }
-
-    /// An operation of a block.
-    fn compute(&mut self, registers: &mut Registers, op: Op, fields: &Three) {
-        let result = registers.result(op, fields);
-        match op {
-            Op::SubCc => self.compare(
-                registers.of(fields.rs1),
-                registers.of_operand(fields.operand2),
-            ),
-            Op::AddCc | Op::OrCc => self.compare(result, Some(Held::number(0))),
-            _ => {}
-        }
-        registers.put(fields.rd, result);
-    }
-
     /// A step of a block.
     fn step(&mut self, registers: &mut Registers, frame: u32, step: &Step) {
         match operation_of(&step.instr) {
-            Operation::Compute(op, fields) => self.compute(registers, op, &fields),
+            Operation::Compute(op, fields) => {
+                let result = registers.result(op, &fields);
+                match op {
+                    Op::SubCc => self.compare(
+                        registers.of(fields.rs1),
+                        registers.of_operand(fields.operand2),
+                    ),
+                    Op::AddCc | Op::OrCc => self.compare(result, Held::number(0)),
+                    _ => {}
+                }
+                registers.put(fields.rd, result);
+            }
             Operation::SetHigh(fields) => {
                 let number = fields.imm22.wrapping_mul(1024).cast_signed();
-                registers.put(fields.rd, Some(Held::number(i64::from(number))));
+                registers.put(fields.rd, Held::number(i64::from(number)));
             }
             Operation::Transfer(Transfer::Load(Loading::Word), operand) => {
-                let held = match frame_word_of(frame, &operand) {
-                    Some(location) => Some(Held { location, more: 0 }),
-                    None => None,
-                };
-                registers.put(operand.rd, held);
+                let location = frame_word_of(frame, &operand).unwrap_or(UNKNOWN);
+                registers.put(operand.rd, Held::word(location));
             }
             _ => registers.forget(effects_in(frame, step).writes),
         }
@@ -203,22 +172,30 @@ impl Compared {
 
     /// Adds what the blocks of a function compare.
     fn add_blocks(&mut self, function: &Function) {
-        for block in &function.blocks {
+        for block in function.blocks.as_slice() {
             let mut registers = Registers::begun();
-            for step in &block.steps {
+            for step in block.steps.as_slice() {
                 self.step(&mut registers, function.frame, step);
             }
         }
     }
 }
 
-/// The numbers that a function compares its locations with, and those beside them.
+/// The numbers that a function compares its locations with, and those beside them. Two locations that are compared with
+/// each other get each other's numbers.
 pub fn compared_in(alloc: Global, function: &Function) -> Entries {
     let mut compared = Compared {
-        entries: Entries::none(alloc),
+        entries: Entries {
+            list: Vec::new(alloc),
+            is_refused: false,
+        },
         pairs: Vec::new(alloc),
     };
     compared.add_blocks(function);
-    compared.join_pairs();
-    compared.entries
+    let mut entries = compared.entries;
+    entries.sort();
+    for (to, from) in compared.pairs.as_slice() {
+        entries.take_over(*to, *from);
+    }
+    entries
 }

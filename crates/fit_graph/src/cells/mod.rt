@@ -3,7 +3,6 @@
 mod cells;
 mod compared;
 mod entries;
-mod order;
 mod run;
 mod shape;
 mod thresholds;

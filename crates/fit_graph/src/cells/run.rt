@@ -12,17 +12,15 @@ const NONE: Range = Range {
 
 /// The state before the first step of a function, behind its SAVE: %o0 and on hold the params.
 pub fn enter(function: &Function, params: &[Range], state: &mut State) {
-    let mut location: u16 = 8;
     let mut cells = [Cell {
-        location,
+        location: 8,
         range: NONE,
     }; 6];
     for place in 0..6 {
-        cells[place].location = location;
-        if let Some(range) = params.get(place) {
-            cells[place].range = *range;
+        cells[place].location = 8 + place as u16;
+        if place < params.len() {
+            cells[place].range = params[place];
         }
-        location = location.saturating_add(1);
     }
     state.start(cells.get(..params.len()).unwrap_or(&cells));
     if function.framed {

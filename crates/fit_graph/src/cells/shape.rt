@@ -1,18 +1,38 @@
 //! The shape of a function, for who goes along its ways.
-use crate::cells::order::order_by_loops;
-use crate::graph::{Order, ways_to};
+use crate::graph::{Graph, Listed, Loop, Order, list};
 use crate::live::Locations;
-use fit_code::Function;
-use std::alloc::{AllocError, Global};
+use fit_code::{Function, Memory};
 
 /// What stays the same while a function's ranges are looked for.
 #[derive(Drop)]
 pub struct Shape {
+    /// The blocks that can be reached from the first one, each before those that follow it but where a loop goes back,
+    /// and a loop's blocks with no others between them: a loop is left for good before what stands behind it is looked
+    /// at.
     pub order: Order,
-    /// Of each block, the ways that lead to it, by `way_of`.
+    /// Of each block, the ways that lead to it, each by its number: twice that of the block that it comes from, and one
+    /// more where a branch isn't taken.
     pub sources: Vec<Vec<usize>>,
     /// Of each block, what is live where it begins.
     pub live: Vec<Locations>,
+}
+
+/// The blocks of an order, where those of a loop stand right behind its head, in their order, and behind them those
+/// that stood between them.
+fn gathered(memory: &mut Memory, blocks: &[usize], within: &Loop) -> Vec<usize> {
+    let mut gathered = Vec::new(memory.alloc);
+    let mut others = Vec::new(memory.alloc);
+    let mut is_behind = false;
+    for block in blocks {
+        is_behind |= *block == within.head;
+        if is_behind && !within.has(*block) {
+            memory.push(&mut others, *block);
+        } else {
+            memory.push(&mut gathered, *block);
+        }
+    }
+    memory.is_refused |= gathered.extend_from_slice(others.as_slice()).is_err();
+    gathered
 }
 
 impl Shape {
@@ -45,12 +65,19 @@ impl Shape {
     }
 
     /// The shape of a function, of whose blocks this is live.
-    pub fn of(alloc: Global, function: &Function, live: &[Locations]) -> Result<Shape, AllocError> {
-        Ok(Shape {
-            order: order_by_loops(alloc, function)?,
-            sources: ways_to(alloc, function)?,
-            live: Vec::from_slice(alloc, live)?,
-        })
+    pub fn of(memory: &mut Memory, function: &Function, live: &[Locations]) -> Shape {
+        let graph = Graph::of(memory, function);
+        let loops = graph.loops(memory);
+        let mut order = graph.order;
+        for within in loops.as_slice() {
+            order.blocks = gathered(memory, order.blocks.as_slice(), within);
+        }
+        order.put_places();
+        Shape {
+            order,
+            sources: list(memory, function, Listed::Ways),
+            live: memory.copy(live),
+        }
     }
 
     /// The place of a block that a way leads back to.

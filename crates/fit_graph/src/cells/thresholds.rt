@@ -1,10 +1,9 @@
 //! The numbers at which a range that grows may stop.
 use crate::cells::compared::compared_in;
 use crate::cells::entries::{Entries, entry, location_of, number_of};
-use fit_code::{Function, Program};
+use fit_code::{Function, Memory, Program};
 use sbx_domain::LOCATIONS;
 use sbx_range::Range;
-use std::alloc::{AllocError, Global};
 
 /// Ends of bytes and halves, and the ends of all words.
 const COMMON: [i32; 15] = [
@@ -56,7 +55,7 @@ pub struct Thresholds {
 impl Thresholds {
     /// Adds the ends of the program's objects, the last places in them for 2, 4 and 8 bytes, and their lengths.
     fn add_objects(&mut self, program: &Program) {
-        for object in &program.objects {
+        for object in program.objects.as_slice() {
             let length = i32::try_from(object.bytes.len()).unwrap_or(i32::MAX);
             let start = object.start.cast_signed();
             let end = start.saturating_add(length);
@@ -74,7 +73,7 @@ impl Thresholds {
 
     /// Adds the ends of the program's regions.
     fn add_regions(&mut self, program: &Program) {
-        for region in &program.regions {
+        for region in program.regions.as_slice() {
             let start = region.start.cast_signed();
             let end = region.start.saturating_add(region.length).cast_signed();
             self.entries.add(ADDRESSES, &around(start, end));
@@ -83,35 +82,18 @@ impl Thresholds {
         }
     }
 
-    /// Adds the ends of params.
-    fn add_params(&mut self, params: &[Range]) {
-        for range in params {
-            let ends = around(range.lo, range.hi);
-            self.entries.add(NUMBERS, &ends);
-            self.entries.add(ADDRESSES, &ends);
-        }
-    }
-
-    /// What stands in the place of a location for a number's thresholds of all locations.
-    fn near(&self, number: i32) -> u16 {
-        if self.start <= number && number <= self.end.saturating_add(1) {
-            ADDRESSES
-        } else {
-            NUMBERS
-        }
-    }
-
     /// The next threshold of a location at or beyond a number: above it, or where `is_below` below it.
     pub(crate) fn next(&self, location: u16, number: i32, is_below: bool) -> i32 {
-        for near in &[location, self.near(number)] {
-            let place = match self.entries.list.binary_search(&entry(*near, number)) {
-                Err(place) if is_below => place.wrapping_sub(1),
-                Ok(place) | Err(place) => place,
+        let entries = self.entries.list.as_slice();
+        let is_address = (self.start <= number) & (number <= self.end.saturating_add(1));
+        let all = if is_address { ADDRESSES } else { NUMBERS };
+        for near in &[location, all] {
+            let place = match entries.binary_search(&entry(*near, number)) {
+                Ok(place) => place,
+                Err(above) => above.wrapping_sub(usize::from(is_below)),
             };
-            if let Some(found) = self.entries.list.get(place)
-                && location_of(*found) == *near
-            {
-                return number_of(*found);
+            if place < entries.len() && location_of(entries[place]) == *near {
+                return number_of(entries[place]);
             }
         }
         if is_below { i32::MIN } else { i32::MAX }
@@ -120,23 +102,25 @@ impl Thresholds {
 
 /// The thresholds of a function that is called with these params.
 pub fn thresholds_of(
-    alloc: Global,
+    memory: &mut Memory,
     program: &Program,
     function: &Function,
     params: &[Range],
-) -> Result<Thresholds, AllocError> {
+) -> Thresholds {
     let mut thresholds = Thresholds {
-        entries: compared_in(alloc, function),
+        entries: compared_in(memory.alloc, function),
         start: i32::MAX,
         end: i32::MIN,
     };
     thresholds.entries.add(NUMBERS, &COMMON);
     thresholds.add_objects(program);
     thresholds.add_regions(program);
-    thresholds.add_params(params);
-    if thresholds.entries.is_refused {
-        return Err(AllocError);
+    for range in params {
+        let ends = around(range.lo, range.hi);
+        thresholds.entries.add(NUMBERS, &ends);
+        thresholds.entries.add(ADDRESSES, &ends);
     }
     thresholds.entries.sort();
-    Ok(thresholds)
+    memory.is_refused |= thresholds.entries.is_refused;
+    thresholds
 }

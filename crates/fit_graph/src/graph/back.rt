@@ -1,8 +1,8 @@
 //! Which ways go back, and to which heads.
-use crate::graph::graph::{Order, order_of, predecessors_of, successors_in};
-use crate::graph::reach::{is_held, reached_from};
-use fit_code::Function;
-use std::alloc::{AllocError, Global};
+use crate::graph::graph::{Listed, Order, list, order_in, successors_in};
+use crate::graph::loops::{Loop, last_around};
+use crate::graph::reach::{is_held, reach};
+use fit_code::{Function, Memory};
 
 /// The blocks of a function, and where control comes from to each of them.
 #[derive(Drop)]
@@ -12,28 +12,24 @@ pub struct Graph {
     pub predecessors: Vec<Vec<usize>>,
 }
 
-/// The graph of a function.
-pub fn graph_of(alloc: Global, function: &Function) -> Result<Graph, AllocError> {
-    Ok(Graph {
-        order: order_of(alloc, function)?,
-        predecessors: predecessors_of(alloc, function)?,
-    })
-}
-
 impl Graph {
-    /// For each block whether it is one of some, or can come to one of them, without a head.
-    pub fn come_from(
-        &self,
-        alloc: Global,
-        blocks: &[usize],
-        head: usize,
-    ) -> Result<Vec<bool>, AllocError> {
-        let mut within = vec![in alloc; true; self.predecessors.len()]?;
-        if let Some(is_within) = within.get_mut(head) {
-            *is_within = false;
+    /// The graph of a function.
+    pub fn of(memory: &mut Memory, function: &Function) -> Graph {
+        Graph {
+            order: order_in(memory, function),
+            predecessors: list(memory, function, Listed::Sources),
         }
-        reached_from(
-            alloc,
+    }
+
+    /// For each block whether it is one of some, or can come to one of them, without a head.
+    fn come_from(&self, memory: &mut Memory, blocks: &[usize], head: usize) -> Vec<bool> {
+        let mut within = memory.repeat(true, self.predecessors.len());
+        let slots = within.as_mut_slice();
+        if head < slots.len() {
+            slots[head] = false;
+        }
+        reach(
+            memory,
             self.predecessors.as_slice(),
             blocks,
             within.as_slice(),
@@ -42,48 +38,66 @@ impl Graph {
 
     /// Of a way that goes back, from a block to itself or to one before it, whether the other block is on each way from
     /// the first one to it. Nothing of a way that goes on.
-    fn goes_to_head(
-        &self,
-        alloc: Global,
-        from: usize,
-        to: usize,
-    ) -> Result<Option<bool>, AllocError> {
+    fn goes_to_head(&self, memory: &mut Memory, from: usize, to: usize) -> Option<bool> {
         match (self.order.place(to), self.order.place(from)) {
             (Some(above), Some(below)) if above <= below => {
-                let before = self.come_from(alloc, &[from], to)?;
-                Ok(Some(!is_held(before.as_slice(), 0)))
+                let before = self.come_from(memory, &[from], to);
+                Some(!is_held(before.as_slice(), 0))
             }
-            _ => Ok(None),
+            _ => None,
         }
     }
 
     /// The blocks that go back to a block which is on each way to them.
-    pub fn latches_of(&self, alloc: Global, head: usize) -> Result<Vec<usize>, AllocError> {
-        let mut found = Vec::new(alloc);
-        if let Some(before) = self.predecessors.get(head) {
-            for from in before {
-                if let Some(true) = self.goes_to_head(alloc, *from, head)? {
-                    found.push(*from)?;
+    fn latches_of(&self, memory: &mut Memory, head: usize) -> Vec<usize> {
+        let mut found = Vec::new(memory.alloc);
+        let predecessors = self.predecessors.as_slice();
+        if head < predecessors.len() {
+            for from in predecessors[head].as_slice() {
+                if let Some(true) = self.goes_to_head(memory, *from, head) {
+                    memory.push(&mut found, *from);
                 }
             }
         }
-        Ok(found)
+        found
+    }
+
+    /// The loops whose heads are on each way to their blocks, one for each head, by their heads' order: an outer one
+    /// before an inner one.
+    pub fn loops(&self, memory: &mut Memory) -> Vec<Loop> {
+        let mut loops = Vec::new(memory.alloc);
+        for head in self.order.blocks.as_slice() {
+            let head = *head;
+            let latches = self.latches_of(memory, head);
+            if !latches.is_empty() {
+                let mut holds = self.come_from(memory, latches.as_slice(), head);
+                let slots = holds.as_mut_slice();
+                if head < slots.len() {
+                    slots[head] = true;
+                }
+                let found = Loop {
+                    head,
+                    parent: last_around(loops.as_slice(), head),
+                    holds,
+                    latches,
+                };
+                memory.push(&mut loops, found);
+            }
+        }
+        loops
     }
 
     /// A block that control goes back to, though it isn't on each way to where control comes from.
-    pub fn entered_beside(
-        &self,
-        alloc: Global,
-        function: &Function,
-    ) -> Result<Option<usize>, AllocError> {
-        for way in 0..self.order.blocks.len().saturating_mul(2) {
-            if let Some(from) = self.order.blocks.get(way / 2)
-                && let Some(to) = successors_in(function, *from)[way % 2]
-                && let Some(false) = self.goes_to_head(alloc, *from, to)?
+    pub fn entered_beside(&self, memory: &mut Memory, function: &Function) -> Option<usize> {
+        let blocks = self.order.blocks.as_slice();
+        for way in 0..blocks.len().saturating_mul(2) {
+            if way / 2 < blocks.len()
+                && let Some(to) = successors_in(function, blocks[way / 2])[way % 2]
+                && let Some(false) = self.goes_to_head(memory, blocks[way / 2], to)
             {
-                return Ok(Some(to));
+                return Some(to);
             }
         }
-        Ok(None)
+        None
     }
 }

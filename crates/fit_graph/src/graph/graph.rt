@@ -1,5 +1,5 @@
 //! Which blocks follow which.
-use fit_code::Function;
+use fit_code::{Function, Memory};
 use std::alloc::{AllocError, Global};
 
 /// The blocks that can be reached from the first one, each before those that follow it but where a loop goes back.
@@ -19,9 +19,10 @@ impl Order {
 
     /// Says for each block at which place it stands.
     pub fn put_places(&mut self) {
-        for (place, block) in self.blocks.iter().enumerate() {
-            if let Some(found) = self.places.get_mut(*block) {
-                *found = Some(place);
+        let places = self.places.as_mut_slice();
+        for (place, block) in self.blocks.as_slice().iter().enumerate() {
+            if *block < places.len() {
+                places[*block] = Some(place);
             }
         }
     }
@@ -35,24 +36,23 @@ pub fn successors_in(function: &Function, block: usize) -> [Option<usize>; 2] {
     }
 }
 
-/// The number of a block's way among all ways, where 0 is that of a jump or of a branch that is taken, and 1 the other
-/// one. The block is half of it.
-pub fn way_of(block: usize, way: usize) -> usize {
-    block.saturating_mul(2).saturating_add(way)
-}
-
-/// What is listed for each block: the ways that lead to it, by `way_of`; the blocks that these come from, each as often
-/// as it stands there; or the blocks that it leads to, where a branch is taken first.
+/// What is listed for each block: the ways that lead to it, each by its number, which is twice that of the block it
+/// comes from, and one more where a branch isn't taken; the blocks that these come from, each as often as it stands
+/// there; or the blocks that it leads to, where a branch is taken first.
 #[derive(Clone, Copy)]
-enum Listed {
+pub(crate) enum Listed {
     Ways,
     Sources,
     Targets,
 }
 
-fn list(alloc: Global, function: &Function, listed: Listed) -> Result<Vec<Vec<usize>>, AllocError> {
+pub(crate) fn list(memory: &mut Memory, function: &Function, listed: Listed) -> Vec<Vec<usize>> {
     let count = function.blocks.len();
-    let mut lists: Vec<Vec<usize>> = vec![in alloc; Vec::new(alloc); count]?;
+    let Ok(mut lists) = vec![in memory.alloc; Vec::new(memory.alloc); count] else {
+        memory.is_refused = true;
+        return Vec::new(memory.alloc);
+    };
+    let slots: &mut [Vec<usize>] = lists.as_mut_slice();
     for way in 0..count.saturating_mul(2) {
         let from = way / 2;
         if let Some(to) = successors_in(function, from)[way % 2] {
@@ -61,64 +61,64 @@ fn list(alloc: Global, function: &Function, listed: Listed) -> Result<Vec<Vec<us
                 Listed::Sources => (to, from),
                 Listed::Targets => (from, to),
             };
-            if let Some(list) = lists.get_mut(block) {
-                list.push(other)?;
+            if block < slots.len() {
+                memory.push(&mut slots[block], other);
             }
         }
     }
-    Ok(lists)
-}
-
-/// For each block the ways that lead to it, by `way_of`.
-pub fn ways_to(alloc: Global, function: &Function) -> Result<Vec<Vec<usize>>, AllocError> {
-    list(alloc, function, Listed::Ways)
+    lists
 }
 
 /// For each block those that control comes from, each as often as it does.
 pub fn predecessors_of(alloc: Global, function: &Function) -> Result<Vec<Vec<usize>>, AllocError> {
-    list(alloc, function, Listed::Sources)
+    let mut memory = Memory::new(alloc);
+    let lists = list(&mut memory, function, Listed::Sources);
+    memory.told(lists)
 }
 
 /// For each block those that control may go to, where a branch is taken first.
 pub fn successors_of(alloc: Global, function: &Function) -> Result<Vec<Vec<usize>>, AllocError> {
-    list(alloc, function, Listed::Targets)
+    let mut memory = Memory::new(alloc);
+    let lists = list(&mut memory, function, Listed::Targets);
+    memory.told(lists)
+}
+
+/// The order of a function's blocks: reverse postorder, from the first block on.
+pub(crate) fn order_in(memory: &mut Memory, function: &Function) -> Order {
+    let mut order = Order {
+        places: memory.repeat(None, function.blocks.len()),
+        blocks: Vec::new(memory.alloc),
+    };
+    let places = order.places.as_mut_slice();
+    // Blocks that are to be entered, and such that were and are to be left: these stand below the blocks of their ways.
+    let mut open = memory.copy(&[(0, false)]);
+    // A block is entered once, which leaves three here. Each that was entered has some place.
+    for _ in 0..=places.len().saturating_mul(3) {
+        let Some((block, is_entered)) = open.pop() else {
+            break;
+        };
+        if is_entered {
+            memory.push(&mut order.blocks, block);
+        } else if block < places.len() && places[block].is_none() {
+            places[block] = Some(0);
+            let [first, second] = successors_in(function, block);
+            let none = places.len();
+            let behind = [
+                (block, true),
+                (second.unwrap_or(none), false),
+                (first.unwrap_or(none), false),
+            ];
+            memory.is_refused |= open.extend_from_slice(&behind).is_err();
+        }
+    }
+    order.blocks.reverse();
+    order.put_places();
+    order
 }
 
 /// The order of a function's blocks: reverse postorder, from the first block on.
 pub fn order_of(alloc: Global, function: &Function) -> Result<Order, AllocError> {
-    let mut order = Order {
-        places: vec![in alloc; None; function.blocks.len()]?,
-        blocks: Vec::new(alloc),
-    };
-    // Blocks that were entered and not left, each with the number of its next way.
-    let mut open: Vec<(usize, usize)> = Vec::new(alloc);
-    let mut next = Some(0);
-    let mut is_refused = false;
-    // A block is entered once, goes its two ways and is left. Each that was entered has some place.
-    for _ in 0..=function.blocks.len().saturating_mul(3) {
-        if let Some(block) = next
-            && let Some(place) = order.places.get_mut(block)
-            && place.is_none()
-        {
-            *place = Some(0);
-            is_refused |= open.push((block, 0)).is_err();
-        }
-        let Some(last) = open.last_mut() else {
-            break;
-        };
-        if last.1 < 2 {
-            next = successors_in(function, last.0)[last.1];
-            last.1 = last.1.saturating_add(1);
-        } else {
-            is_refused |= order.blocks.push(last.0).is_err();
-            open.pop();
-            next = None;
-        }
-    }
-    if is_refused {
-        return Err(AllocError);
-    }
-    order.blocks.reverse();
-    order.put_places();
-    Ok(order)
+    let mut memory = Memory::new(alloc);
+    let order = order_in(&mut memory, function);
+    memory.told(order)
 }

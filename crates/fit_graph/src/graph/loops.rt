@@ -1,7 +1,7 @@
 //! The loops of a function.
-use crate::graph::back::graph_of;
+use crate::graph::back::Graph;
 use crate::graph::reach::is_held;
-use fit_code::Function;
+use fit_code::{Function, Memory};
 use std::alloc::{AllocError, Global};
 
 /// The blocks that can come back to a head without leaving it behind.
@@ -26,7 +26,7 @@ impl Loop {
 
 /// The number of the last of some loops that has a block: the smallest one around it, since a loop stands behind those
 /// around it.
-fn last_around(loops: &[Loop], block: usize) -> Option<usize> {
+pub fn last_around(loops: &[Loop], block: usize) -> Option<usize> {
     let mut found = None;
     for (number, around) in loops.iter().enumerate() {
         if around.has(block) {
@@ -39,29 +39,15 @@ fn last_around(loops: &[Loop], block: usize) -> Option<usize> {
 /// The loops of a function whose heads are on each way to their blocks, one for each head, by their heads' order: an
 /// outer one before an inner one.
 pub fn loops_of(alloc: Global, function: &Function) -> Result<Vec<Loop>, AllocError> {
-    let graph = graph_of(alloc, function)?;
-    let mut loops = Vec::new(alloc);
-    for head in &graph.order.blocks {
-        let head = *head;
-        let latches = graph.latches_of(alloc, head)?;
-        if !latches.is_empty() {
-            let mut holds = graph.come_from(alloc, latches.as_slice(), head)?;
-            if let Some(held) = holds.get_mut(head) {
-                *held = true;
-            }
-            loops.push(Loop {
-                head,
-                parent: last_around(loops.as_slice(), head),
-                holds,
-                latches,
-            })?;
-        }
-    }
-    Ok(loops)
+    let mut memory = Memory::new(alloc);
+    let loops = Graph::of(&mut memory, function).loops(&mut memory);
+    memory.told(loops)
 }
 
 /// A block that control goes back to, though it isn't on each way to where control comes from: a loop that has another
 /// entry beside it. None where each loop of the function has one entry, which is its head.
 pub fn enters_beside_head(alloc: Global, function: &Function) -> Result<Option<usize>, AllocError> {
-    graph_of(alloc, function)?.entered_beside(alloc, function)
+    let mut memory = Memory::new(alloc);
+    let found = Graph::of(&mut memory, function).entered_beside(&mut memory, function);
+    memory.told(found)
 }

@@ -6,7 +6,9 @@ mod loops;
 mod reach;
 mod tangles;
 
-pub use graph::{Order, order_of, predecessors_of, successors_in, successors_of, way_of, ways_to};
+pub(crate) use back::Graph;
+pub(crate) use graph::{Listed, list, order_in};
+pub use graph::{Order, order_of, predecessors_of, successors_in, successors_of};
 pub use loops::{Loop, enters_beside_head, loops_of};
 pub use reach::reached_from;
 pub use tangles::{Tangle, tangle_of};

@@ -36,17 +36,6 @@ pub(crate) fn bit_of(operand: Operand) -> u32 {
     }
 }
 
-/// The registers that a transfer brings to memory, and those that it takes from there.
-fn moved(transfer: Transfer, rd: Reg) -> (u32, u32) {
-    match transfer {
-        Transfer::Load(Loading::Double) => (0, bit(rd) | bit(odd_of(rd))),
-        Transfer::Load(_) | Transfer::Exchange(Exchange::Ones) => (0, bit(rd)),
-        Transfer::Store(Size::Double) => (bit(rd) | bit(odd_of(rd)), 0),
-        Transfer::Store(_) => (bit(rd), 0),
-        Transfer::Exchange(Exchange::Register) => (bit(rd), bit(rd)),
-    }
-}
-
 /// What reads and writes registers alone.
 fn of_registers(reads: u32, writes: u32) -> Effects {
     Effects {
@@ -59,23 +48,27 @@ fn of_registers(reads: u32, writes: u32) -> Effects {
 
 /// A load, a store or an exchange, of a word of the frame or elsewhere.
 fn of_transfer(frame: u32, transfer: Transfer, operand: &MemoryOperand) -> Effects {
-    let (reads, writes) = moved(transfer, operand.rd);
     let word = frame_word_of(frame, operand);
-    if word.is_none() {
-        let address = bit(operand.rs1) | bit_of(operand.operand2);
-        return of_registers(reads | address, writes);
-    }
+    let address = if word.is_none() {
+        bit(operand.rs1) | bit_of(operand.operand2)
+    } else {
+        0
+    };
+    let one = bit(operand.rd);
+    let two = one | bit(odd_of(operand.rd));
+    let (reads, writes, word_read, word_written) = match transfer {
+        Transfer::Load(Loading::Double) => (0, two, word, None),
+        Transfer::Load(_) => (0, one, word, None),
+        Transfer::Store(Size::Double) => (two, 0, None, word),
+        Transfer::Store(_) => (one, 0, None, word),
+        Transfer::Exchange(Exchange::Ones) => (0, one, word, word),
+        Transfer::Exchange(Exchange::Register) => (one, one, word, word),
+    };
     Effects {
-        reads,
+        reads: reads | address,
         writes,
-        word_read: match transfer {
-            Transfer::Store(_) => None,
-            _ => word,
-        },
-        word_written: match transfer {
-            Transfer::Load(_) => None,
-            _ => word,
-        },
+        word_read,
+        word_written,
     }
 }
 

@@ -1,10 +1,9 @@
 //! Which locations are live: read later before they are written, whatever the words on the way are.
-use crate::graph::{Order, order_of};
+use crate::graph::order_in;
 use crate::live::effects::{Effects, LOST, bit, bit_of, effects_of};
 use crate::live::locations::Locations;
-use fit_code::{Block, End, Fault, Function, NO_LINE, Program, Reason, Step};
-use std::alloc::{AllocError, Global};
-use v8_formats::Three;
+use crate::means::Means;
+use fit_code::{Block, End, Function, NO_LINE, Program, Step};
 
 /// How many of %o0 to %o5 a function takes for granted at its entry, and how many its callers do behind a call.
 #[derive(Clone, Copy, PartialEq, Eq)]
@@ -13,20 +12,22 @@ pub struct Counts {
     pub results: u8,
 }
 
+/// How many params and results the functions of a program have, as far as that is known.
+#[derive(Drop)]
+pub struct Asked {
+    pub counts: Vec<Counts>,
+    /// Whether more is live somewhere, or asked for, than before the round over the program.
+    is_new: bool,
+}
+
 /// What is live in a program.
 #[derive(Drop)]
 pub struct Liveness {
-    /// Of each function.
-    pub counts: Vec<Counts>,
-    functions: Vec<FunctionLiveness>,
-}
-
-/// What is live in a function.
-#[derive(Drop)]
-struct FunctionLiveness {
-    order: Order,
-    /// Of each block what is live where it begins.
-    live: Vec<Locations>,
+    pub asked: Asked,
+    /// Of each function its blocks, each behind those that follow it but where a loop goes back.
+    orders: Vec<Vec<usize>>,
+    /// Of each function, and of each of its blocks, what is live where it begins.
+    live: Vec<Vec<Locations>>,
 }
 
 /// As many rounds as liveness may take over the program.
@@ -54,48 +55,25 @@ fn pass(live: &mut Locations, effects: &Effects) {
     live.insert(effects.reads, effects.word_read);
 }
 
-/// Before a step. The callee of a call is asked for as many results as are live behind it; says whether these are more
-/// than before.
-fn pass_step(live: &mut Locations, counts: &mut [Counts], frame: u32, step: &Step) -> bool {
-    let mut is_new = false;
-    if let Some(callee) = step.callee {
-        if let Some(counts) = counts.get_mut(callee) {
-            let results = last_register(8, live.registers());
-            is_new = results > counts.results;
-            counts.results = counts.results.max(results);
-            live.remove(LOST, None);
-            live.insert(first_registers(8, counts.params), None);
-        }
-    } else {
-        pass(live, &effects_of(frame, &step.instr));
-    }
-    if let Some(slot) = &step.slot {
-        pass(live, &effects_of(frame, slot));
-    }
-    is_new
-}
-
-/// What a return reads of its own function's registers: those that the results are taken from.
-fn returned(framed: bool, results: u8, fields: &Three) -> u32 {
-    if !framed {
-        return first_registers(8, results);
-    }
-    let rd = fields.rd.number();
-    if rd == 0 {
-        return first_registers(24, results);
-    }
-    let given = if 8 <= rd && rd < 14 {
-        1u32 << (rd + 16)
-    } else {
-        0
-    };
-    (first_registers(24, results) & !given) | bit(fields.rs1) | bit_of(fields.operand2)
-}
-
-/// The registers that the end of a block reads, each of which has a bit, in a function of so many results.
+/// The registers that the end of a block reads, each of which has a bit, in a function of so many results. A return
+/// reads those of its own function that the results are taken from.
 pub fn read_at_end(function: &Function, results: u8, end: &End) -> u32 {
     match end {
-        End::Return(fields) => returned(function.framed, results, fields),
+        End::Return(fields) if function.framed => {
+            let rd = fields.rd.number();
+            let given = if 8 <= rd && rd < 14 {
+                1u32 << (rd + 16)
+            } else {
+                0
+            };
+            let operands = if rd == 0 {
+                0
+            } else {
+                bit(fields.rs1) | bit_of(fields.operand2)
+            };
+            (first_registers(24, results) & !given) | operands
+        }
+        End::Return(_) => first_registers(8, results),
         End::Exit => 1 << 8,
         End::Jump(_) | End::Branch { .. } => 0,
     }
@@ -107,9 +85,9 @@ fn live_behind(function: &Function, results: u8, block: &Block, live: &[Location
     let ways = block.end.ways();
     for way in 0..2 {
         if let Some(to) = ways[way]
-            && let Some(next) = live.get(to)
+            && to < live.len()
         {
-            behind.add(next);
+            behind.add(&live[to]);
         }
     }
     if let Some(slot) = &block.slot {
@@ -119,102 +97,130 @@ fn live_behind(function: &Function, results: u8, block: &Block, live: &[Location
     behind
 }
 
-/// Goes from behind the steps of a block to where it begins. Says whether a callee is asked for more results.
-fn pass_steps(live: &mut Locations, counts: &mut [Counts], frame: u32, block: &Block) -> bool {
-    let mut is_new = false;
-    for step in block.steps.iter().rev() {
-        is_new |= pass_step(live, counts, frame, step);
-    }
-    is_new
-}
-
 /// No params and no results.
 const NONE: Counts = Counts {
     params: 0,
     results: 0,
 };
 
-impl Liveness {
-    /// Goes over the blocks of a function once, the last ones first, and counts what it takes for granted at its entry.
-    /// The first function of a program is called by nobody. Says whether more is live somewhere, or asked for.
-    fn pass_function(&mut self, number: usize, function: &Function) -> bool {
-        let results = self.counts_of(number).results;
-        let Some(found) = self.functions.get_mut(number) else {
-            return false;
-        };
-        let counts = self.counts.as_mut_slice();
-        let mut is_new = false;
-        for place in found.order.blocks.iter().rev() {
-            if let Some(block) = function.blocks.get(*place) {
-                let mut live = live_behind(function, results, block, found.live.as_slice());
-                is_new |= pass_steps(&mut live, counts, function.frame, block);
-                if let Some(known) = found.live.get_mut(*place) {
-                    is_new |= known.add(&live);
-                }
-            }
-        }
-        if number > 0
-            && let Some(counts) = counts.get_mut(number)
-            && let Some(first) = found.live.first()
-        {
-            let from = if function.framed { 24 } else { 8 };
-            counts.params = counts.params.max(last_register(from, first.registers()));
-        }
-        is_new
+impl Asked {
+    /// How many params and results a function has; none where there is no such function.
+    pub fn of(&self, function: usize) -> Counts {
+        self.counts.get(function).copied().unwrap_or(NONE)
     }
 
-    /// Goes over all functions once, those that are called first. Says whether more is live somewhere, or asked for.
-    fn pass_program(&mut self, program: &Program) -> bool {
-        let mut is_new = false;
+    /// Before a step. The callee of a call is asked for as many results as are live behind it.
+    fn pass_step(&mut self, live: &mut Locations, frame: u32, step: &Step) {
+        if let Some(callee) = step.callee {
+            let counts = self.counts.as_mut_slice();
+            if callee < counts.len() {
+                let asked = &mut counts[callee];
+                let results = last_register(8, live.registers());
+                self.is_new |= results > asked.results;
+                asked.results = asked.results.max(results);
+                live.remove(LOST, None);
+                live.insert(first_registers(8, asked.params), None);
+            }
+        } else {
+            pass(live, &effects_of(frame, &step.instr));
+        }
+        if let Some(slot) = &step.slot {
+            pass(live, &effects_of(frame, slot));
+        }
+    }
+
+    /// Goes from behind a block to where it begins, in a function of so many results, at whose blocks this is live.
+    fn pass_block(
+        &mut self,
+        live: &mut [Locations],
+        function: &Function,
+        results: u8,
+        place: usize,
+    ) {
+        let blocks = function.blocks.as_slice();
+        if place < blocks.len() && place < live.len() {
+            let block = &blocks[place];
+            let mut found = live_behind(function, results, block, live);
+            for step in block.steps.as_slice().iter().rev() {
+                self.pass_step(&mut found, function.frame, step);
+            }
+            self.is_new |= live[place].add(&found);
+        }
+    }
+}
+
+impl Liveness {
+    /// Goes over the blocks of a function once, those that follow first, and counts what it takes for granted at its
+    /// entry. The first function of a program is called by nobody.
+    fn pass_function(&mut self, number: usize, function: &Function) {
+        let (orders, live) = (self.orders.as_slice(), self.live.as_mut_slice());
+        if number >= orders.len() || number >= live.len() {
+            return;
+        }
+        let live = live[number].as_mut_slice();
+        let results = self.asked.of(number).results;
+        for place in orders[number].as_slice() {
+            self.asked.pass_block(live, function, results, *place);
+        }
+        let from = if function.framed { 24 } else { 8 };
+        let counts = self.asked.counts.as_mut_slice();
+        if number > 0
+            && number < counts.len()
+            && let Some(first) = live.first()
+        {
+            let params = last_register(from, first.registers());
+            counts[number].params = counts[number].params.max(params);
+        }
+    }
+
+    /// Goes over all functions once, those that are called first.
+    fn pass_program(&mut self, program: &Program) {
         for number in (0..program.functions.len()).rev() {
             if let Some(function) = program.functions.get(number) {
-                is_new |= self.pass_function(number, function);
+                self.pass_function(number, function);
             }
         }
-        is_new
     }
 
     /// Goes over a program until no more is live or asked for.
-    fn settle(&mut self, program: &Program) -> Result<(), Fault> {
+    fn settle(&mut self, means: &mut Means, program: &Program) {
         for _ in 0..ROUNDS {
-            if !self.pass_program(program) {
-                return Ok(());
+            self.asked.is_new = false;
+            self.pass_program(program);
+            if !self.asked.is_new {
+                return;
             }
         }
-        Err(Fault::new(
-            NO_LINE,
-            Reason::TooMany {
-                what: "rounds over which locations are live",
-                most: ROUNDS as u64,
-            },
-        ))
+        let what = "rounds over which locations are live";
+        means.spend(NO_LINE, what, ROUNDS as u64);
     }
 
     /// What is live in a program.
-    pub fn of(alloc: Global, program: &Program) -> Result<Liveness, Fault> {
+    pub fn of(means: &mut Means, program: &Program) -> Liveness {
+        let memory = &mut means.memory;
         let mut found = Liveness {
-            counts: vec![in alloc; NONE; program.functions.len()]?,
-            functions: Vec::new(alloc),
+            asked: Asked {
+                counts: memory.repeat(NONE, program.functions.len()),
+                is_new: false,
+            },
+            orders: Vec::new(memory.alloc),
+            live: Vec::new(memory.alloc),
         };
-        for function in &program.functions {
-            found.functions.push(FunctionLiveness {
-                order: order_of(alloc, function)?,
-                live: vec![in alloc; Locations::none(); function.blocks.len()]?,
-            })?;
+        for function in program.functions.as_slice() {
+            let mut order = order_in(memory, function).blocks;
+            order.reverse();
+            memory.push(&mut found.orders, order);
+            let live = memory.repeat(Locations::none(), function.blocks.len());
+            memory.push(&mut found.live, live);
         }
-        found.settle(program)?;
-        Ok(found)
-    }
-
-    /// How many params and results a function has; none where there is no such function.
-    pub fn counts_of(&self, function: usize) -> Counts {
-        self.counts.get(function).copied().unwrap_or(NONE)
+        found.settle(means, program);
+        found
     }
 
     /// What is live where each block of a function begins.
     pub fn of_function(&self, function: usize) -> &[Locations] {
-        match self.functions.get(function) {
-            Some(found) => found.live.as_slice(),
+        match self.live.get(function) {
+            Some(live) => live.as_slice(),
             None => &[],
         }
     }

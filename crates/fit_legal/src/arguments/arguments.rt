@@ -2,7 +2,7 @@
 //! callers leave at `%sp + 64` and behind: the address of a struct that is returned, the seventh argument and
 //! further ones.
 use fit_blocks::{Access, Layout, access_of, signed};
-use fit_code::{End, Function, Step};
+use fit_code::{Block, End, Function, Step};
 use v8_formats::{Instr, Operand, Three, Upper, decode, encode};
 use v8_word::Reg;
 
@@ -75,7 +75,7 @@ fn argument_at(access: &Access, register: Reg) -> Option<i64> {
     };
     let offset = signed(number).saturating_sub(FIRST);
     let end = offset.saturating_add(i64::from(access.bytes));
-    if access.fields.rs1 == register && (0 <= offset) & (end <= BYTES as i64) {
+    if (access.fields.rs1 == register) & (0 <= offset) & (end <= BYTES as i64) {
         Some(offset)
     } else {
         None
@@ -93,19 +93,16 @@ fn called_by(steps: &[Step]) -> Option<usize> {
 }
 
 /// The function that is called next, from a place of a block on, where no branch is before it.
-fn next_call(function: &Function, mut block: usize, mut place: usize) -> Option<usize> {
-    for _ in 0..function.blocks.len() {
-        let Some(found) = function.blocks.get(block) else {
-            return None;
-        };
+fn next_call(blocks: &[Block], block: usize, place: usize) -> Option<usize> {
+    let mut block = block;
+    let mut place = place;
+    for _ in 0..blocks.len() {
+        let found = blocks.get(block)?;
         let callee = called_by(found.steps.as_slice().get(place..).unwrap_or(&[]));
-        if callee.is_some() {
-            return callee;
+        match found.end {
+            End::Jump(to) if callee.is_none() => block = to,
+            _ => return callee,
         }
-        let End::Jump(to) = found.end else {
-            return None;
-        };
-        block = to;
         place = 0;
     }
     None
@@ -141,8 +138,8 @@ pub fn argument_of(
         return Ok(Some((number, offset, made, None)));
     }
     match argument_at(&access, Reg::SP) {
-        Some(offset) if function.framed && access.stores => {
-            match next_call(function, block, place) {
+        Some(offset) if function.framed & access.stores => {
+            match next_call(function.blocks.as_slice(), block, place) {
                 Some(callee) => Ok(Some((callee, offset, None, None))),
                 None => Err("an argument in memory, and no call behind it"),
             }

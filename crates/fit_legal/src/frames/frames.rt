@@ -5,8 +5,8 @@ use crate::places::{
     SAVE_AREA, STACK, STACK_POINTER, address_made, by_scratch, place_accessed, taken_by,
     uses_frame, word_place, word_step,
 };
-use fit_blocks::{Layout, form_fault, next_register, operands_read, push_step, written};
-use fit_code::{End, Fault, Function, Step};
+use fit_blocks::{Layout, Stops, next_register, operands_read, written};
+use fit_code::{End, Function, Step};
 
 const UNKNOWN_SIZE: &str = "an array of a size that isn't constant";
 
@@ -25,9 +25,9 @@ enum Way {
 }
 
 /// A step, by %sp where it spills words, a double word as two.
-fn spilled(step: &Step, size: u32) -> [Option<Step>; 3] {
+fn spilled(step: &Step, size: u32) -> (Step, Option<Step>) {
     let Some((access, place)) = word_place(&step.instr, size) else {
-        return [Some(*step), None, None];
+        return (*step, None);
     };
     let rd = access.fields.rd;
     let first = word_step(step, access.stores, place, rd);
@@ -37,7 +37,7 @@ fn spilled(step: &Step, size: u32) -> [Option<Step>; 3] {
         let behind = place.saturating_add(4);
         Some(word_step(step, access.stores, behind, next_register(rd)))
     };
-    [Some(first), second, None]
+    (first, second)
 }
 
 /// What a step does with a frame of some size that has an object in its place, as `argument_of` tells it; and the step
@@ -75,153 +75,143 @@ enum Use {
 
 /// Whether a step takes room from %sp, in a function without a window.
 fn takes_room(function: &Function, step: &Step) -> bool {
-    !function.framed && written(&step.instr) & STACK_POINTER != 0
+    !function.framed & (written(&step.instr) & STACK_POINTER != 0)
 }
 
-/// What a function does with its frame of some size. No step changes %sp or %fp, but to take room, and no return hands
-/// on an address in the frame.
-fn use_of(function: &Function, size: u32) -> Result<Use, Fault> {
-    let mut found = Use::Nothing;
+/// What a function does with its frame of some size. It is a fault where a step changes %sp or %fp, but to take room,
+/// and where a return hands on an address in the frame.
+fn use_of(stops: &mut Stops, function: &Function, size: u32) -> Use {
+    let mut used = Use::Nothing;
     let mut returns = false;
-    for block in &function.blocks {
-        for step in &block.steps {
+    for block in function.blocks.as_slice() {
+        for step in block.steps.as_slice() {
+            let is_changed = written(&step.instr) & STACK != 0;
             if takes_room(function, step) {
                 continue;
-            }
-            if written(&step.instr) & STACK != 0 {
-                return Err(form_fault(&function.name, step.line, UNKNOWN_SIZE));
-            }
-            if uses_frame(step) {
-                found = match word_place(&step.instr, size) {
-                    Some(_) if !matches!(found, Use::More) => Use::Spills,
-                    _ => Use::More,
-                };
+            } else if is_changed {
+                stops.form(function.name.as_str(), step.line, UNKNOWN_SIZE);
+            } else if uses_frame(step) {
+                let is_more = matches!(used, Use::More) | word_place(&step.instr, size).is_none();
+                used = if is_more { Use::More } else { Use::Spills };
             }
         }
         if let End::Return(fields) = block.end {
-            returns = returns || operands_read(&fields) & STACK != 0;
+            returns = returns | (operands_read(&fields) & STACK != 0);
         }
     }
     if returns {
         let what = "a return with an address in its frame";
-        return Err(form_fault(&function.name, function.line, what));
+        stops.form(function.name.as_str(), function.line, what);
     }
-    Ok(found)
+    used
 }
 
-/// What stands for a step of a function, by its block and its place there: nothing where it takes room from %sp.
-fn placed(
+/// Pushes what stands for a step of a function, by its block and its place there: nothing where it takes room from %sp.
+fn push_placed(
+    layout: &mut Layout,
+    steps: &mut Vec<Step>,
     function: &Function,
     way: Way,
     (block, place): (usize, usize),
     step: &Step,
-    layout: &mut Layout,
-) -> Result<[Option<Step>; 3], Fault> {
+) {
     if takes_room(function, step) {
-        return Ok([None, None, None]);
+        return;
     }
     let found = match way {
-        Way::Spills(size) => return Ok(spilled(step, size)),
+        Way::Spills(size) => {
+            let (first, second) = spilled(step, size);
+            layout.stops.push(steps, first);
+            if let Some(second) = second {
+                layout.stops.push(steps, second);
+            }
+            return;
+        }
         Way::Object(object, size) => reached(step, object, size),
         Way::Arguments(number) => argument_of(function, number, (block, place), step),
     };
-    let (whose, offset, made, moved) = match found {
-        Ok(Some(found)) => found,
-        Ok(None) => return Ok([Some(*step), None, None]),
-        Err(what) => return Err(form_fault(&function.name, step.line, what)),
-    };
-    let object = match way {
-        Way::Object(object, _) => object,
-        _ => tried!(layout.arguments_of(whose, BYTES, step.line)),
-    };
-    let (high, low) = in_object(layout, object, offset, step, made);
-    Ok([Some(high), Some(low), moved])
+    match found {
+        Ok(Some((whose, offset, made, moved))) => {
+            let object = match way {
+                Way::Object(object, _) => object,
+                _ => layout.arguments_of(whose, BYTES, step.line),
+            };
+            let (high, low) = in_object(layout, object, offset, step, made);
+            layout.stops.push(steps, high);
+            layout.stops.push(steps, low);
+            if let Some(moved) = moved {
+                layout.stops.push(steps, moved);
+            }
+        }
+        Ok(None) => layout.stops.push(steps, *step),
+        Err(what) => layout.stops.form(function.name.as_str(), step.line, what),
+    }
 }
 
 /// The steps of a block put otherwise.
-fn placed_steps(
-    function: &Function,
-    way: Way,
-    block: usize,
-    layout: &mut Layout,
-) -> Result<Vec<Step>, Fault> {
-    let mut steps = Vec::new(layout.alloc);
+fn placed_steps(layout: &mut Layout, function: &Function, way: Way, block: usize) -> Vec<Step> {
+    let mut steps = Vec::new(layout.stops.alloc);
     if let Some(found) = function.blocks.get(block) {
-        for (place, step) in found.steps.iter().enumerate() {
-            let made = tried!(placed(function, way, (block, place), step, layout));
-            for number in 0..3 {
-                if let Some(step) = made[number] {
-                    tried!(push_step(&mut steps, step));
-                }
-            }
+        for (place, step) in found.steps.as_slice().iter().enumerate() {
+            push_placed(layout, &mut steps, function, way, (block, place), step);
         }
     }
-    Ok(steps)
+    steps
 }
 
 /// Puts the steps of a function otherwise.
-fn place_steps(function: &mut Function, way: Way, layout: &mut Layout) -> Result<(), Fault> {
+fn place_steps(layout: &mut Layout, function: &mut Function, way: Way) {
     for block in 0..function.blocks.len() {
-        let steps = tried!(placed_steps(function, way, block, layout));
+        let steps = placed_steps(layout, function, way, block);
         if let Some(found) = function.blocks.get_mut(block) {
             found.steps = steps;
         }
     }
-    Ok(())
 }
 
-/// How many bytes the steps of a function without a window take from %sp, where there are such steps.
-fn room_of(function: &Function) -> Result<Option<u32>, Fault> {
+/// How many bytes the steps of a function without a window take from %sp, where there are such steps. It is a fault
+/// where that isn't known.
+fn room_of(stops: &mut Stops, function: &Function) -> Option<u32> {
     let mut most: i64 = -1;
-    for block in &function.blocks {
-        for step in &block.steps {
+    for block in function.blocks.as_slice() {
+        for step in block.steps.as_slice() {
             if takes_room(function, step) {
                 match taken_by(step) {
                     Some(bytes) => most = most.max(bytes),
-                    None => return Err(form_fault(&function.name, step.line, UNKNOWN_SIZE)),
+                    None => stops.form(function.name.as_str(), step.line, UNKNOWN_SIZE),
                 }
             }
         }
     }
-    Ok(if most < 0 {
+    if most < 0 {
         None
     } else {
         Some(most.min(MOST) as u32)
-    })
+    }
 }
 
 /// Puts a function's frame in order, by its number in the source: steps that only spill words by %sp, else an object in
 /// the data in its place. Before that, where it takes no room of its own from %sp, what it does with arguments in
-/// memory.
-///
-/// # Errors
-/// An array whose size isn't constant; an argument that is stored, and a branch before the next call; an address in the
-/// frame in a form that isn't known; an access outside of it.
-pub fn place_frame(
-    function: &mut Function,
-    number: usize,
-    layout: &mut Layout,
-) -> Result<(), Fault> {
-    let size = match tried!(room_of(function)) {
-        Some(size) => size,
-        None => {
-            tried!(place_steps(function, Way::Arguments(number), layout));
-            function.frame
-        }
-    };
-    let used = tried!(use_of(function, size));
-    let stays = matches!(used, Use::Spills) && function.framed && size % 8 == 0;
-    let way = if stays || matches!(used, Use::Nothing) {
+/// memory. These are faults: an array whose size isn't constant; an argument that is stored, and a branch before the
+/// next call; an address in the frame in a form that isn't known; an access outside of it.
+pub fn place_frame(layout: &mut Layout, function: &mut Function, number: usize) {
+    let room = room_of(&mut layout.stops, function);
+    if room.is_none() {
+        place_steps(layout, function, Way::Arguments(number));
+    }
+    let size = room.unwrap_or(function.frame);
+    let used = use_of(&mut layout.stops, function, size);
+    let stays = matches!(used, Use::Spills) & function.framed & (size % 8 == 0);
+    let way = if stays | matches!(used, Use::Nothing) {
         Way::Spills(size)
     } else {
-        let name = function.name.as_str();
-        let name = format!(in layout.alloc; "frame of {name}")?;
-        let object = tried!(layout.add(name, false, 8, size as usize, function.line));
+        let mut name = layout.stops.owned("frame of ");
+        layout.stops.take(name.push_str(function.name.as_str()));
+        let object = layout.add(name, false, 8, &[], size as usize, function.line);
         Way::Object(object, size)
     };
-    tried!(place_steps(function, way, layout));
-    if function.framed && !stays {
+    place_steps(layout, function, way);
+    if function.framed & !stays {
         function.frame = SAVE_AREA;
     }
-    Ok(())
 }

@@ -18,7 +18,7 @@ pub const STACK: u32 = STACK_POINTER | 1 << 30;
 
 /// Whether a step reads %sp or %fp.
 pub fn uses_frame(step: &Step) -> bool {
-    step.callee.is_none() && read_by(&step.instr) & STACK != 0
+    step.callee.is_none() & (read_by(&step.instr) & STACK != 0)
 }
 
 /// The offset of a register from %sp as it is in the function's body.
@@ -34,9 +34,7 @@ fn base_of(register: Reg, size: u32) -> Option<i64> {
 
 /// The access that an instruction makes, and where its bytes are, from %sp on.
 pub fn place_accessed(instr: &Instr, size: u32) -> Option<(Access, i64)> {
-    let Some(access) = access_of(instr) else {
-        return None;
-    };
+    let access = access_of(instr)?;
     let fields = access.fields;
     match (fields.operand2, base_of(fields.rs1, size)) {
         (Operand::Immediate(number), Some(base)) => {
@@ -48,13 +46,11 @@ pub fn place_accessed(instr: &Instr, size: u32) -> Option<(Access, i64)> {
 
 /// An access to whole words of the frame, which may stay there, and where they are.
 pub fn word_place(instr: &Instr, size: u32) -> Option<(Access, i64)> {
-    let Some((access, place)) = place_accessed(instr, size) else {
-        return None;
-    };
+    let (access, place) = place_accessed(instr, size)?;
     let Access { fields, bytes, .. } = access;
     let end = place.saturating_add(i64::from(bytes));
-    let moves_words = bytes >= 4 && !matches!(instr, Instr::Swap(_));
-    let lies_within = i64::from(SAVE_AREA) <= place && end <= i64::from(size.min(FRAME));
+    let moves_words = (bytes >= 4) & !matches!(instr, Instr::Swap(_));
+    let lies_within = (i64::from(SAVE_AREA) <= place) & (end <= i64::from(size.min(FRAME)));
     let is_held = bit_of(fields.rd) & STACK != 0;
     if moves_words & lies_within & !is_held & (place.rem_euclid(4) == 0) {
         Some((access, place))
@@ -96,13 +92,11 @@ pub fn address_made(instr: &Instr, size: u32) -> Option<(i64, Reg)> {
         _ => return None,
     };
     let (register, number) = match fields.operand2 {
-        Operand::Immediate(number) if sign != 0 || number == 0 => (fields.rs1, signed(number)),
-        Operand::Register(second) if sign == 0 && fields.rs1 == Reg::G0 => (second, 0),
+        Operand::Immediate(number) if (sign != 0) | (number == 0) => (fields.rs1, signed(number)),
+        Operand::Register(second) if (sign == 0) & (fields.rs1 == Reg::G0) => (second, 0),
         _ => return None,
     };
-    let Some(base) = base_of(register, size) else {
-        return None;
-    };
+    let base = base_of(register, size)?;
     let place = if sign < 0 {
         base.saturating_sub(number)
     } else {
@@ -114,9 +108,7 @@ pub fn address_made(instr: &Instr, size: u32) -> Option<(i64, Reg)> {
 /// A step with the scratch register in the place of %sp or %fp, where one alone of its operands is that; and the offset
 /// from %sp that the scratch register has to hold.
 pub fn by_scratch(step: &Step, object: usize, size: u32) -> Option<(i64, Step)> {
-    let Some(Three { rs1, operand2, .. }) = fields_of(&step.instr) else {
-        return None;
-    };
+    let Three { rs1, operand2, .. } = fields_of(&step.instr)?;
     let second = match operand2 {
         Operand::Register(register) => base_of(register, size),
         Operand::Immediate(_) => None,
@@ -144,7 +136,7 @@ pub fn taken_by(step: &Step) -> Option<i64> {
         return None;
     };
     match fields.operand2 {
-        Operand::Immediate(number) if fields.rd == Reg::SP && fields.rs1 == Reg::SP => {
+        Operand::Immediate(number) if (fields.rd == Reg::SP) & (fields.rs1 == Reg::SP) => {
             Some(signed(number).saturating_abs())
         }
         _ => None,

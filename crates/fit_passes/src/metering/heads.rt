@@ -4,7 +4,7 @@
 use fit_code::Function;
 use fit_fuel::Bounds;
 use fit_graph::{Order, order_of, successors_in};
-use std::alloc::{AllocError, Global};
+use std::alloc::Global;
 
 /// Adds the blocks that control goes back to, as an order of the blocks has it, but for the heads of loops with bounds:
 /// each round of another loop comes through one of them. Says whether memory was refused.
@@ -15,15 +15,14 @@ fn add_unbounded(
     heads: &mut Vec<usize>,
 ) -> bool {
     let mut lacks = false;
+    let blocks = order.blocks.as_slice();
     // a block has two ways at most
-    for way in 0..order.blocks.len().saturating_mul(2) {
+    for way in 0..blocks.len().saturating_mul(2) {
         let place = way / 2;
-        if let Some(block) = order.blocks.get(place)
-            && let Some(to) = successors_in(function, *block)[way % 2]
+        if place < blocks.len()
+            && let Some(to) = successors_in(function, blocks[place])[way % 2]
             && let Some(earlier) = order.place(to)
-            && earlier <= place
-            && !bounds.has_head(to)
-            && !heads.contains(&to)
+            && (earlier <= place) & !bounds.has_head(to) & !heads.contains(&to)
         {
             lacks |= heads.push(to).is_err();
         }
@@ -33,36 +32,33 @@ fn add_unbounded(
 
 /// Whether a block stands behind one of some others in the order.
 fn is_behind(order: &Order, block: usize, others: &[usize]) -> bool {
-    let Some(place) = order.place(block) else {
-        return false;
-    };
+    let place = order.place(block);
+    let mut is_found = false;
     for other in others {
-        if let Some(before) = order.place(*other)
-            && before < place
-        {
-            return true;
-        }
+        let before = order.place(*other);
+        is_found |= before.is_some() & (before < place);
     }
-    false
+    is_found
 }
 
 /// Adds the blocks before which places stand, of a function with these loops, where those with bounds go without the
-/// meter as far as they can.
+/// meter as far as they can. Says whether memory was refused.
 pub fn add_heads(
     alloc: Global,
     function: &Function,
     bounds: &Bounds,
     heads: &mut Vec<usize>,
-) -> Result<(), AllocError> {
-    let order = order_of(alloc, function)?;
+) -> bool {
+    let order = match order_of(alloc, function) {
+        Ok(order) => order,
+        Err(_error) => return true,
+    };
     let mut lacks = add_unbounded(function, &order, bounds, heads);
-    for within in &bounds.loops {
-        if within.parent.is_none()
-            && bounds.has_head(within.head)
-            && is_behind(&order, within.head, heads.as_slice())
-        {
+    for within in bounds.loops.as_slice() {
+        let is_bounded = within.parent.is_none() & bounds.has_head(within.head);
+        if is_bounded && is_behind(&order, within.head, heads.as_slice()) {
             lacks |= heads.push(within.head).is_err();
         }
     }
-    if lacks { Err(AllocError) } else { Ok(()) }
+    lacks
 }

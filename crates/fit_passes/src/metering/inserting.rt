@@ -1,11 +1,11 @@
 //! Putting the meter into a function.
 use crate::metering::heads::add_heads;
 use crate::metering::registers::free_register;
-use fit_code::{End, Fault, Function, Line, NO_LINE};
-use fit_fuel::{Bounds, Meter, counting, number_in, refused};
+use fit_code::{End, Function, NO_LINE};
+use fit_fuel::{Bounds, Meter, counting, number_in};
 use fit_graph::Loop;
-use fit_tests::{insert_instr, push_block, push_instrs, register};
-use std::alloc::{AllocError, Global};
+use fit_tests::{push_block, push_instrs, register};
+use std::alloc::Global;
 use v8_formats::{Cond, Instr, Operand, Reg, Three};
 
 /// The exit word of a run whose meter is empty, but for the line.
@@ -14,39 +14,40 @@ const EMPTY: u32 = 4 << 16;
 /// The greatest number that a meter may begin with.
 const GREATEST: u64 = 0x7fff_ffff;
 
-/// The instruction that moves the meter's word: from the frame or, with `stores`, to it.
-fn word_move(register: Reg, distance: u32, stores: bool) -> Instr {
+/// The instruction that moves the meter's word from the frame or, with `stores`, to it; none where it has none.
+fn word_move(meter: &Meter, stores: bool) -> Option<Instr> {
+    let Some(distance) = meter.word else {
+        return None;
+    };
     let fields = Three {
-        rd: register,
+        rd: meter.register,
         rs1: Reg::SP,
         operand2: Operand::Immediate(distance),
     };
     if stores {
-        Instr::Store(fields)
+        Some(Instr::Store(fields))
     } else {
-        Instr::Load(fields)
+        Some(Instr::Load(fields))
     }
 }
 
 /// A meter of so many turns that isn't in use yet: in a register that has no other use or, where there is none, in a
-/// new word of the frame.
-fn meter_for(function: &mut Function, turns: u64) -> Result<Meter, Fault> {
+/// new word of the frame; nothing where there is no room for it.
+fn meter_for(function: &mut Function, turns: u64) -> Option<Meter> {
     let unit = turns / GREATEST + 1;
     let count = (turns / unit).clamp(1, GREATEST);
     let frame = function.frame;
-    let (counter, word) = match free_register(function) {
-        Some(free) => (free, None),
-        None if function.framed && frame <= 4096 - 8 => {
-            function.frame = frame.saturating_add(8);
-            (register(7), Some(frame))
+    let free = free_register(function);
+    let mut word = None;
+    if free.is_none() {
+        if !function.framed || frame > 4096 - 8 {
+            return None;
         }
-        None => {
-            let what = "no register is left to count its turns in";
-            return Err(refused(function, function.line, what));
-        }
-    };
-    Ok(Meter {
-        register: counter,
+        function.frame = frame.saturating_add(8);
+        word = Some(frame);
+    }
+    Some(Meter {
+        register: free.unwrap_or(register(7)),
         word,
         scratch: register(5),
         count: u32::try_from(count).unwrap_or(1),
@@ -54,153 +55,138 @@ fn meter_for(function: &mut Function, turns: u64) -> Result<Meter, Fault> {
     })
 }
 
-/// The line of a block's first step, or of its end.
-fn line_of(function: &Function, block: usize) -> Line {
-    match function.blocks.get(block) {
-        Some(block) => match block.steps.first() {
+/// Adds a place of the meter before a block, behind the block where the run ends because the meter is empty. Says
+/// whether memory was refused.
+fn add_place(alloc: Global, function: &mut Function, meter: &Meter, before: usize) -> bool {
+    // of the block's first step, or of its end
+    let mut line = function.line;
+    if before < function.blocks.len() {
+        let block = &function.blocks[before];
+        line = match block.steps.first() {
             Some(step) => step.line,
             None => block.line,
-        },
-        None => function.line,
+        };
     }
-}
-
-/// Adds a block of these instructions.
-fn add_block(
-    alloc: Global,
-    function: &mut Function,
-    instrs: &[Option<Instr>],
-    end: End,
-    slot: Option<Instr>,
-    line: Line,
-) -> Result<(), AllocError> {
-    let block = push_block(alloc, function, end, line)?;
-    block.slot = slot;
-    push_instrs(&mut block.steps, instrs, line)
-}
-
-/// Adds a place of the meter before a block, behind the block where the run ends because the meter is empty.
-fn add_place(
-    alloc: Global,
-    function: &mut Function,
-    meter: &Meter,
-    before: usize,
-) -> Result<(), AllocError> {
-    let line = line_of(function, before);
-    let empty = function.blocks.len();
-    let word = number_in(register(8), EMPTY | line.number.min(0xffff));
+    let blocks = &mut function.blocks;
     let end = End::Branch {
         cond: Cond::Negative,
-        taken: empty,
+        taken: blocks.len(),
         next: before,
     };
-    let (load, store) = match meter.word {
-        Some(distance) => (
-            Some(word_move(meter.register, distance, false)),
-            Some(word_move(meter.register, distance, true)),
-        ),
-        None => (None, None),
-    };
+    let word = number_in(register(8), EMPTY | line.number.min(0xffff));
+    let mut lacks = push_block(alloc, blocks, &word, End::Exit, line).is_err();
     let [high, low, count] = counting(meter, 1);
-    let exit = add_block(alloc, function, &word, End::Exit, None, line);
-    exit.and(add_block(alloc, function, &[load, high, low, count], end, store, line))
+    let instrs = [word_move(meter, false), high, low, count];
+    lacks |= push_block(alloc, blocks, &instrs, end, line).is_err();
+    if let Some(block) = blocks.last_mut() {
+        block.slot = word_move(meter, true);
+    }
+    lacks
 }
 
-/// Puts a place before a block: whatever went to the block goes there, but for the blocks of a loop.
+/// Puts a place before a block: whatever went to the block goes there, but for the blocks of a loop, which is given by
+/// whether each block is in it. Says whether memory was refused.
 fn put_place(
     alloc: Global,
     function: &mut Function,
     meter: &Meter,
     head: usize,
-    within: Option<&Loop>,
-) -> Result<(), AllocError> {
-    let added = add_place(alloc, function, meter, head);
-    let place = function.blocks.len().saturating_sub(1);
+    within: &[bool],
+) -> bool {
+    // behind the block where the run ends
+    let place = function.blocks.len().saturating_add(1);
     for (number, block) in function.blocks.iter_mut().enumerate() {
-        let is_in = match within {
-            Some(within) => within.has(number),
-            None => false,
-        };
-        if is_in || number == place {
-            continue;
-        }
+        let is_in = number < within.len() && within[number];
         match &mut block.end {
-            End::Jump(to) if *to == head => *to = place,
-            End::Branch { taken, next, .. } => {
+            End::Jump(to) if !is_in & (*to == head) => *to = place,
+            End::Branch { taken, next, .. } if !is_in => {
                 *taken = if *taken == head { place } else { *taken };
                 *next = if *next == head { place } else { *next };
             }
             _ => {}
         }
     }
-    added
+    add_place(alloc, function, meter, head)
 }
 
-/// Whether a loop goes without the meter, and that around it doesn't.
-fn is_counted_within(loops: &[Loop], within: &Loop, heads: &[usize]) -> bool {
-    match within.parent {
-        Some(parent) => match loops.get(parent) {
-            Some(around) => !heads.contains(&within.head) && heads.contains(&around.head),
-            None => false,
-        },
-        None => false,
-    }
-}
-
-/// What the meter begins with is set where the function begins.
-fn put_start(function: &mut Function, meter: &Meter) -> Result<(), AllocError> {
+/// What the meter begins with is set where the function begins. Says whether memory was refused.
+fn put_start(alloc: Global, function: &mut Function, meter: &Meter) -> bool {
     let [high, low] = number_in(meter.register, meter.count);
-    let store = match meter.word {
-        Some(distance) => Some(word_move(meter.register, distance, true)),
-        None => None,
-    };
-    let mut put = Ok(());
-    // the last of them first, since each stands before those that are there
-    for instr in &[store, low, high] {
-        if let Some(instr) = *instr {
-            put = put.and(insert_instr(function, 0, 0, instr, NO_LINE));
-        }
+    let instrs = [high, low, word_move(meter, true)];
+    let mut lacks = false;
+    if let Some(first) = function.blocks.first_mut() {
+        let mut steps = Vec::new(alloc);
+        lacks |= push_instrs(&mut steps, &instrs, NO_LINE).is_err();
+        lacks |= steps.extend_from_slice(first.steps.as_slice()).is_err();
+        first.steps = steps;
     }
-    put
+    lacks
 }
 
-/// Gives a function with these loops a meter of so many turns, which places before these blocks count down. There are
-/// also places before loops that go without the meter in one that has it, on the ways into them, so that what comes
-/// before pays for the way there alone, and not for their rounds.
+/// Gives a function with these loops a meter, which places before these blocks count down. There are also places before
+/// loops that go without the meter in one that has it, on the ways into them, so that what comes before pays for the
+/// way there alone, and not for their rounds. Says whether memory was refused.
 fn put_meter(
     alloc: Global,
     function: &mut Function,
-    turns: u64,
+    meter: &Meter,
     loops: &[Loop],
     heads: &[usize],
-) -> Result<Meter, Fault> {
-    let meter = meter_for(function, turns)?;
-    let mut put = Ok(());
+) -> bool {
+    let mut lacks = false;
     for head in heads {
-        put = put.and(put_place(alloc, function, &meter, *head, None));
+        lacks |= put_place(alloc, function, meter, *head, &[]);
     }
     for within in loops {
-        if is_counted_within(loops, within, heads) {
-            put = put.and(put_place(alloc, function, &meter, within.head, Some(within)));
+        if let Some(parent) = within.parent
+            && parent < loops.len()
+            && heads.contains(&loops[parent].head)
+            && !heads.contains(&within.head)
+        {
+            lacks |= put_place(alloc, function, meter, within.head, within.holds.as_slice());
         }
     }
-    put.and(put_start(function, &meter))?;
-    Ok(meter)
+    lacks | put_start(alloc, function, meter)
 }
 
-/// Gives a function a meter of so many turns: one place for each block that control goes back to but those of loops
-/// with bounds, of which some have one all the same. None of a function that has no other loops.
-pub fn insert_meter(
+/// Meters, put into one function after the other.
+#[derive(Drop)]
+pub struct Metering {
     alloc: Global,
-    function: &mut Function,
-    turns: u64,
-    bounds: &Bounds,
-) -> Result<Option<Meter>, Fault> {
-    let mut heads = Vec::new(alloc);
-    add_heads(alloc, function, bounds, &mut heads)?;
-    if heads.is_empty() {
-        return Ok(None);
+    /// Of each function that was looked at; none where it needs none.
+    pub meters: Vec<Option<Meter>>,
+    /// Whether one lacks the register, or the word, that it would need.
+    pub is_refused: bool,
+    /// Whether memory was refused.
+    pub lacks: bool,
+}
+
+impl Metering {
+    /// No function was looked at.
+    pub fn new(alloc: Global) -> Metering {
+        Metering {
+            alloc,
+            meters: Vec::new(alloc),
+            is_refused: false,
+            lacks: false,
+        }
     }
-    let loops = bounds.loops.as_slice();
-    Ok(Some(put_meter(alloc, function, turns, loops, heads.as_slice())?))
+
+    /// Gives the next function a meter of so many turns: one place for each block that control goes back to but those
+    /// of loops with bounds, of which some have one all the same. None of a function that has no other loops.
+    pub fn insert(&mut self, function: &mut Function, turns: u64, bounds: &Bounds) {
+        let alloc = self.alloc;
+        let mut heads = Vec::new(alloc);
+        self.lacks |= add_heads(alloc, function, bounds, &mut heads);
+        let mut meter = None;
+        if !heads.is_empty() {
+            meter = meter_for(function, turns);
+            let (loops, heads) = (bounds.loops.as_slice(), heads.as_slice());
+            match &meter {
+                Some(meter) => self.lacks |= put_meter(alloc, function, meter, loops, heads),
+                None => self.is_refused = true,
+            }
+        }
+        self.lacks |= self.meters.push(meter).is_err();
+    }
 }

@@ -4,4 +4,4 @@ mod heads;
 mod inserting;
 mod registers;
 
-pub use inserting::insert_meter;
+pub use inserting::Metering;

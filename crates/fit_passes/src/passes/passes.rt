@@ -1,8 +1,8 @@
 //! From compiler-made assembly to an annotated source.
-use crate::metering::insert_meter;
+use crate::metering::Metering;
 use crate::placing::{fill, place};
 use fit_code::{Block, Fault, Function, NO_LINE, Program, Reason};
-use fit_fuel::{Meter, bounds_of, declare};
+use fit_fuel::{bounds_of, declare, refused};
 use fit_ranges::Ranges;
 use fit_tests::{Options, Test, add_tests};
 use fit_text::source_of;
@@ -47,9 +47,9 @@ pub struct Made {
 fn lower_shares(shares: &mut [u64], block: &Block, share: u64) {
     for step in block.steps.as_slice() {
         if let Some(callee) = step.callee
-            && let Some(found) = shares.get_mut(callee)
+            && callee < shares.len()
         {
-            *found = share.min(*found);
+            shares[callee] = share.min(shares[callee]);
         }
     }
 }
@@ -62,43 +62,61 @@ fn share_out(shares: &mut [u64], function: &Function, turns: u64) {
     }
 }
 
-/// Gives each function with loops that have no bound a meter, by the ranges of the program without meters. Its turns
-/// are those that the loops of the function may take in a call; functions call those of larger numbers alone.
+/// Gives each function with loops that have no bound a meter, by the ranges of the program without meters, up to one
+/// that is refused. Its turns are those that the loops of the function may take in a call; functions call those of
+/// larger numbers alone.
 fn insert_meters(
     alloc: Global,
     program: &mut Program,
     plan: Plan,
     ranges: &Ranges,
-    meters: &mut Vec<Option<Meter>>,
+    metering: &mut Metering,
     state: &mut State,
-) -> Result<(), Fault> {
-    let mut shares = vec![in alloc; plan.turns; program.functions.len()]?;
+) {
+    let mut shares = Vec::new(alloc);
+    metering.lacks |= shares.resize(program.functions.len(), plan.turns).is_err();
+    let shares = shares.as_mut_slice();
     for number in 0..shares.len() {
         let most = match (plan.has_bounds, number) {
             (false, _) => 0,
             (true, 0) => FEW,
             (true, _) => SOME,
         };
-        let mut bounds = bounds_of(alloc, program, ranges, number, state)?;
-        bounds.limit(most);
-        if let Some(function) = program.functions.get_mut(number)
-            && let Some(share) = shares.get(number)
-        {
-            let turns = *share;
-            share_out(shares.as_mut_slice(), function, turns);
-            meters.push(insert_meter(alloc, function, turns, &bounds)?)?;
+        match bounds_of(alloc, program, ranges, number, state) {
+            Ok(mut bounds) if number < program.functions.len() && !metering.is_refused => {
+                bounds.limit(most);
+                let function = &mut program.functions[number];
+                let turns = shares[number];
+                share_out(shares, function, turns);
+                metering.insert(function, turns, &bounds);
+            }
+            Ok(_) => {}
+            Err(_error) => metering.lacks = true,
         }
+    }
+}
+
+/// Want of memory for meters, or the fault of the function that was refused one, which is the last that was looked at.
+fn check_meters(program: &Program, metering: &Metering) -> Result<(), Fault> {
+    if metering.lacks {
+        return Err(Fault::from(AllocError));
+    }
+    let last = metering.meters.len().saturating_sub(1);
+    if metering.is_refused && last < program.functions.len() {
+        let function = &program.functions[last];
+        let what = "no register is left to count its turns in";
+        return Err(refused(function, function.line, what));
     }
     Ok(())
 }
 
 /// Places the blocks of each function.
 fn place_all(alloc: Global, program: &mut Program) -> Result<(), AllocError> {
-    let mut placed = Ok(());
+    let mut lacks = false;
     for function in program.functions.iter_mut() {
-        placed = placed.and(place(alloc, function));
+        lacks |= place(alloc, function);
     }
-    placed
+    if lacks { Err(AllocError) } else { Ok(()) }
 }
 
 /// Places blocks, and adds the tests that are asked for then, until none is; the ranges are found anew. Tests know
@@ -127,52 +145,62 @@ fn settle_places(
     ))
 }
 
-/// Puts the blocks of a program with its tests and meters into their places, fills their slots, and writes its
-/// annotated source. What a step leaves known in its place it leaves known in a slot, so that the ranges stay.
+/// Puts tests and meters into a program, of which these are the ranges, and its blocks into their places, fills their
+/// slots, and writes its annotated source. What a step leaves known in its place it leaves known in a slot, so that the
+/// ranges stay.
 fn write_source(
     alloc: Global,
     made: &mut Made,
-    options: Options,
+    plan: Plan,
     ranges: &mut Ranges,
-    meters: &[Option<Meter>],
+    metering: &mut Metering,
     state: &mut State,
 ) -> Result<(), Fault> {
-    let program = &mut made.program;
-    settle_places(alloc, program, options, ranges, state)?;
-    fill(program, ranges)?;
-    ranges.store(program)?;
-    let notes = declare(alloc, program, ranges, meters, state)?;
-    made.text = source_of(alloc, program, &notes)?;
-    if let Some(notes) = notes.functions.first() {
-        made.budget = notes.budget;
-    }
-    Ok(())
-}
-
-/// Puts tests and meters into a program, and its blocks into their places, and writes its source.
-fn fit(alloc: Global, made: &mut Made, plan: Plan, state: &mut State) -> Result<(), Fault> {
     let mut options = Options {
         by_object: plan.by_object,
         drops: true,
     };
     let program = &mut made.program;
-    let mut ranges = Ranges::of(alloc, program, state)?;
-    made.tests = add_tests(alloc, options, program, &mut ranges, state)?;
-    let mut meters = Vec::new(alloc);
-    insert_meters(alloc, program, plan, &ranges, &mut meters, state)?;
+    made.tests = add_tests(alloc, options, program, ranges, state)?;
+    insert_meters(alloc, program, plan, ranges, metering, state);
+    check_meters(program, metering)?;
     options.drops = false;
-    write_source(alloc, made, options, &mut ranges, meters.as_slice(), state)
+    settle_places(alloc, program, options, ranges, state)?;
+    fill(program, ranges).and(ranges.store(program))?;
+    let notes = declare(alloc, program, ranges, metering.meters.as_slice(), state)?;
+    if let Some(first) = notes.functions.first() {
+        made.budget = first.budget;
+    }
+    match source_of(alloc, program, &notes) {
+        Ok(text) => {
+            made.text = text;
+            Ok(())
+        }
+        Err(fault) => Err(fault),
+    }
+}
+
+/// The same, from the program's ranges on.
+fn fit(alloc: Global, made: &mut Made, plan: Plan, state: &mut State) -> Result<(), Fault> {
+    let mut ranges = Ranges::of(alloc, &made.program, state)?;
+    let mut metering = Metering::new(alloc);
+    write_source(alloc, made, plan, &mut ranges, &mut metering, state)
 }
 
 /// Makes an annotated source of a program.
 pub fn make(alloc: Global, program: Program, plan: Plan) -> Result<Made, Fault> {
-    let mut state = State::new(alloc)?;
     let mut made = Made {
         program,
         tests: Vec::new(alloc),
         text: String::new(alloc),
         budget: 0,
     };
-    fit(alloc, &mut made, plan, &mut state)?;
-    Ok(made)
+    let fitted = match State::new(alloc) {
+        Ok(mut state) => fit(alloc, &mut made, plan, &mut state),
+        Err(error) => Err(Fault::from(error)),
+    };
+    match fitted {
+        Ok(()) => Ok(made),
+        Err(fault) => Err(fault),
+    }
 }

@@ -56,23 +56,18 @@ fn fill_end(block: &mut Block, after: usize) {
     }
 }
 
-/// Whether the step at a place is a call with a free slot, behind a step that may go there.
-fn takes_before(steps: &[Step], place: usize) -> bool {
-    let (Some(step), Some(call)) = (steps.get(place.saturating_sub(1)), steps.get(place)) else {
-        return false;
-    };
-    place > 0 && call.callee.is_some() && call.slot.is_none() && is_movable(step)
-}
-
-/// Fills the slots of a block's calls.
+/// Fills the slots of a block's calls, each of which takes the step before it, if that may go there.
 fn fill_calls(steps: &mut Vec<Step>) {
     for place in (1..steps.len()).rev() {
         let before = place.saturating_sub(1);
-        if takes_before(steps.as_slice(), place) && before < steps.len() {
-            let step = steps.remove(before);
-            if let Some(call) = steps.get_mut(before) {
-                call.slot = Some(step.instr);
-            }
+        // fewer steps are left than there were
+        if place < steps.len()
+            && steps[place].callee.is_some()
+            && steps[place].slot.is_none()
+            && is_movable(&steps[before])
+        {
+            steps[place].slot = Some(steps[before].instr);
+            steps.remove(before);
         }
     }
 }

@@ -2,7 +2,7 @@
 use fit_code::{Block, End, Function, opposite};
 use fit_graph::order_of;
 use fit_tests::push_instrs;
-use std::alloc::{AllocError, Global};
+use std::alloc::Global;
 use std::mem;
 use v8_formats::{Instr, Upper};
 use v8_word::Reg;
@@ -11,48 +11,36 @@ use v8_word::Reg;
 fn through(blocks: &[Block], block: usize) -> usize {
     let mut at = block;
     for _ in 0..blocks.len() {
-        match blocks.get(at) {
-            Some(
-                Block {
-                    steps,
-                    end: End::Jump(to),
-                    slot: None,
-                    ..
-                },
-            ) if steps.is_empty() => at = *to,
-            _ => return at,
+        if at < blocks.len()
+            && let End::Jump(to) = blocks[at].end
+            && blocks[at].slot.is_none()
+            && blocks[at].steps.is_empty()
+        {
+            at = to;
+        } else {
+            return at;
         }
     }
     // blocks that go round and do nothing
     block
 }
 
-/// The end past blocks that do nothing. A branch whose ways come to one block is a jump.
-fn straightened(blocks: &[Block], end: End) -> End {
-    match end {
-        End::Jump(to) => End::Jump(through(blocks, to)),
-        End::Branch { cond, taken, next } => {
-            let (taken, next) = (through(blocks, taken), through(blocks, next));
-            if taken == next {
-                End::Jump(next)
-            } else {
-                End::Branch { cond, taken, next }
+/// Lets each end go past blocks that do nothing. A branch whose ways come to one block is a jump.
+fn straighten(blocks: &mut [Block]) {
+    for place in 0..blocks.len() {
+        let end = match blocks[place].end {
+            End::Jump(to) => End::Jump(through(blocks, to)),
+            End::Branch { cond, taken, next } => {
+                let (taken, next) = (through(blocks, taken), through(blocks, next));
+                if taken == next {
+                    End::Jump(next)
+                } else {
+                    End::Branch { cond, taken, next }
+                }
             }
-        }
-        end => end,
-    }
-}
-
-/// Straightens each end of a function.
-fn straighten(function: &mut Function) {
-    for place in 0..function.blocks.len() {
-        let end = match function.blocks.get(place) {
-            Some(block) => straightened(function.blocks.as_slice(), block.end),
-            None => End::Exit,
+            end => end,
         };
-        if let Some(block) = function.blocks.get_mut(place) {
-            block.end = end;
-        }
+        blocks[place].end = end;
     }
 }
 
@@ -82,104 +70,121 @@ fn follower(numbers: &[Option<usize>], end: &mut End) -> Option<usize> {
     }
 }
 
-/// Places a block, and behind it what follows. Behind a branch both of whose blocks stand elsewhere comes a new block,
-/// which jumps to the next one. Says whether memory was refused.
-fn follow(
+/// Blocks that are being placed, by the numbers that they had.
+#[derive(Drop)]
+struct Placing {
     alloc: Global,
-    blocks: &mut [Block],
-    placed: &mut Vec<Block>,
-    numbers: &mut Vec<Option<usize>>,
-    first: usize,
-) -> bool {
-    let mut lacks = false;
-    let mut at = first;
-    // each turn places a block
-    for _ in 0..blocks.len() {
-        let Some(block) = blocks.get_mut(at) else {
-            return lacks;
-        };
-        if let Some(number) = numbers.get_mut(at) {
-            *number = Some(placed.len());
-        }
-        let next = follower(numbers.as_slice(), &mut block.end);
-        let placing = placed.push(Block {
-            steps: mem::replace(&mut block.steps, Vec::new(alloc)),
-            end: block.end,
-            slot: block.slot,
-            line: block.line,
-        });
-        lacks |= placing.is_err();
-        match next {
-            Some(next) => at = next,
-            None => break,
-        }
-    }
-    let behind = numbers.len();
-    if let Some(last) = placed.last_mut()
-        && let End::Branch { next, .. } = &mut last.end
-    {
-        let (to, line) = (*next, last.line);
-        *next = behind;
-        lacks |= numbers.push(Some(placed.len())).is_err();
-        let jump = placed.push(Block {
-            steps: Vec::new(alloc),
-            end: End::Jump(to),
-            slot: None,
-            line,
-        });
-        lacks |= jump.is_err();
-    }
-    lacks
+    /// Those that have a place, in their order.
+    placed: Vec<usize>,
+    /// The new number of each; none of one that isn't placed.
+    numbers: Vec<Option<usize>>,
+    /// The new number of the next one.
+    count: usize,
+    /// Whether memory was refused.
+    lacks: bool,
 }
 
-/// Puts the new numbers into ends.
-fn renumber(blocks: &mut [Block], numbers: &[Option<usize>]) {
-    for block in blocks.iter_mut() {
-        match &mut block.end {
-            End::Jump(to) => *to = number_in(numbers, *to).unwrap_or(0),
-            End::Branch { taken, next, .. } => {
-                *taken = number_in(numbers, *taken).unwrap_or(0);
-                *next = number_in(numbers, *next).unwrap_or(0);
+impl Placing {
+    /// Gives a block a place, and behind it what follows. Behind a branch both of whose blocks stand elsewhere is room
+    /// for a block that jumps to the next one.
+    fn follow(&mut self, blocks: &mut [Block], first: usize) {
+        let mut at = first;
+        // each turn places a block
+        for _ in 0..blocks.len() {
+            if at >= blocks.len() || at >= self.numbers.len() {
+                return;
             }
-            End::Return(_) | End::Exit => {}
+            self.numbers[at] = Some(self.count);
+            self.count = self.count.saturating_add(1);
+            self.lacks |= self.placed.push(at).is_err();
+            match follower(self.numbers.as_slice(), &mut blocks[at].end) {
+                Some(next) => at = next,
+                None => break,
+            }
+        }
+        if at < blocks.len() && matches!(blocks[at].end, End::Branch { .. }) {
+            self.count = self.count.saturating_add(1);
         }
     }
-}
 
-/// A leaf's first block has an instruction, also where it only goes on to the next block.
-fn fill_first(function: &mut Function) -> Result<(), AllocError> {
-    let nothing = Instr::Sethi(Upper {
-        rd: Reg::G0,
-        imm22: 0,
-    });
-    match function.blocks.first_mut() {
-        Some(first) if !function.framed && first.steps.is_empty() => {
-            push_instrs(&mut first.steps, &[Some(nothing)], function.line)
+    /// The blocks in their places, with the new numbers in their ends, and behind a branch whose next block stands
+    /// elsewhere a block that jumps there.
+    fn take_from(&mut self, blocks: &mut [Block]) -> Vec<Block> {
+        let mut placed = Vec::new(self.alloc);
+        let numbers = self.numbers.as_slice();
+        for at in self.placed.as_slice() {
+            if *at < blocks.len() {
+                let block = &mut blocks[*at];
+                let behind = placed.len().saturating_add(1);
+                let mut elsewhere = None;
+                match &mut block.end {
+                    End::Jump(to) => *to = number_in(numbers, *to).unwrap_or(0),
+                    End::Branch { taken, next, .. } => {
+                        *taken = number_in(numbers, *taken).unwrap_or(0);
+                        elsewhere = number_in(numbers, *next);
+                        *next = behind;
+                    }
+                    End::Return(_) | End::Exit => {}
+                }
+                let line = block.line;
+                let moved = Block {
+                    steps: mem::replace(&mut block.steps, Vec::new(self.alloc)),
+                    end: block.end,
+                    slot: block.slot,
+                    line,
+                };
+                self.lacks |= placed.push(moved).is_err();
+                if let Some(to) = elsewhere
+                    && to != behind
+                {
+                    let jump = Block {
+                        steps: Vec::new(self.alloc),
+                        end: End::Jump(to),
+                        slot: None,
+                        line,
+                    };
+                    self.lacks |= placed.push(jump).is_err();
+                }
+            }
         }
-        _ => Ok(()),
+        placed
     }
 }
 
 /// Puts the blocks of a function in an order in which control mostly goes on to the next one, without those that
 /// nothing goes to and those that do nothing. The next block of a branch stands behind it; a jump to the block behind
-/// it is no instruction.
-pub fn place(alloc: Global, function: &mut Function) -> Result<(), AllocError> {
-    straighten(function);
-    let order = order_of(alloc, function)?;
-    let mut numbers = vec![in alloc; None; function.blocks.len()]?;
-    let mut placed = Vec::new(alloc);
-    let mut lacks = false;
+/// it is no instruction. A leaf's first block has an instruction, also where it only goes on to the next block. Says
+/// whether memory was refused.
+pub fn place(alloc: Global, function: &mut Function) -> bool {
+    straighten(function.blocks.as_mut_slice());
+    let order = match order_of(alloc, function) {
+        Ok(order) => order,
+        Err(_error) => return true,
+    };
+    let mut placing = Placing {
+        alloc,
+        placed: Vec::new(alloc),
+        numbers: Vec::new(alloc),
+        count: 0,
+        lacks: false,
+    };
+    placing.lacks |= placing.numbers.resize(function.blocks.len(), None).is_err();
     for block in order.blocks.as_slice() {
-        if number_in(numbers.as_slice(), *block).is_none() {
-            let blocks = function.blocks.as_mut_slice();
-            lacks |= follow(alloc, blocks, &mut placed, &mut numbers, *block);
+        if number_in(placing.numbers.as_slice(), *block).is_none() {
+            placing.follow(function.blocks.as_mut_slice(), *block);
         }
     }
-    renumber(placed.as_mut_slice(), numbers.as_slice());
-    function.blocks = placed;
-    if lacks {
-        Err(AllocError)
-    } else {
-        fill_first(function)
+    function.blocks = placing.take_from(function.blocks.as_mut_slice());
+    let line = function.line;
+    if !function.framed
+        && let Some(first) = function.blocks.first_mut()
+        && first.steps.is_empty()
+    {
+        let nothing = Instr::Sethi(Upper {
+            rd: Reg::G0,
+            imm22: 0,
+        });
+        placing.lacks |= push_instrs(&mut first.steps, &[Some(nothing)], line).is_err();
     }
+    placing.lacks
 }

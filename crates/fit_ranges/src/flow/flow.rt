@@ -1,15 +1,13 @@
 //! The ranges of one function: what is known where its blocks begin, found by going along all ways until nothing new
 //! comes.
-use crate::flow::known::{Known, listed, take_over, touched_in};
-use crate::flow::means::Means;
-use fit_code::{Block, End, Fault, Function, Program, hull};
+use crate::flow::known::{Known, take_over, touched_in};
+use fit_code::{Block, End, Function, Memory, Program, hull};
 use fit_graph::{
-    Growth, Locations, Order, Shape, Thresholds, enter, go_along, join, return_from, run_step,
-    run_to_call, successors_in, thresholds_of, way_of,
+    Growth, Locations, Means, Order, Shape, Thresholds, enter, go_along, join, return_from,
+    run_step, run_to_call, successors_in, thresholds_of,
 };
 use sbx_domain::{LOCATIONS, State};
 use sbx_range::{Cell, Range, all};
-use std::alloc::{AllocError, Global};
 use std::mem;
 
 /// A loop's head is widened to thresholds from the third change of its cells on, and any block at once to all words
@@ -19,7 +17,6 @@ const PATIENCE: u32 = 400;
 /// What a function is analysed by: its program and itself, and what calls give it.
 #[derive(Clone, Copy)]
 pub struct Setting<'a> {
-    pub alloc: Global,
     pub program: &'a Program,
     pub function: &'a Function,
     pub results: &'a [Vec<Range>],
@@ -51,11 +48,25 @@ struct Pending {
 impl Pending {
     /// A block is to be visited.
     fn mark(&mut self, order: &Order, block: usize) {
+        self.mark_within(order, block, (0, usize::MAX));
+    }
+
+    /// A block is to be visited, if it stands from one place of the order on and before another one.
+    fn mark_within(&mut self, order: &Order, block: usize, (from, end): (usize, usize)) {
+        let places = self.places.as_mut_slice();
         if let Some(place) = order.place(block)
-            && let Some(pending) = self.places.get_mut(place)
+            && from <= place
+            && place < places.len().min(end)
         {
-            *pending = true;
+            places[place] = true;
             self.first = self.first.min(place);
+        }
+    }
+
+    /// The blocks from which ways lead to a block are to be visited.
+    fn mark_sources(&mut self, shape: &Shape, block: usize) {
+        for way in at(shape.sources.as_slice(), block) {
+            self.mark(&shape.order, *way / 2);
         }
     }
 }
@@ -65,7 +76,7 @@ impl Pending {
 pub struct Flow {
     shape: Shape,
     /// What is known of each block.
-    blocks: Vec<Known>,
+    pub blocks: Vec<Known>,
     /// What the function is called with, in %o0, %o1, ..
     pub params: Vec<Range>,
     pending: Pending,
@@ -106,19 +117,9 @@ pub fn add_outs(
     }
 }
 
-/// Whether one of some blocks is to be visited.
-fn has_one(pending: &[bool]) -> bool {
-    for is_pending in pending {
-        if *is_pending {
-            return true;
-        }
-    }
-    false
-}
-
 /// Whether a block calls a function, or returns.
 fn is_asked(code: &Block) -> bool {
-    for step in &code.steps {
+    for step in code.steps.as_slice() {
         if step.callee.is_some() {
             return true;
         }
@@ -126,11 +127,20 @@ fn is_asked(code: &Block) -> bool {
     matches!(code.end, End::Return(_))
 }
 
+/// The list at a place of others; an empty one where there is none.
+pub fn at<T>(lists: &[Vec<T>], place: usize) -> &[T] {
+    match lists.get(place) {
+        Some(list) => list.as_slice(),
+        None => &[],
+    }
+}
+
 impl Flow {
     /// Nothing is known of a function's blocks, all of which are to be visited.
-    pub fn new(alloc: Global, function: &Function, live: &[Locations]) -> Result<Flow, AllocError> {
+    pub fn new(memory: &mut Memory, function: &Function, live: &[Locations]) -> Flow {
+        let alloc = memory.alloc;
         let mut flow = Flow {
-            shape: Shape::of(alloc, function, live)?,
+            shape: Shape::of(memory, function, live),
             blocks: Vec::new(alloc),
             params: Vec::new(alloc),
             pending: Pending {
@@ -143,18 +153,17 @@ impl Flow {
             returned: [all(0); 6],
             has_returned: false,
         };
-        flow.extend(alloc, function)?;
+        flow.extend(memory, function);
         flow.mark(0);
-        Ok(flow)
+        flow
     }
 
     /// Makes room for a function's blocks, none of which is to be visited.
-    fn extend(&mut self, alloc: Global, function: &Function) -> Result<(), AllocError> {
-        self.pending.places = vec![in alloc; false; self.shape.order.blocks.len()]?;
+    fn extend(&mut self, memory: &mut Memory, function: &Function) {
+        self.pending.places = memory.repeat(false, self.shape.order.blocks.len());
         for _ in self.blocks.len()..function.blocks.len() {
-            self.blocks.push(Known::nothing())?;
+            memory.push(&mut self.blocks, Known::nothing());
         }
-        Ok(())
     }
 
     /// A block is to be visited again: with the loops around it, and what stands behind these as far as what comes
@@ -165,11 +174,10 @@ impl Flow {
 
     /// The first block of the stretch that is to be visited.
     fn next(&mut self) -> Option<usize> {
+        let places = self.pending.places.as_mut_slice();
         for place in self.pending.first..self.pending.end {
-            if let Some(pending) = self.pending.places.get_mut(place)
-                && *pending
-            {
-                *pending = false;
+            if place < places.len() && places[place] {
+                places[place] = false;
                 self.pending.first = place;
                 return self.shape.order.blocks.get(place).copied();
             }
@@ -178,14 +186,9 @@ impl Flow {
         None
     }
 
-    /// Whether some block is to be visited.
-    pub fn is_pending(&self) -> bool {
-        has_one(self.pending.places.as_slice())
-    }
-
     /// The blocks that call a function are to be visited again.
     pub fn mark_calls(&mut self, callee: usize) {
-        for call in &self.calls {
+        for call in self.calls.as_slice() {
             if call.callee == callee {
                 self.pending.mark(&self.shape.order, call.block);
             }
@@ -195,21 +198,14 @@ impl Flow {
     /// The blocks to which other ways lead than in another shape, and those from which ways lead to where other
     /// locations are live.
     fn mark_reshaped(&mut self, before: &Shape) {
-        for block in 0..self.shape.sources.len() {
-            if self.shape.sources.get(block) != before.sources.get(block) {
-                self.mark(block);
+        let shape = &self.shape;
+        let (live, live_before) = (shape.live.as_slice(), before.live.as_slice());
+        for block in 0..live.len() {
+            if at(shape.sources.as_slice(), block) != at(before.sources.as_slice(), block) {
+                self.pending.mark(&shape.order, block);
             }
-            if self.shape.live.get(block) != before.live.get(block) {
-                self.mark_sources(block);
-            }
-        }
-    }
-
-    /// The blocks from which ways lead to a block are to be visited.
-    fn mark_sources(&mut self, block: usize) {
-        if let Some(sources) = self.shape.sources.get(block) {
-            for way in sources {
-                self.pending.mark(&self.shape.order, *way / 2);
+            if block >= live_before.len() || live[block] != live_before[block] {
+                self.pending.mark_sources(shape, block);
             }
         }
     }
@@ -218,45 +214,29 @@ impl Flow {
     /// whose blocks other locations may be live.
     pub fn renew(
         &mut self,
-        alloc: Global,
+        memory: &mut Memory,
         (number, function): (usize, &Function),
         live: &[Locations],
         changed: &[(usize, usize)],
-    ) -> Result<(), AllocError> {
-        let shape = Shape::of(alloc, function, live)?;
+    ) {
+        let shape = Shape::of(memory, function, live);
         let before = mem::replace(&mut self.shape, shape);
-        self.extend(alloc, function)?;
+        self.extend(memory, function);
         self.mark_reshaped(&before);
         for (other, block) in changed {
             if *other == number {
                 self.mark(*block);
             }
         }
-        Ok(())
     }
 
     /// What is known where a block begins.
     pub fn cells(&self, block: usize) -> Option<&[Cell]> {
-        match self.blocks.get(block) {
-            Some(known) => listed(&known.cells),
+        let known = self.blocks.get(block)?;
+        match &known.cells {
+            Some(cells) => Some(cells.as_slice()),
             None => None,
         }
-    }
-
-    /// What is known where a way ends, by `way_of`.
-    fn end_of(&self, way: usize) -> Option<&[Cell]> {
-        match self.blocks.get(way / 2) {
-            Some(known) => listed(&known.ways[way % 2]),
-            None => None,
-        }
-    }
-
-    /// Which ways of a block can be gone.
-    pub fn open_ways(&self, block: usize) -> (bool, bool) {
-        (
-            self.end_of(way_of(block, 0)).is_some(),
-            self.end_of(way_of(block, 1)).is_some(),
-        )
     }
 
     /// Begins a block; says whether control can come there.
@@ -289,7 +269,7 @@ impl Flow {
         if !self.begin(function, block, state) {
             return false;
         }
-        for step in &code.steps {
+        for step in code.steps.as_slice() {
             run_step(function.frame, results, step, state);
         }
         go_along(function.frame, code, way, state)
@@ -299,14 +279,14 @@ impl Flow {
     fn found_along(
         &self,
         setting: &Setting,
-        means: &mut Means,
+        memory: &mut Memory,
         (block, way, to): (usize, usize, usize),
         state: &mut State,
     ) -> Option<Vec<Cell>> {
         if !self.run(setting.function, setting.results, (block, way), state) {
             return None;
         }
-        let mut cells = Vec::new(means.alloc);
+        let mut cells = Vec::new(memory.alloc);
         if let Some(live) = self.shape.live.get(to) {
             let mut from = 1;
             // Each turn goes on behind the last location.
@@ -315,7 +295,7 @@ impl Flow {
                     break;
                 };
                 if let Some(range) = state.range(location) {
-                    means.is_refused |= cells.push(Cell { location, range }).is_err();
+                    memory.push(&mut cells, Cell { location, range });
                 }
                 from = location.saturating_add(1);
             }
@@ -328,28 +308,21 @@ impl Flow {
     fn go_on(
         &mut self,
         setting: &Setting,
-        means: &mut Means,
+        memory: &mut Memory,
         (block, passes): (usize, bool),
         state: &mut State,
     ) {
         for way in 0..2 {
             if let Some(to) = successors_in(setting.function, block)[way] {
-                let is_new = if passes {
-                    match self.blocks.get_mut(block) {
-                        Some(known) => known.pass_on(way),
-                        None => false,
-                    }
+                let found = if passes {
+                    None
                 } else {
-                    let found = self.found_along(setting, means, (block, way, to), state);
-                    match self.blocks.get_mut(block) {
-                        Some(known) => known.put_end(way, found),
-                        None => false,
-                    }
+                    self.found_along(setting, memory, (block, way, to), state)
                 };
-                if is_new
-                    && matches!(self.shape.order.place(to), Some(it) if it < self.pending.end)
-                {
-                    self.mark(to);
+                let blocks = self.blocks.as_mut_slice();
+                if block < blocks.len() && blocks[block].put_end(way, passes, found) {
+                    let end = self.pending.end;
+                    self.pending.mark_within(&self.shape.order, to, (0, end));
                 }
             }
         }
@@ -357,17 +330,18 @@ impl Flow {
 
     /// What the ways have in common that lead to a block from blocks before a place of the order; nothing where none of
     /// them can be gone.
-    fn common(&self, means: &mut Means, block: usize, before: usize) -> Option<Vec<Cell>> {
+    fn common(&self, memory: &mut Memory, block: usize, before: usize) -> Option<Vec<Cell>> {
         let mut found: Option<Vec<Cell>> = None;
-        if let Some(sources) = self.shape.sources.get(block) {
-            for way in sources {
-                if let Some(place) = self.shape.order.place(*way / 2)
-                    && place < before
-                    && let Some(cells) = self.end_of(*way)
-                {
+        let blocks = self.blocks.as_slice();
+        for way in at(self.shape.sources.as_slice(), block) {
+            let from = *way / 2;
+            let is_before = matches!(self.shape.order.place(from), Some(it) if it < before);
+            if is_before && from < blocks.len() {
+                let known = &blocks[from];
+                if let Some(cells) = &known.ways[*way % 2] {
                     match &mut found {
-                        Some(found) => join(Growth::Least, found, cells),
-                        None => found = Some(means.copy(cells)),
+                        Some(found) => join(Growth::Least, found, cells.as_slice()),
+                        None => found = Some(memory.copy(cells.as_slice())),
                     }
                 }
             }
@@ -379,24 +353,26 @@ impl Flow {
     /// thresholds, what comes into the loop of a head is joined: what only grows by the ways back goes there.
     fn raise(
         &self,
-        means: &mut Means,
+        memory: &mut Memory,
         thresholds: &Thresholds,
         block: usize,
         cells: &mut Vec<Cell>,
     ) {
-        let Some(known) = self.blocks.get(block) else {
+        let blocks = self.blocks.as_slice();
+        if block >= blocks.len() {
             return;
-        };
+        }
+        let known = &blocks[block];
         let Some(old) = &known.cells else {
             return;
         };
-        let mut raised = means.copy(old.as_slice());
+        let mut raised = memory.copy(old.as_slice());
         let (growth, place) = match self.shape.place_of_head(block) {
             _ if known.changes >= PATIENCE => (Growth::ToAll, 0),
             Some(place) if known.changes > 2 => (Growth::ToThresholds(thresholds), place),
             _ => (Growth::Least, 0),
         };
-        if let Some(entering) = self.common(means, block, place) {
+        if let Some(entering) = self.common(memory, block, place) {
             join(Growth::Least, &mut raised, entering.as_slice());
         }
         join(growth, &mut raised, cells.as_slice());
@@ -408,30 +384,25 @@ impl Flow {
     fn visit(
         &mut self,
         setting: &Setting,
-        means: &mut Means,
+        memory: &mut Memory,
         (thresholds, block): (Option<&Thresholds>, usize),
         state: &mut State,
     ) {
-        let mut cells = self.common(means, block, usize::MAX);
+        if block >= self.blocks.len() {
+            return;
+        }
+        let mut cells = self.common(memory, block, usize::MAX);
         if let Some(cells) = &mut cells {
             if let Some(thresholds) = thresholds {
-                self.raise(means, thresholds, block, cells);
+                self.raise(memory, thresholds, block, cells);
             }
-            if let Some(said) = setting.said.get(block) {
-                take_over(cells, said.as_slice(), &Locations::none());
-            }
+            take_over(cells, at(setting.said, block), &Locations::none());
         }
-        let Some(known) = self.blocks.get_mut(block) else {
-            return;
-        };
+        let known = &mut self.blocks.as_mut_slice()[block];
         let passes = block > 0 && known.passes_on(&cells);
-        let is_run = if thresholds.is_some() {
-            known.raise(cells, block == 0)
-        } else {
-            known.lower(cells, block == 0)
-        };
+        let is_run = known.take(cells, block == 0, thresholds.is_some());
         if is_run {
-            self.go_on(setting, means, (block, passes), state);
+            self.go_on(setting, memory, (block, passes), state);
         }
     }
 
@@ -451,49 +422,43 @@ impl Flow {
             let Some(block) = self.next() else {
                 return;
             };
-            self.visit(setting, means, (thresholds, block), state);
+            self.visit(setting, &mut means.memory, (thresholds, block), state);
         }
-        if !means.is_refused {
-            means.spent = Some(most as u64);
-        }
+        let what = "visits of blocks whose ranges are looked for";
+        means.spend(setting.function.line, what, most as u64);
     }
 
     /// Each block of the stretch is to be visited.
     fn mark_stretch(&mut self) {
+        let places = self.pending.places.as_mut_slice();
         for place in self.pending.start..self.pending.end {
-            if let Some(block) = self.shape.order.blocks.get(place).copied() {
-                self.mark(block);
+            if place < places.len() {
+                places[place] = true;
             }
         }
+        self.pending.first = self.pending.start;
     }
 
-    /// Looks for the calls of a block, from its beginning on.
+    /// Looks for the calls of a block, from its beginning on, and adds what a return leaves, where it ends in one.
     fn find_calls(
         &mut self,
         setting: &Setting,
-        means: &mut Means,
+        memory: &mut Memory,
         (block, code): (usize, &Block),
         state: &mut State,
     ) {
-        let frame = setting.function.frame;
-        for step in &code.steps {
-            run_to_call(frame, step, state);
+        for step in code.steps.as_slice() {
+            run_to_call(setting.function.frame, step, state);
             if let Some(callee) = step.callee {
-                let given = outs(state);
                 let call = Call {
                     block,
                     callee,
-                    given,
+                    given: outs(state),
                 };
-                means.is_refused |= self.calls.push(call).is_err();
+                memory.push(&mut self.calls, call);
                 return_from(setting.results, callee, state);
             }
         }
-        self.add_return(setting, code, state);
-    }
-
-    /// Adds what a return leaves, where a block ends in one.
-    fn add_return(&mut self, setting: &Setting, code: &Block, state: &mut State) {
         if let End::Return(fields) = code.end {
             if setting.function.framed {
                 state.restore(&fields);
@@ -505,41 +470,50 @@ impl Flow {
     }
 
     /// Looks for what callees are given, and what returns leave.
-    fn summarize(&mut self, setting: &Setting, means: &mut Means, state: &mut State) {
+    fn summarize(&mut self, setting: &Setting, memory: &mut Memory, state: &mut State) {
         self.calls.clear();
         self.returned = [all(0); 6];
         self.has_returned = false;
-        for (block, code) in setting.function.blocks.iter().enumerate() {
+        let blocks = setting.function.blocks.as_slice();
+        for (block, code) in blocks.iter().enumerate() {
             if is_asked(code) && self.begin(setting.function, block, state) {
-                self.find_calls(setting, means, (block, code), state);
+                self.find_calls(setting, memory, (block, code), state);
             }
         }
     }
 
     /// Forgets what is known of the blocks of the stretch.
     fn forget_stretch(&mut self, function: &Function) {
+        let (order, codes) = (
+            self.shape.order.blocks.as_slice(),
+            function.blocks.as_slice(),
+        );
+        let blocks = self.blocks.as_mut_slice();
         for place in self.pending.start..self.pending.end {
-            if let Some(block) = self.shape.order.blocks.get(place).copied()
-                && let Some(known) = self.blocks.get_mut(block)
-                && let Some(code) = function.blocks.get(block)
-            {
-                known.forget(touched_in(function, code));
+            if place < order.len() {
+                let block = order[place];
+                if block < codes.len() && block < blocks.len() {
+                    blocks[block].forget(touched_in(function, &codes[block]));
+                }
             }
         }
     }
 
     /// The blocks behind the stretch are to be visited to which something else comes than before it was forgotten.
     fn mark_behind(&mut self, function: &Function) {
+        let (order, blocks) = (&self.shape.order, self.blocks.as_slice());
+        let places = order.blocks.as_slice();
         let start = self.pending.start.saturating_mul(2);
         for way in start..self.pending.end.saturating_mul(2) {
-            if let Some(block) = self.shape.order.blocks.get(way / 2).copied()
-                && let Some(to) = successors_in(function, block)[way % 2]
-                && let Some(place) = self.shape.order.place(to)
-                && place >= self.pending.end
-                && let Some(known) = self.blocks.get(block)
-                && known.is_changed(way % 2)
-            {
-                self.mark(to);
+            if way / 2 < places.len() {
+                let block = places[way / 2];
+                if block < blocks.len()
+                    && blocks[block].is_changed(way % 2)
+                    && let Some(to) = successors_in(function, block)[way % 2]
+                {
+                    let end = self.pending.end;
+                    self.pending.mark_within(order, to, (end, usize::MAX));
+                }
             }
         }
     }
@@ -555,41 +529,48 @@ impl Flow {
         state: &mut State,
     ) {
         self.forget_stretch(setting.function);
-        self.mark_stretch();
-        self.visit_all(setting, means, Some(thresholds), state);
-        self.mark_stretch();
-        self.visit_all(setting, means, None, state);
-        self.mark_stretch();
-        self.visit_all(setting, means, Some(thresholds), state);
+        for thresholds in &[Some(thresholds), None, Some(thresholds)] {
+            self.mark_stretch();
+            self.visit_all(setting, means, *thresholds, state);
+        }
         self.mark_behind(setting.function);
     }
 
-    /// Finds the ranges, by what is to be visited.
-    pub fn settle(&mut self, setting: &Setting, state: &mut State) -> Result<(), Fault> {
+    /// Finds the ranges, by what is to be visited, of a function that is called with these params: it is looked at from
+    /// its first block on, where these are new.
+    pub fn settle(
+        &mut self,
+        params: Vec<Range>,
+        setting: &Setting,
+        means: &mut Means,
+        state: &mut State,
+    ) {
+        let are_new = self.params != params;
+        self.params = params;
+        if are_new {
+            self.mark(0);
+        }
+        if !self.pending.places.as_slice().contains(&true) {
+            return;
+        }
         let thresholds = thresholds_of(
-            setting.alloc,
+            &mut means.memory,
             setting.program,
             setting.function,
             self.params.as_slice(),
-        )?;
-        let mut means = Means {
-            alloc: setting.alloc,
-            is_refused: false,
-            spent: None,
-        };
+        );
         let mut end = 0;
         for start in 0..self.pending.places.len() {
             if start == end {
                 end = self.shape.end_of_stretch(start);
-                if matches!(self.pending.places.get(start..end), Some(it) if has_one(it)) {
+                if matches!(self.pending.places.get(start..end), Some(it) if it.contains(&true)) {
                     self.pending.start = start;
                     self.pending.first = start;
                     self.pending.end = end;
-                    self.settle_stretch(setting, &mut means, &thresholds, state);
+                    self.settle_stretch(setting, means, &thresholds, state);
                 }
             }
         }
-        self.summarize(setting, &mut means, state);
-        means.told(setting.function)
+        self.summarize(setting, &mut means.memory, state);
     }
 }

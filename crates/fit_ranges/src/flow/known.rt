@@ -23,14 +23,6 @@ pub struct Known {
     narrowings: u32,
 }
 
-/// Cells, if there are any.
-pub fn listed(cells: &Option<Vec<Cell>>) -> Option<&[Cell]> {
-    match cells {
-        Some(cells) => Some(cells.as_slice()),
-        None => None,
-    }
-}
-
 /// Whether both are the same.
 fn are_equal(a: &Option<Vec<Cell>>, b: &Option<Vec<Cell>>) -> bool {
     match (a, b) {
@@ -58,7 +50,7 @@ fn add_effects(touched: &mut Locations, effects: &Effects) {
 /// The locations that a block reads or writes. What its branch is taken by is among them, since a compare reads it.
 pub fn touched_in(function: &Function, block: &Block) -> Locations {
     let mut touched = Locations::none();
-    for step in &block.steps {
+    for step in block.steps.as_slice() {
         add_effects(&mut touched, &effects_in(function.frame, step));
         if let Some(slot) = &step.slot {
             add_effects(&mut touched, &effects_of(function.frame, slot));
@@ -74,7 +66,7 @@ pub fn touched_in(function: &Function, block: &Block) -> Locations {
 /// ones.
 pub fn take_over(cells: &mut Vec<Cell>, others: &[Cell], but: &Locations) -> bool {
     let mut is_new = false;
-    for cell in cells.iter_mut() {
+    for cell in cells.as_mut_slice() {
         if !but.has(cell.location)
             && let Some(range) = range_in(others, cell.location)
             && cell.range != range
@@ -114,24 +106,18 @@ impl Known {
         !are_equal(&self.ways[way % 2], &self.before[way % 2])
     }
 
-    /// Takes over cells that grew; says whether the block has to be run for them.
-    pub fn raise(&mut self, cells: Option<Vec<Cell>>, is_entry: bool) -> bool {
-        let is_new = cells.is_some() && replace(&mut self.cells, cells);
-        let is_run = is_new || (is_entry && self.changes == 0);
-        if is_run {
-            self.changes = self.changes.saturating_add(1);
+    /// Takes over cells that grew or got narrower; says whether the block has to be run for them. A function's first
+    /// block, which has none, is run once where it grows, and not where it gets narrower.
+    pub fn take(&mut self, cells: Option<Vec<Cell>>, is_entry: bool, grow: bool) -> bool {
+        if grow {
+            let is_new = cells.is_some() && replace(&mut self.cells, cells);
+            let is_run = is_new | (is_entry & (self.changes == 0));
+            self.changes = self.changes.saturating_add(u32::from(is_run));
+            return is_run;
         }
-        is_run
-    }
-
-    /// Takes over cells that got narrower, but for a function's first block, which has none; says whether the block has
-    /// to be run for them.
-    pub fn lower(&mut self, cells: Option<Vec<Cell>>, is_entry: bool) -> bool {
         let is_new = !is_entry && replace(&mut self.cells, cells);
-        if is_new {
-            self.narrowings = self.narrowings.saturating_add(1);
-        }
-        is_new && self.narrowings <= NARROWINGS
+        self.narrowings = self.narrowings.saturating_add(u32::from(is_new));
+        is_new & (self.narrowings <= NARROWINGS)
     }
 
     /// Whether the block needn't be run for its new cells: the same locations are known, and those that it reads or
@@ -141,28 +127,29 @@ impl Known {
         let (Some(old), Some(new)) = (&self.cells, new) else {
             return false;
         };
+        let (old, new) = (old.as_slice(), new.as_slice());
         for (place, before) in old.iter().enumerate() {
-            let Some(after) = new.get(place) else {
+            if place >= new.len() {
                 return false;
-            };
-            let is_same = before.range == after.range || !self.touched.has(after.location);
-            if before.location != after.location || !is_same {
+            }
+            let after = new[place];
+            let is_same = (before.range == after.range) | !self.touched.has(after.location);
+            if (before.location != after.location) | !is_same {
                 return false;
             }
         }
-        old.len() == new.len() && self.narrowings <= NARROWINGS
+        (old.len() == new.len()) & (self.narrowings <= NARROWINGS)
     }
 
-    /// Puts down what is known where a way ends, if that is new. Says whether it is.
-    pub fn put_end(&mut self, way: usize, cells: Option<Vec<Cell>>) -> bool {
-        replace(&mut self.ways[way % 2], cells)
-    }
-
-    /// What the block doesn't touch is known where a way ends as it is where the block begins, if the way can be gone.
-    /// Says whether it wasn't before.
-    pub fn pass_on(&mut self, way: usize) -> bool {
-        match (&self.cells, self.ways.get_mut(way)) {
-            (Some(cells), Some(Some(end))) => take_over(end, cells.as_slice(), &self.touched),
+    /// Puts down what is known where a way ends, if that is new: these cells, or where the block only passes on what it
+    /// doesn't touch, that as it is where the block begins, if the way can be gone. Says whether it is new.
+    pub fn put_end(&mut self, way: usize, passes: bool, cells: Option<Vec<Cell>>) -> bool {
+        let end = &mut self.ways[way % 2];
+        if !passes {
+            return replace(end, cells);
+        }
+        match (&self.cells, end) {
+            (Some(cells), Some(end)) => take_over(end, cells.as_slice(), &self.touched),
             _ => false,
         }
     }

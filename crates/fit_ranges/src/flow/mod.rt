@@ -2,6 +2,5 @@
 //! domain along all ways until nothing new comes. What callees give back and what the function is called with is told.
 mod flow;
 mod known;
-mod means;
 
-pub use flow::{Flow, Setting, add_outs};
+pub use flow::{Flow, Setting, add_outs, at};

@@ -129,10 +129,7 @@ fn bounds_between(
 /// Where the word of an origin's register may lie for an access of so many bytes: that it lies in the object that its
 /// base names, else in the data that may be written.
 pub fn bounds_of(program: &Program, origin: &Origin, size: i64) -> Bounds {
-    let named = match named_object(program, origin) {
-        Some(object) => Some(object),
-        None => least_object(program, origin),
-    };
+    let named = named_object(program, origin).or(least_object(program, origin));
     let object = match named {
         Some(number) => program.objects.get(number),
         None => None,

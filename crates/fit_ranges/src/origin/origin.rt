@@ -77,13 +77,9 @@ impl Sum {
         }
         let before = self.times[usize::from(number)];
         let sum = before.saturating_add(times);
-        if before == 0 {
-            self.count = self.count.saturating_add(1);
-        }
-        if sum == 0 {
-            self.count = self.count.saturating_sub(1);
-        }
-        self.is_lost |= self.count > 3 || sum.saturating_abs() > GREAT;
+        let count = self.count.saturating_add(u32::from(before == 0));
+        self.count = count.saturating_sub(u32::from(sum == 0));
+        self.is_lost |= (self.count > 3) | (sum.saturating_abs() > GREAT);
         self.times[usize::from(number)] = sum;
         self.ranges[usize::from(number)] = range;
     }
@@ -133,12 +129,6 @@ impl Sum {
         None
     }
 
-    fn name(&mut self, object: Option<usize>) {
-        if self.object.is_none() {
-            self.object = object;
-        }
-    }
-
     /// Puts what a step computes in the place of its result, which was there so many times. Says whether that could be
     /// done.
     fn expand(&mut self, times: i64, step: &Step, operands: Operands) -> bool {
@@ -148,7 +138,7 @@ impl Sum {
         let (first, second) = match op {
             Op::Add | Op::AddCc => (1, 1),
             Op::Sub | Op::SubCc => (1, -1),
-            Op::Or | Op::OrCc if is_zero(&operands[0]) || is_zero(&operands[1]) => (1, 1),
+            Op::Or | Op::OrCc if is_zero(&operands[0]) | is_zero(&operands[1]) => (1, 1),
             Op::Sll => match operands[1] {
                 Some(count) if is_single(count) => (1i64 << (count.lo.cast_unsigned() % 32), 0),
                 _ => return false,
@@ -159,14 +149,14 @@ impl Sum {
         if second != 0 {
             self.add_operand(fields.operand2, times.saturating_mul(second), operands[1]);
         }
-        self.name(step.object);
+        self.object = self.object.or(step.object);
         !self.is_lost
     }
 }
 
 fn is_zero(range: &Option<Range>) -> bool {
     match range {
-        Some(range) => range.lo == 0 && range.hi == 0,
+        Some(range) => (range.lo == 0) & (range.hi == 0),
         None => false,
     }
 }
@@ -174,35 +164,35 @@ fn is_zero(range: &Option<Range>) -> bool {
 /// What the address of the access at a place of a block is worked out from, as far back as one register stands for
 /// it. Nothing where it is worked out from several, or is a number.
 pub fn origin_of(frame: u32, block: &Block, trace: &Trace, place: usize) -> Option<Origin> {
-    let Some(access) = block.steps.get(place) else {
+    let steps = block.steps.as_slice();
+    if place >= steps.len() {
         return None;
-    };
-    let Some((first, second)) = operands_of(frame, &access.instr) else {
+    }
+    let Some((first, second)) = operands_of(frame, &steps[place].instr) else {
         return None;
     };
     let operands = trace.at(place);
-    let mut sum = Sum::nothing(access.object);
+    let mut sum = Sum::nothing(steps[place].object);
     sum.add_register(first, 1, operands[0]);
     sum.add_operand(second, 1, operands[1]);
     let mut found = sum.origin(place);
     for earlier in (0..place).rev() {
-        if let Some(step) = block.steps.get(earlier) {
-            let writes = effects_in(frame, step).writes;
-            if writes & sum.folded != 0 {
-                sum.folded &= !writes;
-                sum.name(step.object);
+        let step = &steps[earlier];
+        let writes = effects_in(frame, step).writes;
+        if writes & sum.folded != 0 {
+            sum.folded &= !writes;
+            sum.object = sum.object.or(step.object);
+        }
+        if let Some(times) = sum.take(writes) {
+            if let Some(origin) = &mut found
+                && origin.first == 0
+            {
+                origin.first = earlier.saturating_add(1);
             }
-            if let Some(times) = sum.take(writes) {
-                if let Some(origin) = &mut found
-                    && origin.first == 0
-                {
-                    origin.first = earlier.saturating_add(1);
-                }
-                if !sum.expand(times, step, trace.at(earlier)) {
-                    return found;
-                }
-                found = sum.origin(earlier).or(found);
+            if !sum.expand(times, step, trace.at(earlier)) {
+                return found;
             }
+            found = sum.origin(earlier).or(found);
         }
     }
     found

@@ -1,5 +1,5 @@
 //! What is known of the operands of a block's steps.
-use fit_code::Block;
+use fit_code::{Block, Memory};
 use fit_graph::run_step;
 use sbx_domain::{State, frame_word_of};
 use sbx_range::{Range, known};
@@ -58,16 +58,17 @@ pub fn trace_of(
     block: &Block,
     state: &mut State,
 ) -> Result<Trace, AllocError> {
+    let mut memory = Memory::new(alloc);
     let mut operands = Vec::new(alloc);
-    for step in &block.steps {
+    for step in block.steps.as_slice() {
         let known = match operands_of(frame, &step.instr) {
             Some((first, second)) => [register_range(first, state), operand_range(second, state)],
             None => [None, None],
         };
-        operands.push(known)?;
+        memory.push(&mut operands, known);
         run_step(frame, results, step, state);
     }
-    Ok(Trace { operands })
+    memory.told(Trace { operands })
 }
 
 impl Trace {

@@ -1,7 +1,7 @@
 //! The ranges of a program: of the cells of its blocks, and of what its functions are called with and give back.
-use crate::flow::{Flow, Setting, add_outs};
-use fit_code::{Fault, Function, NO_LINE, Program, Reason};
-use fit_graph::{Liveness, Locations};
+use crate::flow::{Flow, Setting, add_outs, at};
+use fit_code::{Fault, Function, Memory, NO_LINE, Program, Reason};
+use fit_graph::{Liveness, Locations, Means};
 use sbx_domain::State;
 use sbx_range::{Cell, Range, all, is_within};
 use std::alloc::{AllocError, Global};
@@ -19,7 +19,7 @@ const CELLS: usize = 64;
 /// What is known of a program.
 #[derive(Drop)]
 pub struct Ranges {
-    alloc: Global,
+    means: Means,
     liveness: Liveness,
     flows: Vec<Flow>,
     /// What each function gives back, in %o0, %o1, ..
@@ -30,17 +30,12 @@ pub struct Ranges {
 }
 
 /// The ranges that are said, and behind them the others, so many at least.
-fn with_said(
-    alloc: Global,
-    said: &[Range],
-    found: &[Range; 6],
-    count: u8,
-) -> Result<Vec<Range>, AllocError> {
-    let mut ranges = Vec::from_slice(alloc, said)?;
+fn with_said(memory: &mut Memory, said: &[Range], found: &[Range; 6], count: u8) -> Vec<Range> {
+    let mut ranges = memory.copy(said);
     if let Some(others) = found.get(said.len()..usize::from(count)) {
-        ranges.extend_from_slice(others)?;
+        memory.is_refused |= ranges.extend_from_slice(others).is_err();
     }
-    Ok(ranges)
+    ranges
 }
 
 /// Whether each range lies within the one at its place.
@@ -71,14 +66,6 @@ fn has_block(blocks: &[(usize, usize)], function: usize) -> bool {
     false
 }
 
-/// The list at a place of others.
-fn at<T>(lists: &[Vec<T>], place: usize) -> &[T] {
-    match lists.get(place) {
-        Some(list) => list.as_slice(),
-        None => &[],
-    }
-}
-
 impl Ranges {
     /// Finds the ranges of a program.
     pub fn of(alloc: Global, program: &Program, state: &mut State) -> Result<Ranges, Fault> {
@@ -93,37 +80,42 @@ impl Ranges {
         said: Vec<Vec<Vec<Cell>>>,
         state: &mut State,
     ) -> Result<Ranges, Fault> {
-        let liveness = Liveness::of(alloc, program)?;
+        let mut means = Means {
+            memory: Memory::new(alloc),
+            spent: None,
+        };
         let mut ranges = Ranges {
-            alloc,
-            liveness,
+            liveness: Liveness::of(&mut means, program),
+            means,
             flows: Vec::new(alloc),
             results: Vec::new(alloc),
             said,
         };
-        for (number, function) in program.functions.iter().enumerate() {
-            ranges.begin(number, function)?;
-        }
+        ranges.begin(program);
         ranges.settle(program, state)?;
         Ok(ranges)
     }
 
-    /// Nothing is known of the next function.
-    fn begin(&mut self, number: usize, function: &Function) -> Result<(), AllocError> {
-        let live = self.liveness.of_function(number);
-        self.flows.push(Flow::new(self.alloc, function, live)?)?;
-        let count = self.liveness.counts_of(number).results;
-        let results = with_said(self.alloc, &[], &[all(0); 6], count)?;
-        self.results.push(results)?;
-        Ok(())
+    /// Nothing is known of a program's functions.
+    fn begin(&mut self, program: &Program) {
+        let memory = &mut self.means.memory;
+        self.flows.clear();
+        self.results.clear();
+        for (number, function) in program.functions.as_slice().iter().enumerate() {
+            let flow = Flow::new(memory, function, self.liveness.of_function(number));
+            memory.push(&mut self.flows, flow);
+            let count = self.liveness.asked.of(number).results;
+            let results = memory.repeat(all(0), usize::from(count));
+            memory.push(&mut self.results, results);
+        }
     }
 
     /// What all calls give a function, where an undefined word is 0; any words where none is reached.
     fn given(&self, callee: usize) -> [Range; 6] {
         let mut ranges = [all(0); 6];
         let mut is_first = true;
-        for flow in &self.flows {
-            for call in &flow.calls {
+        for flow in self.flows.as_slice() {
+            for call in flow.calls.as_slice() {
                 if call.callee == callee {
                     add_outs(&mut ranges, &call.given, ZERO, is_first);
                     is_first = false;
@@ -133,89 +125,76 @@ impl Ranges {
         ranges
     }
 
-    /// Takes over what all calls give a function, and goes over it, if that is new or something else of it is to be
-    /// looked at.
+    /// Finds a function's ranges by what all calls give it.
     fn settle_function(
         &mut self,
         program: &Program,
         (number, function): (usize, &Function),
         state: &mut State,
-    ) -> Result<(), Fault> {
-        let count = self.liveness.counts_of(number).params;
+    ) {
         let given = self.given(number);
-        let mut params = with_said(self.alloc, function.params.as_slice(), &given, count)?;
+        let count = self.liveness.asked.of(number).params;
+        let means = &mut self.means;
         let setting = Setting {
-            alloc: self.alloc,
             program,
             function,
             results: self.results.as_slice(),
             said: at(self.said.as_slice(), number),
         };
-        let Some(flow) = self.flows.get_mut(number) else {
-            return Ok(());
-        };
-        if flow.params != params {
-            mem::swap(&mut flow.params, &mut params);
-            flow.mark(0);
+        let flows = self.flows.as_mut_slice();
+        if number < flows.len() {
+            let said = function.params.as_slice();
+            let params = with_said(&mut means.memory, said, &given, count);
+            flows[number].settle(params, &setting, means, state);
         }
-        if flow.is_pending() {
-            return flow.settle(&setting, state);
-        }
-        Ok(())
     }
 
     /// Takes over what a function gives back, and looks at its callers again, where that is new: narrower in the first
     /// rounds, and wider in all. Says whether it is.
-    fn take_results(
-        &mut self,
-        number: usize,
-        function: &Function,
-        round: u32,
-    ) -> Result<bool, AllocError> {
-        let Some(flow) = self.flows.get(number) else {
-            return Ok(false);
-        };
-        let count = self.liveness.counts_of(number).results;
+    fn take_results(&mut self, number: usize, function: &Function, round: u32) -> bool {
+        let flows = self.flows.as_mut_slice();
+        let results = self.results.as_mut_slice();
+        if number >= flows.len() || number >= results.len() {
+            return false;
+        }
+        let known = &mut results[number];
         let mut found = with_said(
-            self.alloc,
+            &mut self.means.memory,
             function.results.as_slice(),
-            &flow.returned,
-            count,
-        )?;
-        let known = at(self.results.as_slice(), number);
+            &flows[number].returned,
+            self.liveness.asked.of(number).results,
+        );
         let is_new = if round < NARROWINGS {
-            known != found.as_slice()
+            *known != found
         } else {
-            !lie_within(found.as_slice(), known)
+            !lie_within(found.as_slice(), known.as_slice())
         };
         if is_new {
-            if let Some(slot) = self.results.get_mut(number) {
-                mem::swap(slot, &mut found);
-            }
-            for flow in self.flows.iter_mut() {
+            mem::swap(known, &mut found);
+            for flow in flows {
                 flow.mark_calls(number);
             }
         }
-        Ok(is_new)
+        is_new
     }
 
     /// Goes over the program once. Says whether something is to be looked at again.
-    fn pass(&mut self, program: &Program, round: u32, state: &mut State) -> Result<bool, Fault> {
-        for (number, function) in program.functions.iter().enumerate() {
-            self.settle_function(program, (number, function), state)?;
+    fn pass(&mut self, program: &Program, round: u32, state: &mut State) -> bool {
+        for (number, function) in program.functions.as_slice().iter().enumerate() {
+            self.settle_function(program, (number, function), state);
         }
         let mut is_new = false;
-        for (number, function) in program.functions.iter().enumerate() {
-            is_new = self.take_results(number, function, round)? || is_new;
+        for (number, function) in program.functions.as_slice().iter().enumerate() {
+            is_new |= self.take_results(number, function, round);
         }
-        Ok(is_new)
+        is_new & !self.means.are_used_up()
     }
 
-    /// Goes over the program until nothing is to be looked at again.
+    /// Goes over the program until nothing is to be looked at again, or something lacks, which is told.
     fn settle(&mut self, program: &Program, state: &mut State) -> Result<(), Fault> {
         for round in 0..ROUNDS {
-            if !self.pass(program, round, state)? {
-                return Ok(());
+            if !self.pass(program, round, state) {
+                return self.means.told();
             }
         }
         Err(Fault::new(
@@ -235,33 +214,31 @@ impl Ranges {
         changed: &[(usize, usize)],
         state: &mut State,
     ) -> Result<(), Fault> {
-        let liveness = Liveness::of(self.alloc, program)?;
-        if liveness.counts != self.liveness.counts {
-            *self = Ranges::of(self.alloc, program, state)?;
-            return Ok(());
+        let liveness = Liveness::of(&mut self.means, program);
+        let before = mem::replace(&mut self.liveness, liveness);
+        if self.liveness.asked.counts == before.asked.counts {
+            self.renew_functions(program, &before, changed);
+        } else {
+            self.begin(program);
         }
-        self.renew_functions(program, &liveness, changed)?;
-        self.liveness = liveness;
         self.settle(program, state)
     }
 
-    /// Takes over each function of a program in which this is live, if something of it is others than before.
+    /// Takes over each function of a program in which this was live before, if something of it is others than then.
     fn renew_functions(
         &mut self,
         program: &Program,
-        liveness: &Liveness,
+        before: &Liveness,
         changed: &[(usize, usize)],
-    ) -> Result<(), AllocError> {
-        for (number, function) in program.functions.iter().enumerate() {
-            let live = liveness.of_function(number);
-            let is_same = self.liveness.of_function(number) == live;
-            if let Some(flow) = self.flows.get_mut(number)
-                && (!is_same || has_block(changed, number))
-            {
-                flow.renew(self.alloc, (number, function), live, changed)?;
+    ) {
+        for (number, function) in program.functions.as_slice().iter().enumerate() {
+            let live = self.liveness.of_function(number);
+            let is_same = before.of_function(number) == live;
+            let flows = self.flows.as_mut_slice();
+            if number < flows.len() && (!is_same || has_block(changed, number)) {
+                flows[number].renew(&mut self.means.memory, (number, function), live, changed);
             }
         }
-        Ok(())
     }
 
     /// What a function is called with.
@@ -294,8 +271,11 @@ impl Ranges {
     /// Which ways of a block can be gone.
     pub fn open_ways(&self, function: usize, block: usize) -> (bool, bool) {
         match self.flows.get(function) {
-            Some(flow) => flow.open_ways(block),
-            None => (false, false),
+            Some(flow) if block < flow.blocks.len() => {
+                let [first, second] = &flow.blocks[block].ways;
+                (first.is_some(), second.is_some())
+            }
+            _ => (false, false),
         }
     }
 
@@ -313,10 +293,11 @@ impl Ranges {
         block: usize,
         state: &mut State,
     ) -> bool {
-        match (self.flows.get(function), program.functions.get(function)) {
-            (Some(flow), Some(code)) => flow.begin(code, block, state),
-            _ => false,
+        let (flows, functions) = (self.flows.as_slice(), program.functions.as_slice());
+        if function < flows.len() && function < functions.len() {
+            return flows[function].begin(&functions[function], block, state);
         }
+        false
     }
 
     /// Runs a block in the verifier's domain, from its beginning along one of its ways: 0 is that of a jump or of a
@@ -330,24 +311,19 @@ impl Ranges {
         way: usize,
         state: &mut State,
     ) -> bool {
-        match (self.flows.get(function), program.functions.get(function)) {
-            (Some(flow), Some(code)) => flow.run(
-                code,
-                self.results.as_slice(),
-                (block, way),
-                state,
-            ),
-            _ => false,
+        let (flows, functions) = (self.flows.as_slice(), program.functions.as_slice());
+        if function < flows.len() && function < functions.len() {
+            let results = self.results.as_slice();
+            return flows[function].run(&functions[function], results, (block, way), state);
         }
+        false
     }
 
     /// A fault of the first block of which more cells are known than an image's block may list.
     pub fn check_limits(&self, program: &Program) -> Result<(), Fault> {
-        for (number, function) in program.functions.iter().enumerate() {
-            for (place, block) in function.blocks.iter().enumerate() {
-                if let Some(cells) = self.cells(number, place)
-                    && cells.len() > CELLS
-                {
+        for (number, function) in program.functions.as_slice().iter().enumerate() {
+            for (place, block) in function.blocks.as_slice().iter().enumerate() {
+                if self.cells(number, place).unwrap_or(&[]).len() > CELLS {
                     return Err(Fault::new(
                         block.line,
                         Reason::TooMany {
@@ -363,10 +339,11 @@ impl Ranges {
 
     /// Writes down for each function what it is called with and what it gives back.
     pub fn store(&self, program: &mut Program) -> Result<(), AllocError> {
+        let mut memory = self.means.memory;
         for (number, function) in program.functions.iter_mut().enumerate() {
-            function.params = Vec::from_slice(self.alloc, self.params(number))?;
-            function.results = Vec::from_slice(self.alloc, at(self.results.as_slice(), number))?;
+            function.params = memory.copy(self.params(number));
+            function.results = memory.copy(at(self.results.as_slice(), number));
         }
-        Ok(())
+        memory.told(())
     }
 }

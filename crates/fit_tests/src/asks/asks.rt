@@ -1,7 +1,6 @@
 //! What isn't shown of a function's steps.
-use crate::cuts::Memory;
-use fit_code::{Block, End, Function, Line, Program, Region};
-use fit_graph::{Effects, effects_of, read_at_end, return_from, run_to_call};
+use fit_code::{Block, End, Function, Line, Memory, Program, Step};
+use fit_graph::{effects_of, read_at_end, return_from, run_to_call};
 use fit_ranges::{Origin, Ranges, Trace, end_of, named_object, origin_of, trace_of};
 use sbx_domain::State;
 use sbx_range::{Range, excludes_zero, range_of_address};
@@ -55,18 +54,6 @@ pub struct Asking<'a> {
     pub by_object: bool,
 }
 
-/// Whether bytes from the first to before the last address lie in one region, which may be written where they are.
-fn is_in_region(regions: &[Region], from: i64, to: i64, writes: bool) -> bool {
-    for region in regions {
-        let start = i64::from(region.start);
-        let end = start.saturating_add(i64::from(region.length));
-        if start <= from && to <= end && !(writes && region.readonly) {
-            return true;
-        }
-    }
-    false
-}
-
 /// %sp, %fp and the addresses of calls, which are never asked for, each of which has a bit.
 const RESERVED: u32 = 0xc000_c000;
 
@@ -81,26 +68,6 @@ fn undefined_register(reads: u32, state: &State) -> Option<u16> {
     None
 }
 
-/// The first location that is read and isn't defined: a frame word before registers.
-fn undefined_location(effects: &Effects, state: &State) -> Option<u16> {
-    match effects.word_read {
-        Some(word) if state.range(word).is_none() => Some(word),
-        _ => undefined_register(effects.reads, state),
-    }
-}
-
-/// What isn't shown of a divisor, of which this is known.
-fn lack_of_divisor(operand: Operand, known: Option<Range>) -> Option<Lack> {
-    let Some(range) = known else {
-        return None;
-    };
-    if excludes_zero(range) {
-        None
-    } else {
-        Some(Lack::Divisible(operand, range))
-    }
-}
-
 /// How many low bits of an address of so many bytes are 0.
 pub fn needed_alignment(size: u32) -> u8 {
     match size {
@@ -111,31 +78,7 @@ pub fn needed_alignment(size: u32) -> u8 {
     }
 }
 
-/// The line of the step at a place of a block, or behind the last one of its end.
-fn line_at(block: &Block, place: usize) -> Line {
-    if place < block.steps.len() {
-        block.steps[place].line
-    } else {
-        block.line
-    }
-}
-
 impl Asking<'_> {
-    /// Whether an access lies outside of the object that its base names.
-    fn is_outside(&self, origin: Option<Origin>, from: i64, to: i64) -> bool {
-        let Some(origin) = origin else {
-            return false;
-        };
-        let Some(number) = named_object(self.program, &origin) else {
-            return false;
-        };
-        if number >= self.program.objects.len() {
-            return false;
-        }
-        let object = &self.program.objects[number];
-        from < i64::from(object.start) || to > end_of(object)
-    }
-
     /// What isn't shown of an access.
     fn lack_of_access(
         &self,
@@ -144,14 +87,26 @@ impl Asking<'_> {
         range: Range,
         origin: Option<Origin>,
     ) -> Option<Lack> {
-        let size = bytes_in(transfer.size());
+        let (size, writes) = (bytes_in(transfer.size()), transfer.writes_memory());
         let from = i64::from(range.lo);
         let to = i64::from(range.hi).saturating_add(i64::from(size));
-        let regions = self.program.regions.as_slice();
-        let writes = transfer.writes_memory();
-        let is_shown = needed_alignment(size) <= range.alignment
-            && is_in_region(regions, from, to, writes)
-            && !(self.by_object && self.is_outside(origin, from, to));
+        let mut is_shown = false;
+        // all of it has to lie in one region, which may be written where it writes
+        for region in self.program.regions.as_slice() {
+            let start = i64::from(region.start);
+            let end = start.saturating_add(i64::from(region.length));
+            is_shown |= (start <= from) & (to <= end) & !(writes & region.readonly);
+        }
+        is_shown &= needed_alignment(size) <= range.alignment;
+        let objects = self.program.objects.as_slice();
+        if self.by_object
+            && let Some(origin) = &origin
+            && let Some(number) = named_object(self.program, origin)
+            && number < objects.len()
+        {
+            let object = &objects[number];
+            is_shown &= (i64::from(object.start) <= from) & (to <= end_of(object));
+        }
         if is_shown {
             return None;
         }
@@ -184,61 +139,39 @@ impl Asking<'_> {
         (place, instr): (usize, &Instr),
         state: &State,
     ) -> Option<Lack> {
-        if let Some(location) = undefined_location(&effects_of(frame, instr), state) {
+        let effects = effects_of(frame, instr);
+        // a frame word before registers
+        let undefined = match effects.word_read {
+            Some(word) if state.range(word).is_none() => Some(word),
+            _ => undefined_register(effects.reads, state),
+        };
+        if let Some(location) = undefined {
             return Some(Lack::Defined(location));
         }
         let [first, second] = trace.at(place);
-        match operation_of(instr) {
-            Operation::Divide(_, fields) => lack_of_divisor(fields.operand2, second),
-            Operation::Transfer(transfer, fields) => {
-                let Some(first) = first else {
-                    return None;
-                };
-                let Some(second) = second else {
-                    return None;
-                };
+        match (operation_of(instr), first, second) {
+            (Operation::Divide(_, fields), _, Some(range)) if !excludes_zero(range) => {
+                Some(Lack::Divisible(fields.operand2, range))
+            }
+            (Operation::Transfer(transfer, fields), Some(first), Some(second)) => {
                 let range = range_of_address(first, second);
                 let origin = origin_of(frame, block, trace, place);
-                let parts = (fields.rs1, fields.operand2);
-                self.lack_of_access(transfer, parts, range, origin)
+                self.lack_of_access(transfer, (fields.rs1, fields.operand2), range, origin)
             }
             _ => None,
         }
     }
 
-    /// What isn't shown of the end of a block.
-    fn lack_at_end(
+    /// What isn't shown of the step at a place of a block; the state is then that behind the step. Of a call its slot
+    /// is run before it is asked.
+    fn lack_at(
         &self,
-        (number, code): (usize, &Function),
-        end: &End,
-        state: &State,
-    ) -> Option<Lack> {
-        let results = self.ranges.results();
-        let left = if number < results.len() {
-            results[number].len().min(6) as u8
-        } else {
-            0
-        };
-        match undefined_register(read_at_end(code, left, end), state) {
-            Some(location) => Some(Lack::Defined(location)),
-            None => None,
-        }
-    }
-
-    /// What isn't shown of the step at a place of a block, or of its end behind the last one; the state is then that
-    /// behind the step. Of a call its slot is run before it is asked.
-    fn next_lack(
-        &self,
-        (number, code): (usize, &Function),
+        frame: u32,
         block: &Block,
         trace: &Trace,
-        place: usize,
+        (place, step): (usize, &Step),
         state: &mut State,
     ) -> Option<Lack> {
-        if place >= block.steps.len() {
-            return self.lack_at_end((number, code), &block.end, state);
-        }
-        let (frame, step) = (code.frame, &block.steps[place]);
         match step.callee {
             Some(callee) => {
                 run_to_call(frame, step, state);
@@ -252,6 +185,23 @@ impl Asking<'_> {
                 lack
             }
         }
+    }
+
+    /// The first register that the end of a function's block reads and that isn't defined.
+    fn lack_at_end(
+        &self,
+        function: usize,
+        code: &Function,
+        end: &End,
+        state: &State,
+    ) -> Option<u16> {
+        let results = self.ranges.results();
+        let left = if function < results.len() {
+            results[function].len().min(6) as u8
+        } else {
+            0
+        };
+        undefined_register(read_at_end(code, left, end), state)
     }
 
     /// Asks a block, from its beginning to its end, if control comes to it.
@@ -272,16 +222,25 @@ impl Asking<'_> {
             Err(error) => return memory.take(Err(error)),
         };
         ranges.begin_block(program, function, number, state);
-        for place in 0..block.steps.len().saturating_add(1) {
-            if let Some(lack) = self.next_lack((function, code), block, &trace, place, state) {
+        for (place, step) in block.steps.as_slice().iter().enumerate() {
+            if let Some(lack) = self.lack_at(code.frame, block, &trace, (place, step), state) {
                 let ask = Ask {
                     block: number,
                     place,
-                    line: line_at(block, place),
+                    line: step.line,
                     lack,
                 };
                 memory.push(asks, ask);
             }
+        }
+        if let Some(location) = self.lack_at_end(function, code, &block.end, state) {
+            let ask = Ask {
+                block: number,
+                place: block.steps.len(),
+                line: block.line,
+                lack: Lack::Defined(location),
+            };
+            memory.push(asks, ask);
         }
     }
 }
@@ -293,14 +252,18 @@ pub fn asks_of(
     state: &mut State,
 ) -> Result<Vec<Ask>, AllocError> {
     let mut asks = Vec::new(asking.alloc);
-    let mut memory = Memory::new();
+    let mut memory = Memory::new(asking.alloc);
     if function < asking.program.functions.len() {
         let code = &asking.program.functions[function];
-        for number in 0..code.blocks.len() {
-            let block = (number, &code.blocks[number]);
-            asking.ask_block((function, code), block, state, &mut asks, &mut memory);
+        for (number, block) in code.blocks.as_slice().iter().enumerate() {
+            asking.ask_block(
+                (function, code),
+                (number, block),
+                state,
+                &mut asks,
+                &mut memory,
+            );
         }
     }
-    memory.told()?;
-    Ok(asks)
+    memory.told(asks)
 }

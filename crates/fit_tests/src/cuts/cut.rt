@@ -1,6 +1,5 @@
 //! Blocks in two.
-use crate::cuts::memory::Memory;
-use fit_code::{Block, End, Function, Line, Step};
+use fit_code::{Block, End, Line, Memory, Step};
 use std::alloc::{AllocError, Global};
 use v8_formats::Instr;
 
@@ -10,6 +9,7 @@ pub fn push_instrs(
     instrs: &[Option<Instr>],
     line: Line,
 ) -> Result<(), AllocError> {
+    let mut lacks = false;
     for instr in instrs {
         if let Some(instr) = *instr {
             let step = Step {
@@ -19,24 +19,20 @@ pub fn push_instrs(
                 object: None,
                 slot: None,
             };
-            steps.extend_from_slice(&[step])?;
+            lacks |= steps.push(step).is_err();
         }
     }
-    Ok(())
+    if lacks { Err(AllocError) } else { Ok(()) }
 }
 
 /// Puts an instruction that calls nobody before the step at a place of a block, if there is such a place.
 pub fn insert_instr(
-    function: &mut Function,
-    number: usize,
+    block: &mut Block,
     place: usize,
     instr: Instr,
     line: Line,
-) -> Result<(), AllocError> {
-    if number >= function.blocks.len() {
-        return Ok(());
-    }
-    let block = &mut function.blocks[number];
+    memory: &mut Memory,
+) {
     if place <= block.steps.len() {
         let step = Step {
             instr,
@@ -45,70 +41,53 @@ pub fn insert_instr(
             object: None,
             slot: None,
         };
-        block.steps.insert(place, step)?;
+        if let Err(failed) = block.steps.insert(place, step) {
+            memory.take(Err(AllocError::from(failed)));
+        }
     }
-    Ok(())
-}
-
-/// A new block without steps, behind the others.
-pub fn push_block(
-    alloc: Global,
-    function: &mut Function,
-    end: End,
-    line: Line,
-) -> Result<&mut Block, AllocError> {
-    let block = function.blocks.push_mut(Block {
-        steps: Vec::new(alloc),
-        end,
-        slot: None,
-        line,
-    })?;
-    Ok(block)
 }
 
 /// A new block of instructions that call nobody, behind the others.
-pub fn push_made(
+pub fn push_block(
     alloc: Global,
-    function: &mut Function,
+    blocks: &mut Vec<Block>,
     instrs: &[Option<Instr>],
-    (end, line): (End, Line),
-    memory: &mut Memory,
-) {
-    memory.take(match push_block(alloc, function, end, line) {
-        Ok(block) => push_instrs(&mut block.steps, instrs, line),
-        Err(error) => Err(error),
-    });
+    end: End,
+    line: Line,
+) -> Result<(), AllocError> {
+    let mut steps = Vec::new(alloc);
+    let filled = push_instrs(&mut steps, instrs, line);
+    let block = Block {
+        steps,
+        end,
+        slot: None,
+        line,
+    };
+    match blocks.push(block) {
+        Ok(()) => filled,
+        Err(failed) => Err(AllocError::from(failed)),
+    }
 }
 
 /// Puts a copy of a block's steps from a place on, and of its end, behind the other blocks.
 pub fn copy_block(
     alloc: Global,
-    function: &mut Function,
+    blocks: &mut Vec<Block>,
     number: usize,
     place: usize,
     memory: &mut Memory,
 ) {
-    if number >= function.blocks.len() {
-        return;
-    }
-    let Block {
-        steps,
-        end,
-        slot,
-        line,
-    } = &function.blocks[number];
-    let (end, slot, line) = (*end, *slot, *line);
-    match Vec::from_slice(alloc, steps.get(place..).unwrap_or(&[])) {
-        Ok(steps) => {
-            let copied = Block {
-                steps,
-                end,
-                slot,
-                line,
-            };
-            memory.push(&mut function.blocks, copied);
-        }
-        Err(error) => memory.take(Err(error)),
+    if number < blocks.len() {
+        let block = &blocks[number];
+        let mut steps = Vec::new(alloc);
+        memory.take(steps.extend_from_slice(block.steps.get(place..).unwrap_or(&[])));
+        let copied = Block {
+            steps,
+            end: block.end,
+            slot: block.slot,
+            line: block.line,
+        };
+        memory.push(blocks, copied);
     }
 }
 
@@ -116,15 +95,15 @@ pub fn copy_block(
 /// which the block goes on.
 pub fn cut_block(
     alloc: Global,
-    function: &mut Function,
+    blocks: &mut Vec<Block>,
     number: usize,
     place: usize,
     memory: &mut Memory,
 ) -> usize {
-    let rest = function.blocks.len();
-    copy_block(alloc, function, number, place, memory);
-    if number < function.blocks.len() {
-        let block = &mut function.blocks[number];
+    let rest = blocks.len();
+    copy_block(alloc, blocks, number, place, memory);
+    if number < blocks.len() {
+        let block = &mut blocks[number];
         block.steps.truncate(place);
         block.end = End::Jump(rest);
         block.slot = None;

@@ -1,12 +1,10 @@
 //! Where a block can be cut so that steps of one's own may stand there, and steps to put there.
 mod cut;
-mod memory;
 mod place;
 mod repeat;
 mod words;
 
-pub use cut::{copy_block, cut_block, insert_instr, push_block, push_instrs, push_made};
-pub use memory::Memory;
+pub use cut::{copy_block, cut_block, insert_instr, push_block, push_instrs};
 pub use place::{InUse, in_use, y_writer};
 pub use repeat::{codes_again, drop_compare};
 pub use words::{by_immediate, by_register, clearing, go_by, number_in, register};

@@ -1,5 +1,5 @@
 //! What is in use between two steps of a block.
-use fit_code::{Block, End, Step};
+use fit_code::{Block, End};
 use fit_graph::effects_of;
 use v8_formats::Instr;
 use v8_meaning::{Op, Operation, operation_of};
@@ -63,22 +63,6 @@ pub struct InUse {
     pub scratch: bool,
 }
 
-/// What a step does with the condition codes; a call leaves them undefined.
-fn step_codes(step: &Step) -> Use {
-    match step.callee {
-        Some(_) => Use::Writes,
-        None => codes_use(&step.instr),
-    }
-}
-
-/// What a step does with Y; a call leaves it undefined.
-fn step_y(step: &Step) -> Use {
-    match step.callee {
-        Some(_) => Use::Writes,
-        None => y_use(&step.instr),
-    }
-}
-
 impl Use {
     /// Whether something is in use before a step, by whether it is behind it.
     fn before(self, behind: bool) -> bool {
@@ -90,20 +74,18 @@ impl Use {
     }
 }
 
-/// What is in use before the step at a place of a block.
+/// What is in use before the step at a place of a block. A call leaves codes, Y and scratch registers undefined.
 pub fn in_use(frame: u32, block: &Block, place: usize) -> InUse {
     let mut codes = matches!(block.end, End::Branch { .. });
     let mut y = false;
     let mut registers = 0;
     for at in (place..block.steps.len()).rev() {
         let step = &block.steps[at];
-        codes = step_codes(step).before(codes);
-        y = step_y(step).before(y);
         let effects = effects_of(frame, &step.instr);
-        let written = match step.callee {
-            Some(_) => SCRATCH,
-            None => effects.writes,
-        };
+        let is_call = step.callee.is_some();
+        codes = !is_call & codes_use(&step.instr).before(codes);
+        y = !is_call & y_use(&step.instr).before(y);
+        let written = if is_call { SCRATCH } else { effects.writes };
         registers = effects.reads | registers & !written;
     }
     InUse {
@@ -120,21 +102,15 @@ pub fn y_writer(frame: u32, block: &Block, division: usize) -> Option<(usize, bo
     for place in (0..division.min(block.steps.len())).rev() {
         let step = &block.steps[place];
         let effects = effects_of(frame, &step.instr);
-        if is_y_writer(&step.instr) {
-            if effects.reads & written == 0 {
-                return Some((place, effects.reads == 0));
-            }
-            return None;
-        }
-        if !matches!(step_y(step), Use::Nothing) {
-            return None;
+        if step.callee.is_some() | !matches!(y_use(&step.instr), Use::Nothing) {
+            let is_writer = matches!(operation_of(&step.instr), Operation::WriteY(_));
+            return if is_writer & (effects.reads & written == 0) {
+                Some((place, effects.reads == 0))
+            } else {
+                None
+            };
         }
         written |= effects.writes;
     }
     None
-}
-
-/// Whether an instruction is a WRY.
-fn is_y_writer(instr: &Instr) -> bool {
-    matches!(operation_of(instr), Operation::WriteY(_))
 }

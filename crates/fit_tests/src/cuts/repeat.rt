@@ -34,43 +34,20 @@ fn last_setter(block: &Block) -> Option<usize> {
 
 /// Whether a register that has a bit is written from a place of a block on.
 fn is_written(frame: u32, block: &Block, place: usize, registers: u32) -> bool {
+    let mut written = 0;
     for at in place..block.steps.len() {
         let step = &block.steps[at];
-        let writes = match step.callee {
-            Some(_) => 0xfffe,
-            None => effects_of(frame, &step.instr).writes,
+        written |= if step.callee.is_some() {
+            0xfffe
+        } else {
+            effects_of(frame, &step.instr).writes
         };
-        if writes & registers != 0 {
-            return true;
-        }
     }
-    false
+    written & registers != 0
 }
 
-/// An instruction that sets the codes as a setter at a place of a block did, behind the block's last step, as far as a
-/// condition asks.
-fn again(frame: u32, block: &Block, place: usize, setter: &Instr, cond: Cond) -> Option<Instr> {
-    let effects = effects_of(frame, setter);
-    if !is_written(frame, block, place, effects.reads) {
-        return without_result(*setter);
-    }
-    let behind = place.saturating_add(1);
-    let is_kept = effects.writes != 0 && !is_written(frame, block, behind, effects.writes);
-    // These ask for Z and N alone.
-    let asks_signs = matches!(
-        cond,
-        Cond::Equal | Cond::NotEqual | Cond::Negative | Cond::Positive
-    );
-    if is_kept && asks_signs {
-        let number = effects.writes.trailing_zeros().min(31) as u8;
-        Some(Instr::SubCc(by_immediate(0, number, 0)))
-    } else {
-        None
-    }
-}
-
-/// An instruction that sets the codes that a block's branch asks for again behind the last step, so that they aren't
-/// in use before. None where that step sets them, and where no instruction does.
+/// An instruction that sets the codes that a block's branch asks for again behind the last step, as far as it asks, so
+/// that they aren't in use before. None where that step sets them, and where no instruction does.
 pub fn codes_again(frame: u32, block: &Block) -> Option<Instr> {
     let End::Branch { cond, .. } = block.end else {
         return None;
@@ -78,8 +55,24 @@ pub fn codes_again(frame: u32, block: &Block) -> Option<Instr> {
     let Some(place) = last_setter(block) else {
         return None;
     };
-    if place.saturating_add(1) < block.steps.len() {
-        again(frame, block, place, &block.steps[place].instr, cond)
+    let behind = place.saturating_add(1);
+    if behind >= block.steps.len() {
+        return None;
+    }
+    let setter = &block.steps[place].instr;
+    let effects = effects_of(frame, setter);
+    if !is_written(frame, block, place, effects.reads) {
+        return without_result(*setter);
+    }
+    let is_kept = effects.writes != 0 && !is_written(frame, block, behind, effects.writes);
+    // These ask for Z and N alone.
+    let asks_signs = matches!(
+        cond,
+        Cond::Equal | Cond::NotEqual | Cond::Negative | Cond::Positive
+    );
+    if is_kept & asks_signs {
+        let number = effects.writes.trailing_zeros().min(31) as u8;
+        Some(Instr::SubCc(by_immediate(0, number, 0)))
     } else {
         None
     }
@@ -87,10 +80,8 @@ pub fn codes_again(frame: u32, block: &Block) -> Option<Instr> {
 
 /// Takes the last compare out of a block, if nothing asks for the codes that it sets.
 pub fn drop_compare(block: &mut Block) {
-    let Some(place) = last_setter(block) else {
-        return;
-    };
-    if place < block.steps.len()
+    if let Some(place) = last_setter(block)
+        && place < block.steps.len()
         && !in_use(0, block, place.saturating_add(1)).codes
         && effects_of(0, &block.steps[place].instr).writes == 0
     {

@@ -1,7 +1,7 @@
 //! The blocks of a test of an address.
-use crate::cuts::{Memory, by_immediate, by_register, number_in, push_made};
+use crate::cuts::{by_immediate, by_register, number_in, push_block};
 use crate::plans::plan::{Plan, Way};
-use fit_code::{End, Function, Line};
+use fit_code::{Block, End, Line, Memory};
 use std::alloc::Global;
 use v8_formats::{Cond, Instr, Three};
 
@@ -11,18 +11,6 @@ const NUMBER: u8 = 5;
 const FROM: u8 = 6;
 
 const REST: u8 = 7;
-
-/// No instructions.
-const NOTHING: [Option<Instr>; 3] = [None, None, None];
-
-/// The bits that are 0 in a multiple of 2 to a power from 1 to 3.
-fn low_bits(alignment: u8) -> i32 {
-    match alignment {
-        1 => 1,
-        2 => 3,
-        _ => 7,
-    }
-}
 
 /// The sum that gives a register back what was subtracted from it.
 fn back(register: u8, lo: i32) -> Three {
@@ -41,10 +29,10 @@ pub fn given_back(plan: &Plan) -> Option<Instr> {
     }
 }
 
-/// The end of a function's next block that goes to another one where a condition holds, and else on to the block that
-/// is made then.
-pub fn branch(function: &Function, cond: Cond, taken: usize) -> End {
-    let next = function.blocks.len().saturating_add(1);
+/// The end of the next block behind so many that goes to another one where a condition holds, and else on to the block
+/// that is made then.
+pub fn branch(count: usize, cond: Cond, taken: usize) -> End {
+    let next = count.saturating_add(1);
     End::Branch { cond, taken, next }
 }
 
@@ -87,57 +75,42 @@ impl Frame {
     /// A new block of these instructions.
     pub fn push(
         &self,
-        function: &mut Function,
+        blocks: &mut Vec<Block>,
         instrs: &[Option<Instr>],
         end: End,
         memory: &mut Memory,
     ) {
-        push_made(self.alloc, function, instrs, (end, self.line), memory);
-    }
-
-    /// The blocks in which what is left of a word is compared, and then given back.
-    fn push_compared(
-        &self,
-        function: &mut Function,
-        (mask, difference, compare): (Option<Instr>, [Option<Instr>; 3], [Option<Instr>; 3]),
-        give_back: Option<Instr>,
-        memory: &mut Memory,
-    ) {
-        let ([a, b, c], [d, e, f]) = (difference, compare);
-        let end = branch(function, Cond::GreaterUnsigned, self.beyond);
-        self.push(function, &[mask, a, b, c, d, e, f], end, memory);
-        self.push(function, &[give_back], End::Jump(self.rest), memory);
+        memory.take(push_block(self.alloc, blocks, instrs, end, self.line));
     }
 
     /// The blocks of a test, behind which control goes on to the rest. The first one of them is the function's next
     /// block. Before a word is compared it is made seen that its low bits are 0; what is left of it once the lower end
     /// of its bounds is subtracted is compared, and it is given back.
-    pub fn push_test(&self, function: &mut Function, plan: &Plan, memory: &mut Memory) {
+    pub fn push_test(&self, blocks: &mut Vec<Block>, plan: &Plan, memory: &mut Memory) {
         let register = plan.register;
         let mut mask = None;
         if plan.alignment > 0 {
-            let low = low_bits(plan.alignment);
+            // the bits that are 0 in a multiple of 2 to a power from 1 to 3
+            let low = 7i32 >> 3u8.saturating_sub(plan.alignment);
             mask = Some(Instr::And(by_immediate(register, register, !low)));
             let test = Some(Instr::AndCc(by_immediate(0, register, low)));
-            let end = branch(function, Cond::NotEqual, self.exit);
-            self.push(function, &[test], end, memory);
+            let end = branch(blocks.len(), Cond::NotEqual, self.exit);
+            self.push(blocks, &[test], end, memory);
         }
-        match plan.way {
-            Way::Never => self.push(function, &[], End::Jump(self.beyond), memory),
-            Way::Known => self.push(function, &[mask], End::Jump(self.rest), memory),
-            Way::Above(hi) => {
-                let compare = comparing(register, hi, FROM);
-                self.push_compared(function, (mask, NOTHING, compare), None, memory);
-            }
+        let ([a, b, c], [d, e, f]) = match plan.way {
+            Way::Never => return self.push(blocks, &[], End::Jump(self.beyond), memory),
+            Way::Known => return self.push(blocks, &[mask], End::Jump(self.rest), memory),
+            Way::Above(hi) => ([None, None, None], comparing(register, hi, FROM)),
             Way::Within { lo, length } => {
-                let parts = (
-                    mask,
-                    subtracting(register, lo),
-                    comparing(REST, length, NUMBER),
-                );
-                let give_back = Some(Instr::Add(back(register, lo)));
-                self.push_compared(function, parts, give_back, memory);
+                (subtracting(register, lo), comparing(REST, length, NUMBER))
             }
-        }
+        };
+        let give_back = match plan.way {
+            Way::Within { lo, .. } => Some(Instr::Add(back(register, lo))),
+            _ => None,
+        };
+        let end = branch(blocks.len(), Cond::GreaterUnsigned, self.beyond);
+        self.push(blocks, &[mask, a, b, c, d, e, f], end, memory);
+        self.push(blocks, &[give_back], End::Jump(self.rest), memory);
     }
 }

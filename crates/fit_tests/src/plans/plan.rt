@@ -15,14 +15,9 @@ pub struct Plan {
 }
 
 impl Plan {
-    /// Whether the word is known to lie within its bounds.
-    pub fn is_known(&self) -> bool {
-        matches!(self.way, Way::Known)
-    }
-
     /// Whether nothing can be said of the word that isn't known.
     pub fn says_nothing(&self) -> bool {
-        self.is_known() && self.alignment == 0
+        matches!(self.way, Way::Known) & (self.alignment == 0)
     }
 }
 
@@ -39,38 +34,35 @@ pub enum Way {
     Never,
 }
 
-/// A number that is a signed word and not below 0.
-fn above(hi: i64) -> Way {
-    match i32::try_from(hi) {
-        Ok(hi) if hi >= 0 => Way::Above(hi),
-        _ => Way::Never,
-    }
-}
-
-/// Numbers that are signed words, and whose difference is one.
-fn within(lo: i64, hi: i64) -> Way {
-    let length = hi.saturating_sub(lo);
-    match (i32::try_from(lo), i32::try_from(length)) {
-        (Ok(lo), Ok(length)) if length >= 0 => Way::Within { lo, length },
-        _ => Way::Never,
-    }
-}
-
-/// How a word of a range is seen to lie in bounds, where its multiples are looked at or not.
+/// How a word of a range is seen to lie in bounds, where its multiples are looked at or not. The numbers that it is
+/// compared with have to be signed words.
 fn way_of(range: Range, bounds: &Bounds, alignment: u8) -> Way {
     let (lo, hi) = (bounds.lo, bounds.hi);
     let (least, greatest) = (i64::from(range.lo), i64::from(range.hi));
     if hi < lo {
-        Way::Never
-    } else if lo <= least && greatest <= hi {
-        Way::Known
-    } else if lo == 0 || (lo < 0 && least >= 0) {
-        above(hi)
-    } else if bounds.object.is_none() || alignment > 0 {
+        return Way::Never;
+    }
+    if (lo <= least) & (greatest <= hi) {
+        return Way::Known;
+    }
+    if (lo == 0) | (lo < 0) & (least >= 0) {
+        return match i32::try_from(hi) {
+            Ok(hi) if hi >= 0 => Way::Above(hi),
+            _ => Way::Never,
+        };
+    }
+    let first = if bounds.object.is_none() | (alignment > 0) {
         // A multiple of 8 that isn't below.
-        within(lo.saturating_add(7) & -8, hi)
+        lo.saturating_add(7) & -8
     } else {
-        within(lo, hi)
+        lo
+    };
+    match (
+        i32::try_from(first),
+        i32::try_from(hi.saturating_sub(first)),
+    ) {
+        (Ok(lo), Ok(length)) if length >= 0 => Way::Within { lo, length },
+        _ => Way::Never,
     }
 }
 

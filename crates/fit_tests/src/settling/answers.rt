@@ -1,11 +1,11 @@
 //! What is put into a program for one thing that isn't shown.
 use crate::asks::{Access, Ask};
 use crate::cuts::{
-    Memory, clearing, codes_again, copy_block, cut_block, go_by, in_use, insert_instr, number_in,
-    push_instrs, push_made, register, y_writer,
+    clearing, codes_again, copy_block, cut_block, go_by, in_use, insert_instr, number_in,
+    push_block, push_instrs, register, y_writer,
 };
 use crate::plans::{Frame, Kind, Plan, Test, given_back, push_divisor_test};
-use fit_code::{Block, End, Function, Line, Step};
+use fit_code::{Block, End, Function, Line, Memory};
 use fit_ranges::{Bounds, Origin, operands_of};
 use sbx_range::Range;
 use std::alloc::Global;
@@ -47,6 +47,18 @@ pub struct Tests {
     pub(crate) changed: Vec<(usize, usize)>,
     /// Whether memory was refused for tests that were put in since it was asked.
     pub(crate) memory: Memory,
+    /// The first of what can't be tested.
+    pub(crate) refused: Option<Refused>,
+}
+
+/// What can't be tested: a line of a function, and why.
+#[derive(Clone, Copy)]
+pub(crate) struct Refused {
+    pub function: usize,
+    pub line: Line,
+    pub what: &'static str,
+    /// Whether it is a division by 0, which any function refuses.
+    pub is_by_zero: bool,
 }
 
 /// How an address that isn't shown is tested.
@@ -61,6 +73,9 @@ pub(crate) struct Planned {
 /// Why something can't be tested; nothing where its test, or what has to come before it, is put in.
 pub(crate) type Answer = Option<&'static str>;
 
+/// The register of the exit word, %o0.
+const EXIT_WORD: u8 = 8;
+
 /// The scratch register that the sum of an access's two parts is put into, %g7.
 pub(crate) const SUM: u8 = 7;
 
@@ -71,62 +86,31 @@ const NO_BOUNDS: Bounds = Bounds {
     object: None,
 };
 
-/// Lets an access go by %g7, into which the sum of its two parts, which this is, has to be put before. Nothing of one
-/// that goes by %g7 already, and where scratch registers are in use.
-fn summed(frame: u32, block: &mut Block, place: usize) -> Option<Three> {
-    if place >= block.steps.len() || in_use(frame, block, place).scratch {
-        return None;
-    }
-    let instr = &mut block.steps[place].instr;
-    let Some((rs1, operand2)) = operands_of(frame, instr) else {
-        return None;
-    };
-    if rs1.number() == SUM {
-        return None;
-    }
-    let rd = register(SUM);
-    go_by(instr, rd);
-    Some(Three { rd, rs1, operand2 })
-}
-
-/// Puts the sum of an access's parts into one register, that may then be tested.
-fn join_address(code: &mut Function, ask: &Ask, memory: &mut Memory) -> Answer {
-    if ask.block < code.blocks.len()
-        && let Some(sum) = summed(code.frame, &mut code.blocks[ask.block], ask.place)
+/// Lets an access go by %g7, into which the sum of its two parts is put before, that it may then be tested. Not one
+/// that goes by %g7 already, and not where scratch registers are in use.
+fn join_address(frame: u32, block: &mut Block, ask: &Ask, memory: &mut Memory) -> Answer {
+    let place = ask.place;
+    if place < block.steps.len()
+        && !in_use(frame, block, place).scratch
+        && let Some((rs1, operand2)) = operands_of(frame, &block.steps[place].instr)
+        && rs1.number() != SUM
     {
-        memory.take(insert_instr(code, ask.block, ask.place, Instr::Add(sum), ask.line));
+        let rd = register(SUM);
+        go_by(&mut block.steps[place].instr, rd);
+        let sum = Instr::Add(Three { rd, rs1, operand2 });
+        insert_instr(block, place, sum, ask.line, memory);
         return None;
     }
     Some("an address that can't be tested")
 }
 
 /// Sets codes again behind a block's last step, that a test before it may stand between.
-fn free_codes(code: &mut Function, ask: &Ask, memory: &mut Memory) -> Answer {
-    if ask.block < code.blocks.len()
-        && let Some(instr) = codes_again(code.frame, &code.blocks[ask.block])
-    {
-        let block = &mut code.blocks[ask.block];
+fn free_codes(frame: u32, block: &mut Block, memory: &mut Memory) -> Answer {
+    if let Some(instr) = codes_again(frame, block) {
         memory.take(push_instrs(&mut block.steps, &[Some(instr)], block.line));
-        return None;
-    }
-    Some("no place for a test: codes, Y or scratch registers are in use")
-}
-
-/// Takes a division, which is the last step of a block, and the WRY at a place out of it, WRY first; the block goes on
-/// to another one.
-fn take_division(code: &mut Function, number: usize, place: usize, to: usize) -> Option<[Step; 2]> {
-    if number >= code.blocks.len() {
-        return None;
-    }
-    let block = &mut code.blocks[number];
-    block.end = End::Jump(to);
-    let Some(division) = block.steps.pop() else {
-        return None;
-    };
-    if place < block.steps.len() {
-        Some([block.steps.remove(place), division])
-    } else {
         None
+    } else {
+        Some("no place for a test: codes, Y or scratch registers are in use")
     }
 }
 
@@ -137,29 +121,11 @@ fn place_of_test(frame: u32, block: &Block, origin: &Origin, first: usize) -> Op
     let first = if is_sum { origin.last } else { first };
     for place in first..=origin.last {
         let used = in_use(frame, block, place);
-        if !used.codes && !used.y && (is_sum || !used.scratch) {
+        if !(used.codes | used.y | used.scratch & !is_sum) {
             return Some(place);
         }
     }
     None
-}
-
-/// The same of an address with these plans: if the steps from there to the access are to stand twice, right before the
-/// access, if that may be.
-fn place_of(frame: u32, block: &Block, planned: &Planned) -> Option<usize> {
-    let origin = &planned.origin;
-    if planned.constants.is_some()
-        && let Some(place) = place_of_test(frame, block, origin, origin.last)
-    {
-        return Some(place);
-    }
-    place_of_test(frame, block, origin, origin.first)
-}
-
-/// Whether something of what tests work with is in use before the step at a place of a block.
-fn is_something_used(frame: u32, block: &Block, place: usize) -> bool {
-    let used = in_use(frame, block, place);
-    used.codes || used.y || used.scratch
 }
 
 /// The test of a load among the constants, behind which the first steps of a block stand once more, so many that the
@@ -173,21 +139,22 @@ fn push_both(
     second: &Plan,
     memory: &mut Memory,
 ) -> usize {
-    if first.rest < code.blocks.len()
-        && !is_something_used(code.frame, &code.blocks[first.rest], count)
-    {
-        cut_block(first.alloc, code, first.rest, count, memory);
+    if first.rest < code.blocks.len() {
+        let used = in_use(code.frame, &code.blocks[first.rest], count);
+        if !(used.codes | used.y | used.scratch) {
+            cut_block(first.alloc, &mut code.blocks, first.rest, count, memory);
+        }
     }
     let copy = code.blocks.len();
-    copy_block(first.alloc, code, first.rest, 0, memory);
+    copy_block(first.alloc, &mut code.blocks, first.rest, 0, memory);
     let head = code.blocks.len();
     let behind = End::Jump(head.saturating_add(1));
-    first.push(code, &[given_back(plan)], behind, memory);
+    first.push(&mut code.blocks, &[given_back(plan)], behind, memory);
     let frame = Frame {
         rest: copy,
         ..*first
     };
-    frame.push_test(code, second, memory);
+    frame.push_test(&mut code.blocks, second, memory);
     head
 }
 
@@ -202,49 +169,22 @@ impl Tests {
         line: Line,
     ) -> Answer {
         if self.cleared.contains(&(function, location)) {
-            if self.changed.contains(&(function, 0)) {
-                return None;
-            }
-            return Some("a register is read that a call has left undefined");
+            return if self.changed.contains(&(function, 0)) {
+                None
+            } else {
+                Some("a register is read that a call has left undefined")
+            };
         }
         self.memory.push(&mut self.cleared, (function, location));
         self.memory.push(&mut self.changed, (function, 0));
-        self.memory
-            .take(insert_instr(code, 0, 0, clearing(location), line));
-        None
-    }
-
-    /// The block that ends the run where this is the exit word of a line of a function, if there is one yet.
-    fn known_exit(&self, function: usize, line: Line, word: i32) -> Option<usize> {
-        for exit in &self.exits {
-            if exit.word == word && exit.function == function && exit.line == line {
-                return Some(exit.block);
-            }
+        if let Some(first) = code.blocks.first_mut() {
+            insert_instr(first, 0, clearing(location), line, &mut self.memory);
         }
         None
     }
 
-    /// The block that ends the run for tests of a kind in a line.
-    fn exit_of(&mut self, code: &mut Function, function: usize, kind: Kind, line: Line) -> usize {
-        let number = line.number.min(0xffff).cast_signed();
-        let word = kind.number().saturating_mul(65_536).saturating_add(number);
-        if let Some(block) = self.known_exit(function, line, word) {
-            return block;
-        }
-        let block = code.blocks.len();
-        let exit = Exit {
-            function,
-            line,
-            word,
-            block,
-        };
-        self.memory.push(&mut self.exits, exit);
-        let (instrs, end) = (number_in(8, word), (End::Exit, line));
-        push_made(self.alloc, code, &instrs, end, &mut self.memory);
-        block
-    }
-
-    /// Cuts a block at a place for a test of a kind; says where the test's blocks go.
+    /// Cuts a block at a place for a test of a kind; says where the test's blocks go. Tests of one kind in one line of
+    /// a function end the run in one block.
     fn cut_for(
         &mut self,
         code: &mut Function,
@@ -253,14 +193,40 @@ impl Tests {
         place: usize,
         kind: Kind,
     ) -> Frame {
-        let exit = self.exit_of(code, function, kind, ask.line);
-        let rest = cut_block(self.alloc, code, ask.block, place, &mut self.memory);
+        let line = ask.line;
+        let number = line.number.min(0xffff).cast_signed();
+        let word = kind.number().saturating_mul(65_536).saturating_add(number);
+        let mut exit = code.blocks.len();
+        let mut is_known = false;
+        for known in self.exits.as_slice() {
+            if (known.word == word) & (known.function == function) & (known.line == line) {
+                exit = known.block;
+                is_known = true;
+            }
+        }
+        if !is_known {
+            let made = Exit {
+                function,
+                line,
+                word,
+                block: exit,
+            };
+            self.memory.push(&mut self.exits, made);
+            let instrs = number_in(EXIT_WORD, word);
+            self.memory.take(push_block(self.alloc, &mut code.blocks, &instrs, End::Exit, line));
+        }
         Frame {
             alloc: self.alloc,
-            line: ask.line,
+            line,
             exit,
             beyond: exit,
-            rest,
+            rest: cut_block(
+                self.alloc,
+                &mut code.blocks,
+                ask.block,
+                place,
+                &mut self.memory,
+            ),
         }
     }
 
@@ -285,7 +251,7 @@ impl Tests {
             frame.beyond = push_both(code, &frame, count, plan, second, &mut self.memory);
         }
         let head = code.blocks.len();
-        frame.push_test(code, plan, &mut self.memory);
+        frame.push_test(&mut code.blocks, plan, &mut self.memory);
         if ask.block < code.blocks.len() {
             code.blocks[ask.block].end = End::Jump(head);
         }
@@ -312,19 +278,34 @@ impl Tests {
         access: &Access,
         planned: &Option<Planned>,
     ) -> Answer {
-        let Some(planned) = planned else {
-            return join_address(code, ask, &mut self.memory);
-        };
-        if planned.plan.says_nothing() {
-            return Some("an address that can't be tested: a constant is stored to, or it wraps");
-        }
-        if ask.block < code.blocks.len()
-            && let Some(place) = place_of(code.frame, &code.blocks[ask.block], planned)
-        {
-            self.test_at(code, function, place, ask, access, planned);
+        if ask.block >= code.blocks.len() {
             return None;
         }
-        free_codes(code, ask, &mut self.memory)
+        let block = &mut code.blocks[ask.block];
+        match planned {
+            None => join_address(code.frame, block, ask, &mut self.memory),
+            Some(planned) if planned.plan.says_nothing() => {
+                Some("an address that can't be tested: a constant is stored to, or it wraps")
+            }
+            Some(planned) => {
+                let origin = &planned.origin;
+                let mut found = None;
+                if planned.constants.is_some() {
+                    // the steps from there to the access are to stand twice: right before it, if that may be
+                    found = place_of_test(code.frame, block, origin, origin.last);
+                }
+                if found.is_none() {
+                    found = place_of_test(code.frame, block, origin, origin.first);
+                }
+                match found {
+                    Some(place) => {
+                        self.test_at(code, function, place, ask, access, planned);
+                        None
+                    }
+                    None => free_codes(code.frame, block, &mut self.memory),
+                }
+            }
+        }
     }
 
     /// Tests a divisor: the block is cut behind the division, which goes with its WRY to the test.
@@ -340,19 +321,19 @@ impl Tests {
         if ask.block >= code.blocks.len() {
             return None;
         }
-        let block = &code.blocks[ask.block];
+        let block = &mut code.blocks[ask.block];
         if in_use(frame, block, place).codes {
-            return free_codes(code, ask, &mut self.memory);
+            return free_codes(frame, block, &mut self.memory);
         }
-        let Some((writer, is_constant)) = y_writer(frame, block, place) else {
-            return Some("a division whose upper word isn't written beside it");
-        };
         let is_shared = in_use(frame, block, place.saturating_add(1)).y;
-        if is_shared && !is_constant {
-            return Some("two divisions of one upper word");
+        match y_writer(frame, block, place) {
+            Some((_, false)) if is_shared => Some("two divisions of one upper word"),
+            Some((writer, _)) => {
+                self.divide_at(code, function, ask, register, range, (writer, is_shared));
+                None
+            }
+            None => Some("a division whose upper word isn't written beside it"),
         }
-        self.divide_at(code, function, ask, register, range, (writer, is_shared));
-        None
     }
 
     /// The same, where the WRY stands at a place.
@@ -368,24 +349,33 @@ impl Tests {
         let behind = ask.place.saturating_add(1);
         let frame = self.cut_for(code, function, ask, behind, Kind::Divisor);
         let head = code.blocks.len();
-        let Some(steps) = take_division(code, ask.block, writer, head) else {
-            return;
-        };
-        if is_shared {
-            self.memory.take(insert_instr(code, frame.rest, 0, steps[0].instr, steps[0].line));
+        if ask.block < head && frame.rest < head {
+            let block = &mut code.blocks[ask.block];
+            block.end = End::Jump(head);
+            if let Some(division) = block.steps.pop()
+                && writer < block.steps.len()
+            {
+                let writing = block.steps.remove(writer);
+                if is_shared {
+                    let rest = &mut code.blocks[frame.rest];
+                    insert_instr(rest, 0, writing.instr, writing.line, &mut self.memory);
+                }
+                let steps = [writing, division];
+                let blocks = &mut code.blocks;
+                push_divisor_test(&frame, blocks, register, range, &steps, &mut self.memory);
+                let test = Test {
+                    line: ask.line,
+                    kind: Kind::Divisor,
+                    range,
+                    function,
+                    head,
+                    rest: blocks.len().saturating_sub(1),
+                    register,
+                    bounds: NO_BOUNDS,
+                    alignment: 0,
+                };
+                self.memory.push(&mut self.list, test);
+            }
         }
-        push_divisor_test(&frame, code, register, range, &steps, &mut self.memory);
-        let test = Test {
-            line: ask.line,
-            kind: Kind::Divisor,
-            range,
-            function,
-            head,
-            rest: code.blocks.len().saturating_sub(1),
-            register,
-            bounds: NO_BOUNDS,
-            alignment: 0,
-        };
-        self.memory.push(&mut self.list, test);
     }
 }

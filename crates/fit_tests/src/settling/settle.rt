@@ -1,9 +1,9 @@
 //! Tests put into a program until nothing is left that isn't shown.
 use crate::asks::{Access, Ask, Asking, Lack, asks_of, needed_alignment, shorten_block};
-use crate::cuts::{Memory, clearing, drop_compare, insert_instr};
-use crate::plans::{Kind, Test, plan_in};
-use crate::settling::answers::{Answer, Options, Planned, SUM, Tests};
-use fit_code::{Block, End, Fault, Function, NO_LINE, Program, Reason};
+use crate::cuts::{clearing, drop_compare, insert_instr};
+use crate::plans::{Kind, Test, Way, plan_in};
+use crate::settling::answers::{Answer, Options, Planned, Refused, SUM, Tests};
+use fit_code::{End, Fault, Function, Memory, NO_LINE, Program, Reason};
 use fit_graph::range_in;
 use fit_ranges::{Origin, Ranges, bounds_in_constants, bounds_of};
 use sbx_domain::State;
@@ -22,20 +22,18 @@ fn with_plan(program: &Program, access: &Access, origin: Origin) -> Planned {
     let needed = needed_alignment(access.size);
     let size = i64::from(access.size);
     let plan = plan_in(&origin, bounds_of(program, &origin, size), needed);
-    let has_one = access.writes || plan.bounds.object.is_some() || plan.is_known();
-    let constants = if has_one {
-        None
-    } else {
-        bounds_in_constants(program, &origin, size)
-    };
-    Planned {
+    let mut planned = Planned {
         origin,
         plan,
-        constants: match constants {
-            Some(bounds) => Some(plan_in(&origin, bounds, needed)),
-            None => None,
-        },
+        constants: None,
+    };
+    let is_known = matches!(plan.way, Way::Known);
+    if !(access.writes | plan.bounds.object.is_some() | is_known)
+        && let Some(bounds) = bounds_in_constants(program, &origin, size)
+    {
+        planned.constants = Some(plan_in(&origin, bounds, needed));
     }
+    planned
 }
 
 /// How what isn't shown is tested, where it is an address: by what it is worked out from, if more can be known of that,
@@ -73,149 +71,89 @@ fn is_needless(test: &Test, ranges: &Ranges) -> bool {
     let Some(cells) = ranges.cells(test.function, test.head) else {
         return true;
     };
-    let Some(range) = range_in(cells, u16::from(test.register)) else {
-        return false;
-    };
-    if matches!(test.kind, Kind::Divisor) {
-        return excludes_zero(range);
+    match range_in(cells, u16::from(test.register)) {
+        Some(range) if matches!(test.kind, Kind::Divisor) => excludes_zero(range),
+        Some(range) => {
+            let is_above = test.bounds.lo <= i64::from(range.lo);
+            let is_below = i64::from(range.hi) <= test.bounds.hi;
+            is_above & is_below & (test.alignment <= range.alignment)
+        }
+        None => false,
     }
-    test.bounds.lo <= i64::from(range.lo)
-        && i64::from(range.hi) <= test.bounds.hi
-        && test.alignment <= range.alignment
-}
-
-/// A fault of an ask that can't be answered.
-fn refused(program: &Program, function: usize, ask: &Ask, what: &'static str) -> Fault {
-    let is_by_zero = matches!(ask.lack, Lack::Divisible(Operand::Immediate(_), _));
-    if is_by_zero || function >= program.functions.len() {
-        return Fault::new(ask.line, Reason::Unreadable(what));
-    }
-    match program.functions[function].name.clone() {
-        Ok(function) => Fault::new(ask.line, Reason::Form { function, what }),
-        Err(error) => Fault::from(error),
-    }
-}
-
-/// Lets control go by a test.
-fn skip(program: &mut Program, test: &Test) {
-    if test.function >= program.functions.len() {
-        return;
-    }
-    let code = &mut program.functions[test.function];
-    if test.head < code.blocks.len() {
-        let block = &mut code.blocks[test.head];
-        block.steps.clear();
-        block.end = End::Jump(test.rest);
-    }
-}
-
-/// Makes a block's branch of which only one of the two ways may be open go that one alone; says whether it did.
-fn close_way(block: &mut Block, (first, second): (bool, bool)) -> bool {
-    let End::Branch { taken, next, .. } = block.end else {
-        return false;
-    };
-    if first == second {
-        return false;
-    }
-    block.end = End::Jump(if first { taken } else { next });
-    drop_compare(block);
-    true
 }
 
 impl Tests {
-    /// Answers one ask of a function.
-    fn answer(
-        &mut self,
-        code: &mut Function,
-        function: usize,
-        ask: &Ask,
-        planned: &Option<Planned>,
-    ) -> Answer {
+    /// Answers one ask of a function, unless its block is changed already, or its register and object are among the
+    /// keys, to which they are added.
+    fn answer(&mut self, program: &mut Program, function: usize, ask: &Ask) -> Answer {
+        let planned = planned(program, ask);
+        if function >= program.functions.len() {
+            return None;
+        }
+        let code = &mut program.functions[function];
+        if let Lack::Defined(location) = ask.lack {
+            return self.clear_at_entry(code, function, location, ask.line);
+        }
+        if self.changed.contains(&(function, ask.block)) {
+            return None;
+        }
+        if let Some(planned) = &planned {
+            let key = (planned.origin.register, planned.plan.bounds.object);
+            if self.keys.contains(&key) {
+                return None;
+            }
+            self.memory.push(&mut self.keys, key);
+        }
+        self.memory.push(&mut self.changed, (function, ask.block));
         match &ask.lack {
-            Lack::Defined(location) => self.clear_at_entry(code, function, *location, ask.line),
-            Lack::Given(location) => {
-                let clear = clearing(*location);
-                self.memory
-                    .take(insert_instr(code, ask.block, ask.place, clear, ask.line));
+            Lack::Given(location) if ask.block < code.blocks.len() => {
+                let (block, clear) = (&mut code.blocks[ask.block], clearing(*location));
+                insert_instr(block, ask.place, clear, ask.line, &mut self.memory);
                 None
             }
-            Lack::Placed(access) => self.test_access(code, function, ask, access, planned),
+            Lack::Placed(access) => self.test_access(code, function, ask, access, &planned),
             Lack::Divisible(Operand::Register(register), range) => {
                 self.test_divisor(code, function, ask, register.number(), *range)
             }
             Lack::Divisible(Operand::Immediate(_), _) => Some("a division by 0"),
+            // what a location is defined for was answered at the entry
+            Lack::Given(_) | Lack::Defined(_) => None,
         }
     }
 
-    /// Answers one ask of a function, unless its block is changed already, or its register and object are among the
-    /// keys, to which they are added.
-    fn answer_once(&mut self, program: &mut Program, function: usize, ask: &Ask) -> Answer {
-        // a location is defined at the entry
-        let is_here = !matches!(ask.lack, Lack::Defined(_));
-        if is_here && self.changed.contains(&(function, ask.block)) {
-            return None;
-        }
-        let planned = planned(program, ask);
-        if let Some(planned) = &planned
-            && !self.add_key(planned)
-        {
-            return None;
-        }
-        if is_here {
-            self.memory.push(&mut self.changed, (function, ask.block));
-        }
-        if function >= program.functions.len() {
-            return None;
-        }
-        self.answer(&mut program.functions[function], function, ask, &planned)
-    }
-
-    /// Adds the register and the object of a test to the keys; says whether they weren't among them.
-    fn add_key(&mut self, planned: &Planned) -> bool {
-        let key = (planned.origin.register, planned.plan.bounds.object);
-        if self.keys.contains(&key) {
-            return false;
-        }
-        self.memory.push(&mut self.keys, key);
-        true
-    }
-
-    /// A fault of an ask that can't be answered, or want of memory.
-    fn check(
-        &self,
-        program: &Program,
-        function: usize,
-        ask: &Ask,
-        answer: Answer,
-    ) -> Result<(), Fault> {
-        self.memory.told()?;
-        match answer {
-            Some(what) => Err(refused(program, function, ask, what)),
-            None => Ok(()),
-        }
-    }
-
-    /// Answers what isn't shown of a function, once in each of its blocks, and once for each register and object.
+    /// Answers what isn't shown of a function, once in each of its blocks, and once for each register and object, up to
+    /// what can't be answered.
     fn answer_function(
         &mut self,
         program: &mut Program,
         ranges: &Ranges,
         function: usize,
         state: &mut State,
-    ) -> Result<(), Fault> {
+    ) {
         let asking = Asking {
             alloc: self.alloc,
             program,
             ranges,
             by_object: self.options.by_object,
         };
-        let asks = asks_of(&asking, function, state)?;
+        let asks = match asks_of(&asking, function, state) {
+            Ok(asks) => asks,
+            Err(error) => return self.memory.take(Err(error)),
+        };
         self.keys.clear();
-        for ask in &asks {
-            let answer = self.answer_once(program, function, ask);
-            self.check(program, function, ask, answer)?;
+        for ask in asks.as_slice() {
+            if self.refused.is_none()
+                && let Some(what) = self.answer(program, function, ask)
+            {
+                let is_by_zero = matches!(ask.lack, Lack::Divisible(Operand::Immediate(_), _));
+                self.refused = Some(Refused {
+                    function,
+                    line: ask.line,
+                    what,
+                    is_by_zero,
+                });
+            }
         }
-        Ok(())
     }
 
     /// Writes a function's sums in a way of which more is known.
@@ -226,73 +164,77 @@ impl Tests {
         function: usize,
         state: &mut State,
     ) {
-        if function >= program.functions.len() {
-            return;
-        }
-        for block in 0..program.functions[function].blocks.len() {
-            if shorten_block(program, ranges, (function, block), state) {
-                self.memory.push(&mut self.changed, (function, block));
-            }
-        }
-    }
-
-    /// Takes out the tests that aren't needed.
-    fn drop_needless(&mut self, program: &mut Program, ranges: &Ranges) {
-        let mut kept: usize = 0;
-        for place in 0..self.list.len() {
-            if place < self.list.len() {
-                let test = self.list[place];
-                if is_needless(&test, ranges) {
-                    skip(program, &test);
-                    self.memory
-                        .push(&mut self.changed, (test.function, test.head));
-                } else if kept < self.list.len() {
-                    self.list[kept] = test;
-                    kept = kept.saturating_add(1);
+        if function < program.functions.len() {
+            for block in 0..program.functions[function].blocks.len() {
+                if shorten_block(program, ranges, (function, block), state) {
+                    self.memory.push(&mut self.changed, (function, block));
                 }
             }
         }
-        self.list.truncate(kept);
     }
 
-    /// Makes a function's branches of which one way can't be gone go the other one alone.
-    fn close_ways(&mut self, program: &mut Program, ranges: &Ranges, function: usize) {
-        if function >= program.functions.len() {
-            return;
+    /// Takes out the tests that aren't needed: control goes by them.
+    fn drop_needless(&mut self, program: &mut Program, ranges: &Ranges) {
+        let list = mem::replace(&mut self.list, Vec::new(self.alloc));
+        let functions = program.functions.as_mut_slice();
+        for test in list.as_slice() {
+            if !is_needless(test, ranges) {
+                self.memory.push(&mut self.list, *test);
+            } else if test.function < functions.len() {
+                let code = &mut functions[test.function];
+                let blocks = code.blocks.as_mut_slice();
+                if test.head < blocks.len() {
+                    let block = &mut blocks[test.head];
+                    block.steps.clear();
+                    block.end = End::Jump(test.rest);
+                }
+                self.memory
+                    .push(&mut self.changed, (test.function, test.head));
+            }
         }
-        let code = &mut program.functions[function];
-        for number in 0..code.blocks.len() {
-            if number < code.blocks.len()
-                && close_way(&mut code.blocks[number], ranges.open_ways(function, number))
+    }
+
+    /// Makes the branches of a function's blocks of which one way can't be gone go the other one alone.
+    fn close_ways(&mut self, code: &mut Function, ranges: &Ranges, function: usize) {
+        for (number, block) in code.blocks.iter_mut().enumerate() {
+            let (first, second) = ranges.open_ways(function, number);
+            if let End::Branch { taken, next, .. } = block.end
+                && first != second
             {
+                block.end = End::Jump(if first { taken } else { next });
+                drop_compare(block);
                 self.memory.push(&mut self.changed, (function, number));
             }
         }
     }
 
-    /// Takes out what isn't needed: tests, and ways that can't be gone.
-    fn drop_all(&mut self, program: &mut Program, ranges: &Ranges) {
-        self.drops = self.drops.saturating_add(1);
-        self.drop_needless(program, ranges);
+    /// What is done in a round, where the ranges are those of the program as it stands: what isn't shown is answered,
+    /// or, where all is, ways that can't be gone are taken out.
+    fn round(&mut self, program: &mut Program, ranges: &Ranges, is_shown: bool, state: &mut State) {
         for function in 0..program.functions.len() {
-            self.close_ways(program, ranges, function);
+            if is_shown && function < program.functions.len() {
+                self.close_ways(&mut program.functions[function], ranges, function);
+            } else if self.refused.is_none() {
+                self.answer_function(program, ranges, function, state);
+            }
         }
     }
 
-    /// What is done in a round, where the ranges are those of the program as it stands.
-    fn round(
-        &mut self,
-        program: &mut Program,
-        ranges: &Ranges,
-        state: &mut State,
-    ) -> Result<(), Fault> {
-        for function in 0..program.functions.len() {
-            self.answer_function(program, ranges, function, state)?;
+    /// What came of the tests of a program with these ranges: want of memory, the fault of what can't be tested, or
+    /// that of more than an image may say.
+    fn outcome(&self, program: &Program, ranges: &Ranges) -> Result<(), Fault> {
+        self.memory.told(())?;
+        let Some(refused) = &self.refused else {
+            return ranges.check_limits(program);
+        };
+        let (line, what) = (refused.line, refused.what);
+        if refused.is_by_zero || refused.function >= program.functions.len() {
+            return Err(Fault::new(line, Reason::Unreadable(what)));
         }
-        if self.changed.is_empty() && self.options.drops && self.drops < DROPS {
-            self.drop_all(program, ranges);
+        match program.functions[refused.function].name.clone() {
+            Ok(function) => Err(Fault::new(line, Reason::Form { function, what })),
+            Err(error) => Err(Fault::from(error)),
         }
-        Ok(())
     }
 
     /// Puts tests into a program, of which these are the ranges, until nothing is left that isn't shown.
@@ -307,10 +249,15 @@ impl Tests {
                 ranges.renew(program, self.changed.as_slice(), state)?;
                 self.changed.clear();
             }
-            self.round(program, ranges, state)?;
-            self.memory.told()?;
-            if self.changed.is_empty() {
-                return ranges.check_limits(program);
+            self.round(program, ranges, false, state);
+            if self.changed.is_empty() && self.options.drops && self.drops < DROPS {
+                self.drops = self.drops.saturating_add(1);
+                self.drop_needless(program, ranges);
+                self.round(program, ranges, true, state);
+            }
+            let is_over = self.refused.is_some() | self.memory.is_refused;
+            if is_over | self.changed.is_empty() {
+                return self.outcome(program, ranges);
             }
         }
         Err(Fault::new(
@@ -341,13 +288,14 @@ pub fn add_tests(
         cleared: Vec::new(alloc),
         drops: 0,
         changed: Vec::new(alloc),
-        memory: Memory::new(),
+        memory: Memory::new(alloc),
+        refused: None,
     };
     for function in 0..program.functions.len() {
         tests.shorten(program, ranges, function, state);
     }
     match tests.settle(program, ranges, state) {
-        Ok(()) => Ok(mem::replace(&mut tests.list, Vec::new(alloc))),
+        Ok(()) => Ok(tests.list),
         Err(fault) => Err(fault),
     }
 }

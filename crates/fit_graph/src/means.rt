@@ -1,0 +1,37 @@
+//! What looking for something takes.
+use fit_code::{Fault, Line, Memory, Reason};
+use std::alloc::AllocError;
+
+/// Memory, and rounds, which may be too many. Either is told when all is done: where something lacks, nothing more is
+/// looked for.
+#[derive(Clone, Copy)]
+pub struct Means {
+    pub memory: Memory,
+    /// What there were too many of, how many there may be, and at which line.
+    pub spent: Option<(Line, &'static str, u64)>,
+}
+
+impl Means {
+    /// More than so many of something were to be made, if nothing lacked before.
+    pub fn spend(&mut self, line: Line, what: &'static str, most: u64) {
+        if !self.are_used_up() {
+            self.spent = Some((line, what, most));
+        }
+    }
+
+    /// Whether something lacks.
+    pub fn are_used_up(&self) -> bool {
+        self.memory.is_refused | self.spent.is_some()
+    }
+
+    /// What lacked first.
+    pub fn told(&self) -> Result<(), Fault> {
+        if let Some((line, what, most)) = self.spent {
+            return Err(Fault::new(line, Reason::TooMany { what, most }));
+        }
+        if self.memory.is_refused {
+            return Err(Fault::from(AllocError));
+        }
+        Ok(())
+    }
+}
