@@ -8,7 +8,7 @@ mod words;
 use files::{NoSource, bytes_of, refused, tell, write_source};
 use fit_gas::Source;
 use fit_legal::program_of;
-use fit_passes::{Fault, Made, Plan, make};
+use fit_passes::{Fault, Made, Plan, Reason, make};
 use sbx_files::command_words;
 use std::alloc::Global;
 use std::process::ExitCode;
@@ -39,11 +39,12 @@ fn make_source(alloc: Global, source: &Source, words: &Words<'_>) -> Result<Made
         has_bounds: true,
     };
     let made = attempt(alloc, source, plan);
-    let is_within = match &made {
+    let stands = match &made {
         Ok(made) => made.budget <= turns.saturating_mul(2),
-        Err(_) => false,
+        // Told, and not answered by another source.
+        Err(fault) => matches!(fault.reason, Reason::Memory(_)),
     };
-    if is_within {
+    if stands {
         return made;
     }
     attempt(
