@@ -1,8 +1,9 @@
 //! `fit annotate`: a source in the project's own language gets the annotations that it hasn't got.
 use crate::files::{NoSource, bytes_of, refused, tell, write_source};
 use crate::words::Words;
-use fit_kept::{Annotated, Refusal, annotate};
+use fit_annotate::{Annotated, Refusal, annotate};
 use sbx_asm::{AsmFault, Cause};
+use std::slice::from_ref;
 use v8_syntax::SyntaxFault;
 
 /// What a fault of the assembler's is, in words.
@@ -23,27 +24,24 @@ fn meaning(cause: Cause) -> &'static str {
     }
 }
 
-/// Tells a fault of the assembler's: of a file, or of what would be made of it.
-fn tell_fault(rt: &HostRuntime, path: &str, made: &str, fault: AsmFault) -> NoSource {
-    let AsmFault { line, cause } = fault;
+/// Tells why a source without annotations to give is refused: a fault of its own, or of what would be made of it.
+fn tell_refusal(rt: &HostRuntime, path: &str, refusal: Refusal) -> NoSource {
+    let (made, AsmFault { line, cause }) = match refusal {
+        Refusal::Source(fault) => ("", fault),
+        Refusal::Made(fault) => (" with its annotations", fault),
+        Refusal::Program(fault) => {
+            return match String::from_str(rt.alloc(), path) {
+                Ok(file) => refused(rt, &fault, from_ref(&file)),
+                Err(_error) => NoSource::Memory,
+            };
+        }
+    };
     if matches!(cause, Cause::Memory(_)) {
         return NoSource::Memory;
     }
     let meaning = meaning(cause);
     let _ = eprintln!(rt; "{path}{made}:{line}: refused: {cause}, {meaning}");
     NoSource::Refused
-}
-
-/// Tells why a source without annotations to give is refused.
-fn tell_refusal(rt: &HostRuntime, path: &str, refusal: Refusal) -> NoSource {
-    match refusal {
-        Refusal::Source(fault) => tell_fault(rt, path, "", fault),
-        Refusal::Made(fault) => tell_fault(rt, path, " with its annotations", fault),
-        Refusal::Program(fault) => match String::from_str(rt.alloc(), path) {
-            Ok(file) => refused(rt, &fault, &[file]),
-            Err(_error) => NoSource::Memory,
-        },
-    }
 }
 
 /// Tells each note, and writes the source.

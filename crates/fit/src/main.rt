@@ -5,7 +5,7 @@ mod annotate;
 mod files;
 mod words;
 
-use files::{NoSource, bytes_of, refused, tell, write_source};
+use files::{NoSource, bytes_of, failed, refused, tell, write_source};
 use fit_gas::Source;
 use fit_legal::program_of;
 use fit_passes::{Fault, Made, Plan, Reason, make};
@@ -14,13 +14,15 @@ use std::alloc::Global;
 use std::process::ExitCode;
 use words::{TURNS, USAGE, Words};
 
-/// Reads one source.
-fn read_source(rt: &HostRuntime, source: &mut Source, path: &str) -> Result<(), NoSource> {
-    let bytes = bytes_of(rt, path)?;
-    match source.read(path, bytes.as_slice()) {
-        Ok(()) => Ok(()),
-        Err(fault) => Err(refused(rt, &fault, source.files.as_slice())),
+/// Reads the sources that words name.
+fn read_sources(rt: &HostRuntime, words: &Words<'_>, source: &mut Source) -> Result<(), NoSource> {
+    for path in words.sources.as_slice() {
+        let bytes = bytes_of(rt, path)?;
+        if let Err(fault) = source.read(path, bytes.as_slice()) {
+            return Err(refused(rt, &fault, source.files.as_slice()));
+        }
     }
+    Ok(())
 }
 
 /// Makes an annotated source of assembly.
@@ -47,14 +49,8 @@ fn make_source(alloc: Global, source: &Source, words: &Words<'_>) -> Result<Made
     if stands {
         return made;
     }
-    attempt(
-        alloc,
-        source,
-        Plan {
-            has_bounds: false,
-            ..plan
-        },
-    )
+    let has_bounds = false;
+    attempt(alloc, source, Plan { has_bounds, ..plan })
 }
 
 /// Tells each test, and writes the source.
@@ -68,48 +64,51 @@ fn finish(rt: &HostRuntime, words: &Words<'_>, made: &Made) -> Result<u8, NoSour
 /// Makes one source of assembly, and gives the exit status.
 fn perform(rt: &HostRuntime, words: &Words<'_>) -> Result<u8, NoSource> {
     let mut source = Source::new(rt.alloc());
-    for path in words.sources.as_slice() {
-        read_source(rt, &mut source, *path)?;
-    }
+    read_sources(rt, words, &mut source)?;
     match make_source(rt.alloc(), &source, words) {
         Ok(made) => finish(rt, words, &made),
         Err(fault) => Err(refused(rt, &fault, source.files.as_slice())),
     }
 }
 
-/// The status of words that ask for nothing, which are told what they may be.
-fn usage(rt: &HostRuntime) -> u8 {
-    let _ = eprint!(rt; "{USAGE}");
-    3
-}
-
-/// Does what the words ask for, and gives the exit status.
+/// Does what the words ask for, and gives the exit status: 3 where they ask for nothing, and are told what they may be.
 fn answer(rt: &HostRuntime, all: &[String]) -> Result<u8, NoSource> {
-    let (first, others) = match all.split_first() {
-        Some((first, others)) => (first.as_str(), others),
-        None => ("", all),
+    let (is_annotate, all) = match all {
+        [first, others @ ..] if first.as_str() == "annotate" => (true, others),
+        _ => (false, all),
     };
-    let is_annotate = first == "annotate";
-    let mut words = Words::none(rt.alloc());
-    if !words.take(if is_annotate { others } else { all })? {
-        return Ok(usage(rt));
-    }
+    let mut words = Words {
+        sources: Vec::new(rt.alloc()),
+        out: None,
+        turns: None,
+        is_strict: false,
+        by_region: false,
+    };
+    let is_taken = words.take(all)?;
     match words.sources.as_slice() {
-        [source] if is_annotate && words.turns.is_none() && !words.by_region => {
+        [source] if is_taken & is_annotate && words.turns.is_none() && !words.by_region => {
             annotate::perform(rt, &words, *source)
         }
-        [_, ..] if !is_annotate && words.out.is_some() => perform(rt, &words),
-        _ => Ok(usage(rt)),
+        [_, ..] if is_taken & !is_annotate && words.out.is_some() => perform(rt, &words),
+        _ => {
+            let _ = eprint!(rt; "{USAGE}");
+            Ok(3)
+        }
     }
 }
 
 fn main(rt: HostRuntime) -> ExitCode {
-    let status = match command_words(&rt) {
+    let done = match command_words(&rt) {
         Ok(words) => answer(&rt, words.as_slice()),
-        Err(error) => Err(NoSource::from(error)),
+        Err(error) => Err(failed(&rt, "the command line", &error)),
     };
-    ExitCode::from(match status {
+    ExitCode::from(match done {
         Ok(status) => status,
-        Err(stop) => stop.status(&rt),
+        Err(NoSource::Refused) => 2,
+        Err(NoSource::File) => 4,
+        Err(NoSource::Memory) => {
+            tell(&rt, &"memory");
+            5
+        }
     })
 }

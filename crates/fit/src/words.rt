@@ -1,5 +1,5 @@
 //! What the words of a command line ask for.
-use std::alloc::{AllocError, Global};
+use crate::files::NoSource;
 
 /// The turns that a program's loops may take where the words say nothing.
 pub const TURNS: u64 = 1_000_000_000;
@@ -40,7 +40,7 @@ pub struct Words<'a> {
 }
 
 /// What the next word is.
-#[derive(Clone, Copy)]
+#[derive(Drop)]
 enum Next {
     Any,
     Out,
@@ -48,61 +48,35 @@ enum Next {
 }
 
 impl<'a> Words<'a> {
-    /// Nothing.
-    pub fn none(alloc: Global) -> Words<'a> {
-        Words {
-            sources: Vec::new(alloc),
-            out: None,
-            turns: None,
-            is_strict: false,
-            by_region: false,
-        }
-    }
-
-    /// Takes a word that isn't a value, and says what the one after it is; nothing where the word has no place.
-    fn take_any(&mut self, word: &'a str) -> Result<Option<Next>, AllocError> {
-        match word {
-            "-o" => return Ok(Some(Next::Out)),
-            "--turns" => return Ok(Some(Next::Turns)),
-            "--strict" => self.is_strict = true,
-            "--region" => self.by_region = true,
-            word if matches!(word.as_bytes(), [b'-', ..]) => return Ok(None),
-            source => self.sources.push(source)?,
+    /// Takes a word, and says what the one after it is; nothing where it has no place.
+    fn take_word(&mut self, next: Next, word: &'a str) -> Result<Option<Next>, NoSource> {
+        match (next, word) {
+            (Next::Out, out) if self.out.is_none() => self.out = Some(out),
+            (Next::Turns, turns) => match turns.parse::<u64>() {
+                Ok(turns) if 0 < turns && turns <= MOST && self.turns.is_none() => {
+                    self.turns = Some(turns);
+                }
+                _ => return Ok(None),
+            },
+            (Next::Any, "-o") => return Ok(Some(Next::Out)),
+            (Next::Any, "--turns") => return Ok(Some(Next::Turns)),
+            (Next::Any, "--strict") => self.is_strict = true,
+            (Next::Any, "--region") => self.by_region = true,
+            (Next::Any, source) if !matches!(source.as_bytes(), [b'-', ..]) => {
+                if self.sources.push(source).is_err() {
+                    return Err(NoSource::Memory);
+                }
+            }
+            _ => return Ok(None),
         }
         Ok(Some(Next::Any))
     }
 
-    /// Takes the name of the file that is written; no second one has a place.
-    fn take_out(&mut self, word: &'a str) -> Option<Next> {
-        if self.out.is_some() {
-            return None;
-        }
-        self.out = Some(word);
-        Some(Next::Any)
-    }
-
-    /// Takes a number of turns; no second one has a place.
-    fn take_turns(&mut self, word: &str) -> Option<Next> {
-        match word.parse::<u64>() {
-            Ok(turns) if 0 < turns && turns <= MOST && self.turns.is_none() => {
-                self.turns = Some(turns);
-                Some(Next::Any)
-            }
-            _ => None,
-        }
-    }
-
     /// Takes the words after the program's name, or those after `annotate`; says whether each has a place.
-    pub fn take(&mut self, words: &'a [String]) -> Result<bool, AllocError> {
+    pub fn take(&mut self, words: &'a [String]) -> Result<bool, NoSource> {
         let mut next = Next::Any;
         for word in words {
-            let word = word.as_str();
-            let found = match next {
-                Next::Any => self.take_any(word)?,
-                Next::Out => self.take_out(word),
-                Next::Turns => self.take_turns(word),
-            };
-            match found {
+            match self.take_word(next, word.as_str())? {
                 Some(found) => next = found,
                 None => return Ok(false),
             }

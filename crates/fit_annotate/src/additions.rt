@@ -1,6 +1,8 @@
-//! The annotations that a source hasn't got yet, and where they stand.
+//! The annotations that a source hasn't got yet, and where they stand; and what isn't shown of it.
 use crate::annotation::{Addition, Annotation, Total, Value};
-use crate::lines::{CellLine, Head, Read};
+use crate::lines::{CellLine, Head};
+use crate::notes::{Asked, Note};
+use fit_code::Memory;
 use fit_fuel::Total as Taken;
 use fit_ranges::Ranges;
 use fit_text::BlockNotes;
@@ -9,7 +11,9 @@ use sbx_image::{Cell, Function, Range};
 /// What is known of a function of a program.
 #[derive(Clone, Copy)]
 pub struct Known<'k> {
-    pub read: &'k Read,
+    /// Where its blocks begin in the source, and where the source's cells stand.
+    pub heads: &'k [Head],
+    pub cells: &'k [CellLine],
     pub ranges: &'k Ranges,
     /// Its number.
     pub number: usize,
@@ -22,17 +26,18 @@ pub struct Known<'k> {
     pub blocks: &'k [BlockNotes],
 }
 
-/// What is put into a source.
+/// What is put into a source, and what its author is told.
 #[derive(Drop)]
 pub struct Added {
     pub additions: Vec<Addition>,
     pub totals: Vec<Total>,
-    /// Whether memory was refused, so that some lack.
-    pub lacks: bool,
+    pub notes: Vec<Note>,
+    /// Of which some was refused where something lacks.
+    pub memory: Memory,
 }
 
 /// The line before which the cell of a location stands in a block that has these; none where the source has it.
-fn place_of_cell(head: &Head, cells: &[CellLine], location: u16) -> Option<usize> {
+fn place_of_cell(head: &Head, cells: &[CellLine], location: u16) -> Option<u32> {
     for said in cells {
         if said.location >= location {
             return (said.location > location).then_some(said.line);
@@ -42,22 +47,38 @@ fn place_of_cell(head: &Head, cells: &[CellLine], location: u16) -> Option<usize
 }
 
 impl Added {
+    /// Notes what isn't shown at a line.
+    pub fn note(&mut self, line: u32, asked: Asked) {
+        self.memory.push(&mut self.notes, Note { line, asked });
+    }
+
+    /// A number that the source says at a line or, where that is 0, the one that is found; notes where it doesn't
+    /// suffice.
+    pub fn taken(&mut self, line: u32, what: &'static str, said: u64, least: u64) -> u64 {
+        if said == 0 {
+            return least;
+        }
+        if said < least {
+            self.note(line, Asked::More { what, least });
+        }
+        said
+    }
+
     /// Adds an annotation before a line.
-    fn push(&mut self, before: usize, name: &'static str, location: Option<u16>, value: Value) {
-        let annotation = Annotation {
-            name,
-            location,
-            value,
+    fn push(&mut self, before: u32, name: &'static str, location: Option<u16>, value: Value) {
+        let addition = Addition {
+            before: before as usize,
+            annotation: Annotation {
+                name,
+                location,
+                value,
+            },
         };
-        self.lacks |= self
-            .additions
-            .push(Addition { before, annotation })
-            .is_err();
+        self.memory.push(&mut self.additions, addition);
     }
 
     /// Adds the cells of a block that the source hasn't got.
-    fn add_cells(&mut self, read: &Read, head: &Head, cells: &[Cell]) {
-        let said = read.cells.as_slice();
+    fn add_cells(&mut self, said: &[CellLine], head: &Head, cells: &[Cell]) {
         let said = said.get(head.first_cell..head.next_cell).unwrap_or(&[]);
         for cell in cells {
             if let Some(before) = place_of_cell(head, said, cell.location) {
@@ -78,51 +99,49 @@ impl Added {
     }
 
     /// Adds params or results behind a line, of which the source says so many already.
-    fn add_ranges(&mut self, line: usize, name: &'static str, said: usize, ranges: &[Range]) {
+    fn add_ranges(&mut self, line: u32, name: &'static str, said: usize, ranges: &[Range]) {
         for range in ranges.get(said..).unwrap_or(&[]) {
             self.push(line.saturating_add(1), name, None, Value::Range(*range));
         }
     }
 
-    /// The numbers of a function's line, where the source says 0; its depth, where the source tells depths and not
-    /// this one; what it takes for granted and gives back, as far as the source hasn't got it.
-    fn add_head(&mut self, known: &Known<'_>, head: &Head) {
-        let Known { said, taken, .. } = *known;
-        let (line, room, budget) = (head.line, taken.room, taken.budget.unwrap_or(0));
-        if (said.budget != budget) | (u64::from(said.stack_room) != room) {
-            let total = Total { line, room, budget };
-            self.lacks |= self.totals.push(total).is_err();
-        }
-        if known.tells_depths & (taken.depth > 0) & !head.says_depth {
-            let depth = Value::Number(i64::try_from(taken.depth).unwrap_or(i64::MAX));
-            self.push(line.saturating_add(1), ".depth ", None, depth);
-        }
-        let params = known.ranges.params(known.number);
-        self.add_ranges(head.last_param, ".param ", said.params.len(), params);
-        let results = known.ranges.results();
-        if known.number < results.len() {
-            let results = results[known.number].as_slice();
-            self.add_ranges(head.last_result, ".result ", said.results.len(), results);
-        }
-    }
-
-    /// Adds what one function hasn't got: what stands before one line in the order in which it is added.
+    /// Adds what one function hasn't got: the numbers of its line, where the source says 0; its depth, where the source
+    /// tells depths and not this one; what it takes for granted and gives back, as far as the source hasn't got it; and
+    /// what it hasn't got of each block. What stands before one line stands in the order in which it is added.
     pub fn add_function(&mut self, known: &Known<'_>) {
         let Known {
-            read,
+            said,
+            taken,
             ranges,
             number,
-            blocks,
             ..
         } = *known;
-        for (block, head) in read.heads_of(number).iter().enumerate() {
-            if block == 0 {
-                self.add_head(known, head);
-            } else if let Some(cells) = ranges.cells(number, block) {
-                self.add_cells(read, head, cells);
+        if let [head, ..] = known.heads {
+            let (line, room, budget) = (head.line as usize, taken.room, taken.budget.unwrap_or(0));
+            if (said.budget != budget) | (u64::from(said.stack_room) != room) {
+                let total = Total { line, room, budget };
+                self.memory.push(&mut self.totals, total);
             }
-            if block < blocks.len() {
-                self.add_fuel(head, &blocks[block]);
+            if known.tells_depths & (taken.depth > 0) & !head.says_depth {
+                let depth = Value::Number(i64::try_from(taken.depth).unwrap_or(i64::MAX));
+                self.push(head.line.saturating_add(1), ".depth ", None, depth);
+            }
+            let params = ranges.params(number);
+            self.add_ranges(head.last_param, ".param ", said.params.len(), params);
+            let results = ranges.results();
+            if number < results.len() {
+                let results = results[number].as_slice();
+                self.add_ranges(head.last_result, ".result ", said.results.len(), results);
+            }
+        }
+        for (block, head) in known.heads.iter().enumerate() {
+            if block > 0
+                && let Some(cells) = ranges.cells(number, block)
+            {
+                self.add_cells(known.cells, head, cells);
+            }
+            if block < known.blocks.len() {
+                self.add_fuel(head, &known.blocks[block]);
             }
         }
     }

@@ -1,57 +1,49 @@
 //! A source with more annotations than before.
+ghost use Rattle.std.specs.Prelude.{IfOk};
+ghost use Rattle.sbx_asm.specs.Items.{lines_of};
+ghost use Rattle.fit_kept.specs.Lines.{IsAnnotated};
+
 use crate::annotation::{Addition, Annotation, Total, Value};
-use fit_code::{Fault, NO_LINE, Reason};
+use fit_code::{Fault, Memory, NO_LINE, Reason};
+use fit_kept::{is_annotated, parts_of};
 use sbx_asm::first_line;
 use sbx_declare::{Bounds, Location};
-use sbx_directives::{Directive, Statement, label_count, read_statement};
-use sbx_text::{TextFault, Token, tokens};
-use std::alloc::{AllocError, Global};
+use std::alloc::Global;
 use std::fmt::Display;
 use v8_syntax::bytes_between;
 
 /// A text that is made, and what isn't in it yet.
 #[derive(Drop)]
 struct Inserting<'t> {
-    alloc: Global,
     text: Vec<u8>,
     /// A value as it is shown, before it goes into the text.
     shown: String,
     additions: &'t [Addition],
     totals: &'t [Total],
-    /// Whether memory was refused, so that something lacks in the text.
-    lacks: bool,
-}
-
-/// The tokens of a line; none of a line that has a fault. Notes whether memory was refused.
-fn tokens_or_none(alloc: Global, line: &[u8], lacks: &mut bool) -> Vec<Token> {
-    match tokens(alloc, line) {
-        Ok(found) => found,
-        Err(fault) => {
-            *lacks |= matches!(fault, TextFault::Memory(_));
-            Vec::new(alloc)
-        }
-    }
+    memory: Memory,
 }
 
 impl Inserting<'_> {
     /// Adds bytes.
     fn push(&mut self, bytes: &[u8]) {
-        self.lacks |= self.text.extend_from_slice(bytes).is_err();
+        self.memory.take(self.text.extend_from_slice(bytes));
     }
 
     /// Adds a value as it is shown.
     fn put<D: Display>(&mut self, value: &D) {
         self.shown.clear();
-        self.lacks |= write!(self.shown, "{value}").is_err();
-        self.lacks |= self.text.extend_from_slice(self.shown.as_bytes()).is_err();
+        self.memory.take(write!(self.shown, "{value}"));
+        self.memory
+            .take(self.text.extend_from_slice(self.shown.as_bytes()));
     }
 
     /// Adds what stands before the line of a number, a line each.
     fn push_before(&mut self, number: usize) {
         let additions = self.additions;
-        for addition in additions {
+        for (place, addition) in additions.iter().enumerate() {
             if addition.before > number {
-                break;
+                self.additions = &additions[place..];
+                return;
             }
             let Annotation {
                 name,
@@ -68,93 +60,80 @@ impl Inserting<'_> {
                 Value::Range(range) => self.put(&Bounds(range)),
             }
             self.push(b"\n");
-            self.additions = self.additions.get(1..).unwrap_or(&[]);
         }
+        self.additions = &[];
     }
 
-    /// Adds a `.function`'s line with other numbers for its stack room and its budget, which is its last token and has
-    /// a comma before it. Adds nothing where the language has no such line, and says whether it has it.
-    fn push_filled(&mut self, line: &[u8], total: Total) -> bool {
-        let before = self.text.len();
-        let mut lacks = false;
-        if let [.., room, _comma, budget] = tokens_or_none(
-            self.alloc, line, &mut lacks,
-        ).as_slice()
-        {
-            self.push(bytes_between(line, 0, room.start));
-            self.put(&total.room);
-            self.push(bytes_between(line, room.stop, budget.start));
-            self.put(&total.budget);
-            self.push(bytes_between(line, budget.stop, line.len()));
+    /// Adds the line of a number with the numbers for a function's stack room and its budget that it is to have. Adds
+    /// nothing where it is to have none, or where the language has no such line. Says how much of it is done with.
+    fn push_filled(&mut self, number: usize, line: &[u8]) -> usize {
+        let totals = self.totals;
+        let Some((total, others)) = totals.split_first() else {
+            return 0;
+        };
+        if total.line > number {
+            return 0;
         }
+        self.totals = others;
+        let memory = &mut self.memory;
+        let Some(parts) = parts_of(memory.alloc, line, &mut memory.is_refused) else {
+            return 0;
+        };
+        let before = self.text.len();
+        self.push(parts.before);
+        self.put(&total.room);
+        self.push(parts.between);
+        self.put(&total.budget);
+        self.push(parts.behind);
         let text = self.text.as_slice();
         let filled = &text[before.min(text.len())..];
-        let found = tokens_or_none(self.alloc, filled, &mut lacks);
-        let found = found.as_slice();
-        let labels = label_count(filled, found);
-        let statement = read_statement(filled, &found[2 * labels..]);
-        let declares = matches!(statement, Statement::Directive(Directive::Function { .. }));
-        if !declares {
+        let memory = &mut self.memory;
+        if parts_of(memory.alloc, filled, &mut memory.is_refused).is_some() {
+            line.len()
+        } else {
             self.text.truncate(before);
-        }
-        self.lacks |= lacks;
-        declares
-    }
-
-    /// Adds the lines of a source, each with its end, and what stands before it: a function's with its numbers, where
-    /// the language has such a line.
-    fn push_all(&mut self, source: &[u8]) {
-        let mut rest = source;
-        // a line has a byte at least, its end
-        for before in 0..source.len() {
-            if rest.is_empty() {
-                break;
-            }
-            let (line, after) = first_line(rest);
-            let behind = rest.len().saturating_sub(after.len());
-            let number = before.saturating_add(1);
-            self.push_before(number);
-            let totals = self.totals;
-            let mut is_filled = false;
-            if let Some((total, others)) = totals.split_first()
-                && total.line <= number
-            {
-                self.totals = others;
-                is_filled = self.push_filled(line, *total);
-            }
-            if !is_filled {
-                self.push(line);
-            }
-            self.push(bytes_between(rest, line.len(), behind));
-            rest = after;
+            0
         }
     }
 }
 
 /// A source with more annotations, and with numbers for the stack room and the budgets of its functions. Additions and
-/// totals ascend by line; a total's line is left as it is where it isn't a `.function` that may have such numbers.
+/// totals ascend by line; a total's line is left as it is where it isn't a `.function` that may have such numbers. What
+/// is made is looked at line by line.
 ///
 /// # Errors
-/// An addition behind the last line, and want of memory.
+/// An addition that has no place there: behind the last line, or no annotation; and want of memory.
 pub fn insert<'t>(
     alloc: Global,
     source: &[u8],
     additions: &'t [Addition],
     totals: &'t [Total],
-) -> Result<Vec<u8>, Fault> {
+) -> Result<Vec<u8>, Fault>
+    ensures { IfOk result (λ made. IsAnnotated (lines_of source.now) (lines_of made.items)) }
+{
     let mut made = Inserting {
-        alloc,
         text: Vec::new(alloc),
         shown: String::new(alloc),
         additions,
         totals,
-        lacks: false,
+        memory: Memory::new(alloc),
     };
-    made.push_all(source);
-    if made.lacks {
-        return Err(Fault::from(AllocError));
+    let mut rest = source;
+    // a line has a byte at least, its end
+    for before in 0..source.len() {
+        if rest.is_empty() {
+            break;
+        }
+        let (line, after) = first_line(rest);
+        let behind = rest.len().saturating_sub(after.len());
+        let number = before.saturating_add(1);
+        made.push_before(number);
+        let done = made.push_filled(number, line);
+        made.push(bytes_between(rest, done, behind));
+        rest = after;
     }
-    if made.additions.is_empty() {
+    made.memory.told(())?;
+    if made.additions.is_empty() && is_annotated(alloc, source, made.text.as_slice())? {
         return Ok(made.text);
     }
     let reason = Reason::Unreadable("an annotation has no place in the source");

@@ -1,5 +1,5 @@
 //! Annotations for the project's own assembly language: a source with none, or with some, gets the rest. That nothing
-//! else of it changes is looked at by `fit_kept`.
+//! else of it changes is looked at by `fit_kept`, and proved.
 #![tactic(auto)]
 
 mod additions;
@@ -12,7 +12,7 @@ mod lines;
 mod notes;
 mod program;
 
-pub use annotating::{Annotated, with_annotations};
+pub use annotating::{Annotated, Refusal, annotate};
 pub use annotation::{Addition, Annotation, Total, Value};
 pub use inserting::insert;
 pub use notes::{Asked, Note, Shown};

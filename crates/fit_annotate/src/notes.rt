@@ -1,6 +1,7 @@
 //! What isn't shown of a source, as notes to its author.
 use fit_code::Fault;
 use fit_tests::{Access, Lack, needed_alignment};
+use fit_text::Why;
 use sbx_declare::Location;
 use sbx_image::Range;
 use std::fmt::{self, Error, Formatter, Write};
@@ -10,16 +11,14 @@ use std::fmt::{self, Error, Formatter, Write};
 pub enum Asked {
     /// Of a step or an end.
     Shown(Lack),
-    /// A way to a block.
-    Way,
     /// A counter of the loop that a block begins.
     Counter,
     /// A function's fuel.
     Fuel(Fault),
-    /// A function's fuel, since that of one that it calls isn't known.
-    Callee,
     /// A number that the source says and that doesn't suffice.
     More { what: &'static str, least: u64 },
+    /// What this tells.
+    Told(&'static str),
 }
 
 /// What isn't shown, and the number of its line.
@@ -27,28 +26,6 @@ pub enum Asked {
 pub struct Note {
     pub line: u32,
     pub asked: Asked,
-}
-
-/// Notes, as they are made.
-#[derive(Drop)]
-pub struct Notes {
-    pub list: Vec<Note>,
-    /// Whether memory was refused, so that something lacks.
-    pub lacks: bool,
-}
-
-impl Notes {
-    /// Notes what isn't shown at a line.
-    pub fn add(&mut self, line: u32, asked: Asked) {
-        self.lacks |= self.list.push(Note { line, asked }).is_err();
-    }
-
-    /// Notes a number that the source says at a line, where it doesn't suffice; 0 is none.
-    pub fn add_less(&mut self, line: u32, what: &'static str, said: u64, least: u64) {
-        if (0 < said) & (said < least) {
-            self.add(line, Asked::More { what, least });
-        }
-    }
 }
 
 /// A note as one line, with the name of its file.
@@ -98,22 +75,22 @@ fn write_access<W: Write>(f: &mut Formatter<W>, access: &Access) -> Result<(), E
     }
 }
 
-/// What is behind a location that may be undefined where it is read, and where a function is called that is given it.
-const UNDEFINED: &str = "is read, and may be undefined: give it a value on each way here";
-
+/// What is behind a location that may be undefined where a function is called that is given it.
 const GIVEN: &str =
     "may be undefined, and the function that is called takes it for granted: give it a value before";
 
 /// What is behind a divisor's range.
 const DIVISOR: &str = "compare it with 0 before, and divide in a block where it isn't 0";
 
-const NO_WAY: &str =
-    "no way leads to the block, and nothing is known where it begins: leave it out, or branch there";
-
 const NO_COUNTER: &str =
     "no counter was found for the loop that begins here: count its rounds in a register, by `deccc` and `bne`";
 
-const NO_CALLEE: &str =
+/// What is told of a block to which no way leads.
+pub const NO_WAY: &str =
+    "no way leads to the block, and nothing is known where it begins: leave it out, or branch there";
+
+/// What is told of a function's fuel, since that of one that it calls isn't known.
+pub const NO_CALLEE: &str =
     "no fuel is given, since that of a function that it calls isn't known: see the notes of that one";
 
 impl fmt::Display for Asked {
@@ -121,7 +98,10 @@ impl fmt::Display for Asked {
         match self {
             Asked::Shown(Lack::Defined(location)) => {
                 let location = Location(*location);
-                write!(f, "{location} {UNDEFINED}")
+                write!(
+                    f,
+                    "{location} is read, and may be undefined: give it a value on each way here"
+                )
             }
             Asked::Shown(Lack::Given(location)) => {
                 let location = Location(*location);
@@ -132,14 +112,13 @@ impl fmt::Display for Asked {
                 let words = Words(*range);
                 write!(f, "the divisor may be 0: it may be {words}; {DIVISOR}")
             }
-            Asked::Way => f.write_str(NO_WAY),
-            Asked::Counter => f.write_str(NO_COUNTER),
             Asked::Fuel(fault) => {
-                let reason = &fault.reason;
+                let reason = Why(&fault.reason);
                 write!(f, "no fuel is given: {reason}")
             }
-            Asked::Callee => f.write_str(NO_CALLEE),
             Asked::More { what, least } => write!(f, "{what} has to be at least {least}"),
+            Asked::Counter => f.write_str(NO_COUNTER),
+            Asked::Told(what) => f.write_str(what),
         }
     }
 }

@@ -6,7 +6,7 @@ use sbx_image::Image;
 use std::alloc::AllocError;
 use std::mem::replace;
 
-/// What a block that is a slot weighs: the branch's own block pays for it.
+/// What a block that is a slot weighs less: the branch's own block pays for it.
 const SLOT: u64 = 2;
 
 impl Read {
@@ -15,50 +15,47 @@ impl Read {
         for (index, region) in image.regions().iter().enumerate() {
             let readonly = !region.writable;
             let start = image.region_start(index).unwrap_or(0);
-            let data = region.bytes.as_slice();
-            let mut bytes = Vec::new(self.alloc);
-            self.lacks |= bytes.extend_from_slice(data).is_err();
+            let bytes = self.memory.copy(region.bytes.as_slice());
+            let length = u32::try_from(bytes.len()).unwrap_or(u32::MAX);
             let object = Object {
-                name: String::new(self.alloc),
+                name: String::new(self.memory.alloc),
                 readonly,
                 align: 8,
                 bytes,
                 start,
             };
-            self.lacks |= self.program.objects.push(object).is_err();
+            self.memory.push(&mut self.program.objects, object);
             let region = Region {
                 readonly,
                 start,
-                length: u32::try_from(data.len()).unwrap_or(u32::MAX),
+                length,
             };
-            self.lacks |= self.program.regions.push(region).is_err();
+            self.memory.push(&mut self.program.regions, region);
         }
     }
 
     /// Ends a function of an image, of whose blocks all are read.
     pub fn end_function(&mut self, own: usize, function: &sbx_image::Function) {
-        let alloc = self.alloc;
+        let alloc = self.memory.alloc;
+        let mut weights = replace(&mut self.weights, Vec::new(alloc));
         let functions = self.program.functions.as_mut_slice();
         if own < functions.len() {
             let made = &mut functions[own];
             made.framed = function.frame > 0;
             made.frame = function.frame;
+            made.params = self.memory.copy(function.params.as_slice());
+            made.results = self.memory.copy(function.results.as_slice());
             made.blocks = replace(&mut self.blocks, Vec::new(alloc));
-            self.lacks |= made
-                .params
-                .extend_from_slice(function.params.as_slice())
-                .is_err()
-                | made
-                    .results
-                    .extend_from_slice(function.results.as_slice())
-                    .is_err()
-                | made.blocks.append(&mut self.slots).is_err()
-                | self.weights.resize(made.blocks.len(), SLOT).is_err();
+            self.memory.take(made.blocks.append(&mut self.slots));
+            self.memory.take(weights.resize(made.blocks.len(), SLOT));
         }
-        let weights = replace(&mut self.weights, Vec::new(alloc));
-        self.lacks |= self.spared.push(weights).is_err();
-        let cells = replace(&mut self.block_cells, Vec::new(alloc));
-        self.lacks |= self.said.push(cells).is_err();
+        self.memory.push(&mut self.spared, weights);
+        let mut said = Vec::new(alloc);
+        for block in function.blocks.as_slice() {
+            let cells = self.memory.copy(block.cells.as_slice());
+            self.memory.push(&mut said, cells);
+        }
+        self.memory.push(&mut self.said, said);
     }
 
     /// Takes over a source in a file of a name, and the image that the assembler makes of it. What its params and its
@@ -71,19 +68,18 @@ impl Read {
     pub fn take(&mut self, file: &str, source: &[u8], image: &Image) -> Result<(), Fault> {
         self.add_lines(source);
         self.add_data(image);
-        let mut name = String::new(self.alloc);
-        self.lacks |= name.push_str(file).is_err() | self.program.files.push(name).is_err();
+        let mut name = String::new(self.memory.alloc);
+        self.memory.take(name.push_str(file));
+        self.memory.push(&mut self.program.files, name);
         for (own, function) in image.functions().iter().enumerate() {
-            let wrong = read_function(self, image, own, function);
-            if let Some((line, what)) = wrong
-                && !self.lacks
-            {
-                return Err(Fault::new(line, Reason::Unreadable(what)));
-            }
+            read_function(self, image, own, function);
         }
-        if self.lacks {
+        if self.memory.is_refused {
             return Err(Fault::from(AllocError));
         }
-        Ok(())
+        match self.wrong {
+            Some((line, what)) => Err(Fault::new(line, Reason::Unreadable(what))),
+            None => Ok(()),
+        }
     }
 }

@@ -13,7 +13,7 @@ pub use blocks::{function_of, result_register};
 pub use codes::{give_one_entry, repeat_compares};
 pub use plain::{put_plainly, step_of};
 pub use points::{
-    Access, Layout, Points, access_of, bit_of, fields_of, layout_of, name_of, next_register,
-    operands_read, points_of, read_by, signed, word_of, written,
+    Access, Layout, access_of, bit_of, fields_of, layout_of, name_of, next_register, operands_read,
+    read_by, signed, written,
 };
-pub use stops::Stops;
+pub use stops::{Stop, Stops};

@@ -1,40 +1,45 @@
 //! What stops the making of a program: it is noted where it is found, and told once.
-use fit_code::{Fault, Line, Naming, Reason};
-use std::alloc::{AllocError, Global};
+use crate::points::name_of;
+use fit_code::{Fault, Line, Memory, Naming, Reason};
+use fit_gas::{Source, owned};
+use std::alloc::AllocError;
+
+/// Why there is no program, but want of memory.
+#[derive(Clone, Copy)]
+pub enum Stop {
+    /// What the function does that is made, and may not.
+    Form(&'static str),
+    /// The name of a symbol.
+    Named(Naming, usize),
+    /// There is no function to begin at.
+    NoEntry,
+    /// There are more of something than there may be.
+    TooMany(&'static str, u64),
+    CallThroughPointer,
+    JumpThroughPointer,
+}
 
 /// What stopped the making of a program first. Who notes something goes on with what there is: what is made behind that
 /// counts for nothing.
-#[derive(Drop)]
+#[derive(Clone, Copy)]
 pub struct Stops {
-    pub alloc: Global,
-    pub first: Option<Fault>,
+    pub memory: Memory,
+    /// The symbol of the function that is made. No other one is made once something is noted.
+    pub symbol: usize,
+    pub first: Option<(Line, Stop)>,
 }
 
 impl Stops {
-    /// Notes a fault, of which the first one is told.
-    pub fn note(&mut self, fault: Fault) {
+    /// Notes what stops at a line, of which the first one is told.
+    pub fn note(&mut self, line: Line, stop: Stop) {
         if self.first.is_none() {
-            self.first = Some(fault);
+            self.first = Some((line, stop));
         }
     }
 
-    /// Notes want of memory.
-    pub fn lack(&mut self) {
-        self.note(Fault::from(AllocError))
-    }
-
-    /// Takes in how something went that may need memory.
-    pub fn take(&mut self, done: Result<(), AllocError>) {
-        if done.is_err() {
-            self.lack();
-        }
-    }
-
-    /// Puts an item behind those of a list.
-    pub fn push<T: Drop>(&mut self, list: &mut Vec<T>, item: T) {
-        if list.push(item).is_err() {
-            self.lack();
-        }
+    /// Notes what the function that is made does and may not.
+    pub fn form(&mut self, line: Line, what: &'static str) {
+        self.note(line, Stop::Form(what))
     }
 
     /// A list that was made; an empty one where memory was refused, which is noted.
@@ -42,32 +47,38 @@ impl Stops {
         match made {
             Ok(list) => list,
             Err(_) => {
-                self.lack();
-                Vec::new(self.alloc)
+                self.memory.is_refused = true;
+                Vec::new(self.memory.alloc)
             }
         }
     }
 
-    /// A text of its own; an empty one where memory is refused, which is noted.
-    pub fn owned(&mut self, text: &str) -> String {
-        match String::from_str(self.alloc, text) {
-            Ok(made) => made,
-            Err(_) => {
-                self.lack();
-                String::new(self.alloc)
-            }
+    /// What is told of it, if something stopped: want of memory, else what was noted first, with some text before the
+    /// name of a symbol.
+    pub fn fault(self, source: &Source, before: &str) -> Option<Fault> {
+        let mut memory = self.memory;
+        let mut fault = None;
+        if let Some((line, stop)) = self.first {
+            let reason = match stop {
+                Stop::Form(what) => Reason::Form {
+                    function: owned(&mut memory, name_of(source, self.symbol)),
+                    what,
+                },
+                Stop::Named(naming, symbol) => {
+                    let mut name = owned(&mut memory, before);
+                    memory.take(name.push_str(name_of(source, symbol)));
+                    Reason::Named(naming, name)
+                }
+                Stop::NoEntry => Reason::Named(Naming::NoEntry, owned(&mut memory, before)),
+                Stop::TooMany(what, most) => Reason::TooMany { what, most },
+                Stop::CallThroughPointer => Reason::CallThroughPointer,
+                Stop::JumpThroughPointer => Reason::JumpThroughPointer,
+            };
+            fault = Some(Fault::new(line, reason));
         }
-    }
-
-    /// Notes what a function does and may not.
-    pub fn form(&mut self, function: &str, line: Line, what: &'static str) {
-        let function = self.owned(function);
-        self.note(Fault::new(line, Reason::Form { function, what }))
-    }
-
-    /// Notes a fault that names something.
-    pub fn named(&mut self, line: Line, naming: Naming, name: &str) {
-        let name = self.owned(name);
-        self.note(Fault::new(line, Reason::Named(naming, name)))
+        if memory.is_refused {
+            fault = Some(Fault::from(AllocError));
+        }
+        fault
     }
 }

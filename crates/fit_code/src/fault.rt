@@ -1,7 +1,6 @@
 //! Why there is no program.
 use crate::code::{Line, NO_LINE};
 use std::alloc::{AllocError, AllocFailed};
-use std::fmt::{self, Error, Formatter, Write};
 use want::Want;
 
 /// Why a name is refused.
@@ -30,37 +29,6 @@ pub enum Naming {
     /// There is no function to begin at.
     NoEntry,
 }
-
-/// What stands before the name and what behind it, of each `Naming` in their order.
-const NAMINGS: [(&str, &str); 11] = [
-    ("the name ", " can't be read"),
-    ("the section ", " isn't known"),
-    ("the directive ", " isn't known"),
-    ("the instruction ", " isn't known, or can't be used here"),
-    ("the operands of ", " can't be read"),
-    ("floating point, ", ": use integers, or fixed point"),
-    ("", " is defined twice"),
-    ("", " isn't defined"),
-    (
-        "the address of the function ",
-        " is taken: name it, by a switch",
-    ),
-    ("recursion: ", ""),
-    ("there is no function ", ""),
-];
-
-impl Naming {
-    /// What stands before the name, and what behind it.
-    fn text(self) -> (&'static str, &'static str) {
-        NAMINGS[self as usize]
-    }
-}
-
-/// Sums of turns that pass this number stay there.
-const STAYS: u64 = 0x7fff_ffff_ffff_ffff;
-
-/// The least budget that is refused.
-const BOUND: u64 = 1 << 40;
 
 /// Why a program is refused.
 #[derive(Drop)]
@@ -111,11 +79,6 @@ impl Fault {
     pub fn new(line: Line, reason: Reason) -> Fault {
         Fault { line, reason }
     }
-
-    /// The fault as one line, with the names of its files.
-    pub fn shown<'f>(&'f self, files: &'f [String]) -> Shown<'f> {
-        Shown { fault: self, files }
-    }
 }
 
 impl From<AllocError> for Fault {
@@ -133,73 +96,5 @@ impl<T: Drop> From<AllocFailed<T>> for Fault {
             line: NO_LINE,
             reason: Reason::Memory(Want::from(failed)),
         }
-    }
-}
-
-impl fmt::Display for Reason {
-    fn fmt<W: Write>(&self, f: &mut Formatter<W>) -> Result<(), Error> {
-        match self {
-            Reason::Memory(_want) => f.write_str("out of memory"),
-            Reason::TooMany { what, most } => write!(f, "more than {most} {what}"),
-            Reason::TooGreat { what, count, most } => write!(
-                f,
-                "{what} would be {count}, above {most}"
-            ),
-            Reason::Budget { turns, .. } => {
-                let least = if *turns < STAYS { "" } else { "at least " };
-                let limit = if *turns > BOUND { "2^40" } else { "2^40 - 1" };
-                write!(f, "the budget would be {least}{turns}, above {limit}")
-            }
-            Reason::Unreadable(what) => f.write_str(what),
-            Reason::Named(naming, name) => {
-                let (before, after) = naming.text();
-                write!(f, "{before}{name}{after}")
-            }
-            Reason::CallThroughPointer => f.write_str(
-                "a call through a pointer: name the function, by a switch",
-            ),
-            Reason::JumpThroughPointer => f.write_str(
-                "a jump through a register: compile without tables of jumps",
-            ),
-            Reason::Form { function, what } => write!(f, "{function}: {what}"),
-        }
-    }
-}
-
-/// A fault with the names of the files.
-#[derive(Drop)]
-pub struct Shown<'f> {
-    fault: &'f Fault,
-    files: &'f [String],
-}
-
-impl Shown<'_> {
-    /// Writes the name of the fault's file and the number of its line between two texts, where they are known.
-    fn write_place<W: Write>(
-        &self,
-        f: &mut Formatter<W>,
-        before: &str,
-        after: &str,
-    ) -> Result<(), Error> {
-        let Line { file, number } = self.fault.line;
-        match self.files.get(file) {
-            Some(name) if number > 0 => write!(f, "{before}{name}:{number}{after}"),
-            _ => Ok(()),
-        }
-    }
-}
-
-impl fmt::Display for Shown<'_> {
-    fn fmt<W: Write>(&self, f: &mut Formatter<W>) -> Result<(), Error> {
-        self.write_place(f, "", ": ")?;
-        let reason = &self.fault.reason;
-        write!(f, "refused: {reason}")?;
-        let Reason::Budget { is_loop, .. } = reason else {
-            return Ok(());
-        };
-        if *is_loop {
-            self.write_place(f, ": the loop at ", " may take the most of it")?;
-        }
-        f.write_str(": ask for fewer turns, or let loops have fewer rounds")
     }
 }

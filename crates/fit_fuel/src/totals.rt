@@ -1,5 +1,5 @@
 //! What calls of a function take: turns, stack room and depth, which are sums along the deepest calls.
-use fit_code::{Block, Function};
+use fit_code::Function;
 
 /// What a call takes.
 #[derive(Clone, Copy)]
@@ -8,19 +8,6 @@ pub struct Total {
     pub budget: Option<u64>,
     pub room: u64,
     pub depth: u64,
-}
-
-/// Adds to what is found of others what the calls of a block take at most.
-fn add_calls(found: &mut Total, block: &Block, known: &[Option<Total>]) {
-    for step in block.steps.as_slice() {
-        if let Some(callee) = step.callee
-            && callee < known.len()
-            && let Some(total) = known[callee]
-        {
-            found.room = found.room.max(total.room);
-            found.depth = found.depth.max(total.depth.saturating_add(1));
-        }
-    }
 }
 
 /// What a function of this budget takes, by what is known of those that it calls. A callee counts as one frame at
@@ -32,7 +19,15 @@ pub fn total_of(function: &Function, budget: Option<u64>, known: &[Option<Total>
         depth: u64::from(function.framed),
     };
     for block in function.blocks.as_slice() {
-        add_calls(&mut found, block, known);
+        for step in block.steps.as_slice() {
+            if let Some(callee) = step.callee
+                && callee < known.len()
+                && let Some(total) = known[callee]
+            {
+                found.room = found.room.max(total.room);
+                found.depth = found.depth.max(total.depth.saturating_add(1));
+            }
+        }
     }
     found.room = found.room.saturating_add(u64::from(function.frame));
     found

@@ -1,7 +1,7 @@
 //! Data: labels, values, strings, room.
-use crate::source::{Datum, Fix, Source, SymbolPlace};
+use crate::source::{Cause, Datum, Fix, Source, SymbolPlace};
 use crate::strings::push_string;
-use crate::text::{expression_of, first_operand, is_name, number_of};
+use crate::text::{expression_of, first_operand, is_name, number_of, word_of};
 use fit_code::Naming;
 use std::mem;
 use v8_syntax::bytes_between;
@@ -30,12 +30,10 @@ impl Source {
             symbol,
             readonly,
             align: mem::replace(&mut self.align, 1),
-            bytes: Vec::new(self.alloc),
-            fixes: Vec::new(self.alloc),
+            bytes: Vec::new(self.memory.alloc),
+            fixes: Vec::new(self.memory.alloc),
         };
-        if self.objects.push(object).is_err() {
-            self.lack();
-        }
+        self.memory.push(&mut self.objects, object);
     }
 
     /// Adds zeros, and bytes behind them, to the object that is read, which has a label, and aligns them: as many as
@@ -51,31 +49,31 @@ impl Source {
             let at = length.checked_next_multiple_of(align).unwrap_or(length);
             self.total = self.total.saturating_add(at.saturating_sub(length));
             if self.total <= BYTES {
-                let resized = object.bytes.resize(at.saturating_add(zeros), 0);
-                let extended = object.bytes.extend_from_slice(bytes);
-                if resized.is_err() | extended.is_err() {
-                    self.lack();
-                }
+                self.memory
+                    .take(object.bytes.resize(at.saturating_add(zeros), 0));
+                self.memory.take(object.bytes.extend_from_slice(bytes));
                 return;
             }
         } else if self.total <= BYTES {
-            return self.unreadable("data without a label");
+            return self.refuse(Cause::Unreadable("data without a label"));
         }
-        self.too_many("bytes of data", 262_144)
+        self.refuse(Cause::TooMany("bytes of data", 262_144))
     }
 
     /// One value of so many bytes, the most significant byte first.
     pub(crate) fn value(&mut self, size: usize, text: &[u8]) {
         let Some((name, number)) = expression_of(text) else {
-            return self.unreadable("a value that is no number, name or name and number");
+            return self.refuse(Cause::Unreadable(
+                "a value that is no number, name or name and number",
+            ));
         };
         if name.is_empty() {
-            let bytes = ((number as i128).rem_euclid(0x1_0000_0000) as u32).to_be_bytes();
+            let bytes = word_of(number).to_be_bytes();
             let start = 4usize.saturating_sub(size);
             return self.add(0, bytes_between(&bytes, start, 4));
         }
         if size != 4 {
-            self.unreadable("an address that is no word");
+            self.refuse(Cause::Unreadable("an address that is no word"));
         }
         let symbol = self.symbol(name);
         self.add(4, &[]);
@@ -87,28 +85,27 @@ impl Source {
                 offset: number,
                 line,
             };
-            if object.fixes.push(fix).is_err() {
-                self.lack();
-            }
+            self.memory.push(&mut object.fixes, fix);
         }
     }
 
     /// One string, with a zero behind it or not.
     pub(crate) fn string(&mut self, ends: bool, text: &[u8]) {
-        let mut bytes = Vec::new(self.alloc);
-        match push_string(text, ends, &mut bytes) {
-            Ok(true) => self.add(0, bytes.as_slice()),
-            Ok(false) => self.unreadable("a string that can't be read"),
-            Err(_) => self.lack(),
+        let mut bytes = Vec::new(self.memory.alloc);
+        if push_string(&mut self.memory, text, ends, &mut bytes) {
+            self.add(0, bytes.as_slice())
+        } else {
+            self.refuse(Cause::Unreadable("a string that can't be read"))
         }
     }
 
-    /// A number from 0 up to a bound.
+    /// The first operand as a number from 0 up to a bound.
     pub(crate) fn natural(&mut self, text: &[u8], most: u32) -> u32 {
-        match number_of(text) {
+        let (first, _) = first_operand(text);
+        match number_of(first) {
             Some(number) if 0 <= number && number <= i64::from(most) => number as u32,
             _ => {
-                self.unreadable("a number that is none, or too great");
+                self.refuse(Cause::Unreadable("a number that is none, or too great"));
                 0
             }
         }
@@ -116,15 +113,14 @@ impl Source {
 
     /// What the next data are aligned to: a power of 2.
     pub(crate) fn aligned(&mut self, text: &[u8], is_power: bool) {
-        let (first, _) = first_operand(text);
-        let number = self.natural(first, PAGE);
+        let number = self.natural(text, PAGE);
         let align = if is_power {
             1u32.checked_shl(number).unwrap_or(0)
         } else {
             number
         };
         if !align.is_power_of_two() || align > PAGE {
-            self.unreadable("an alignment that is no power of 2, or above 4096");
+            self.refuse(Cause::Unreadable("an alignment that is no power of 2, or above 4096"));
         }
         self.align = self.align.max(align);
     }

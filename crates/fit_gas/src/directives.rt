@@ -1,5 +1,5 @@
 //! Directives.
-use crate::source::{Section, Source};
+use crate::source::{Cause, Section, Source};
 use crate::text::{first_operand, first_word, is_name, number_of, unquoted};
 use fit_code::{Line, Naming};
 use v8_syntax::{beside, bytes_between};
@@ -8,11 +8,11 @@ use v8_syntax::{beside, bytes_between};
 #[derive(Clone, Copy)]
 enum Directive {
     Section,
-    Enter(Section),
+    /// The section of that name.
+    Enter,
     Align { is_power: bool },
     Common,
-    Global,
-    Type,
+    Mark { is_global: bool },
     File,
     Loc,
     Values(usize),
@@ -26,18 +26,18 @@ const WRITABLE: Section = Section::Data { readonly: false };
 
 static DIRECTIVES: [(&str, Directive); 39] = [
     (".section", Directive::Section),
-    (".text", Directive::Enter(Section::Code)),
-    (".data", Directive::Enter(WRITABLE)),
-    (".bss", Directive::Enter(WRITABLE)),
+    (".text", Directive::Enter),
+    (".data", Directive::Enter),
+    (".bss", Directive::Enter),
     (".align", Directive::Align { is_power: false }),
     (".balign", Directive::Align { is_power: false }),
     (".p2align", Directive::Align { is_power: true }),
     (".comm", Directive::Common),
     (".common", Directive::Common),
-    (".global", Directive::Global),
-    (".globl", Directive::Global),
-    (".weak", Directive::Global),
-    (".type", Directive::Type),
+    (".global", Directive::Mark { is_global: true }),
+    (".globl", Directive::Mark { is_global: true }),
+    (".weak", Directive::Mark { is_global: true }),
+    (".type", Directive::Mark { is_global: false }),
     (".file", Directive::File),
     (".loc", Directive::Loc),
     (".word", Directive::Values(4)),
@@ -82,31 +82,31 @@ static SECTIONS: [(&str, Section); 11] = [
 ];
 
 impl Source {
+    /// Another section begins. The code ends there, and goes on where the code's does.
     fn section_line(&mut self, text: &[u8]) {
         let (first, _) = first_operand(text);
         let name = unquoted(first).unwrap_or(first);
         for (start, section) in &SECTIONS {
             if name.starts_with(start.as_bytes()) {
-                return self.enter(*section);
+                self.section = *section;
+                self.in_object = false;
+                self.align = 1;
+                return;
             }
         }
         self.named(Naming::Section, name)
     }
 
-    /// A name is the same in all files, or is a function's.
-    fn mark(&mut self, name: &[u8], is_global: bool) {
-        let symbol = self.symbol(name);
-        if let Some(found) = self.symbols.get_mut(symbol) {
-            found.is_global |= is_global;
-            found.is_function |= !is_global;
-        }
-    }
-
-    /// `NAME,#function`, or `@function`; other types don't matter.
-    fn type_line(&mut self, text: &[u8]) {
-        let (name, kind) = first_operand(text);
-        if kind.ends_with(b"function") {
-            self.mark(name, false)
+    /// A name that is the same in all files; or `NAME,#function`, also `@function`, of which other types don't matter.
+    fn mark(&mut self, text: &[u8], is_global: bool) {
+        let (first, kind) = first_operand(text);
+        let name = if is_global { text } else { first };
+        if is_global | kind.ends_with(b"function") {
+            let symbol = self.symbol(name);
+            if let Some(found) = self.symbols.get_mut(symbol) {
+                found.is_global |= is_global;
+                found.is_function |= !is_global;
+            }
         } else if !is_name(name) {
             self.named(Naming::Label, name)
         }
@@ -130,9 +130,7 @@ impl Source {
             }
         }
         let file = self.add_file(bytes_between(path, start, path.len()));
-        if self.numbered.insert(number, file).is_err() {
-            self.lack();
-        }
+        self.memory.is_refused |= self.numbered.insert(number, file).is_err();
     }
 
     /// `FILE LINE ..`
@@ -176,20 +174,18 @@ impl Source {
             return;
         };
         match (directive, self.section) {
-            (Directive::Enter(section), _) => self.enter(section),
+            (Directive::Enter, _) => self.section_line(name),
             (Directive::Section, _) => self.section_line(text),
             (Directive::Common, _) => self.common(text),
-            (Directive::Global, _) => self.mark(text, true),
-            (Directive::Type, _) => self.type_line(text),
+            (Directive::Mark { is_global }, _) => self.mark(text, is_global),
             (Directive::File, _) => self.file_line(text),
             (Directive::Loc, _) => self.loc_line(text),
             (Directive::Nothing, _) | (_, Section::Ignored) => {}
             (Directive::Align { .. }, Section::Code) => {}
-            (_, Section::Code) => self.unreadable("data among instructions"),
+            (_, Section::Code) => self.refuse(Cause::Unreadable("data among instructions")),
             (Directive::Align { is_power }, _) => self.aligned(text, is_power),
             (Directive::Room, _) => {
-                let (first, _) = first_operand(text);
-                let bytes = self.natural(first, 0xffff_ffff);
+                let bytes = self.natural(text, 0xffff_ffff);
                 self.add(bytes as usize, &[])
             }
             _ => self.data_list(directive, text),

@@ -1,7 +1,7 @@
 //! Instructions: the assembler's own spellings over the statements of the source language.
-use crate::source::{Item, Part, Reference, Source};
-use crate::text::{expression_of, first_operand, place_of};
-use fit_code::{Naming, Reason};
+use crate::source::{Cause, Item, Part, Reference, Source};
+use crate::text::{expression_of, first_operand, place_of, word_of};
+use fit_code::Naming;
 use sbx_text::{TextFault, tokens};
 use v8_formats::{Instr, encode};
 use v8_syntax::{Symbols, SyntaxFault, beside, bytes_between, is_same, parse_instr};
@@ -127,11 +127,9 @@ impl Source {
             if self.in_code
                 && let Some(code) = self.codes.last_mut()
             {
-                if code.items.push(item).is_err() {
-                    self.lack();
-                }
+                self.memory.push(&mut code.items, item);
             } else {
-                self.unreadable("an instruction outside of a function");
+                self.refuse(Cause::Unreadable("an instruction outside of a function"));
             }
         }
     }
@@ -145,16 +143,14 @@ impl Source {
         reference: Option<Reference>,
         bits: u32,
     ) {
-        let line = match pieces.concat(self.alloc) {
-            Ok(line) => line,
-            Err(_) => return self.lack(),
+        let Ok(line) = pieces.concat(self.memory.alloc) else {
+            self.memory.is_refused = true;
+            return;
         };
-        let found = match tokens(self.alloc, line.as_slice()) {
+        let found = match tokens(self.memory.alloc, line.as_slice()) {
             Ok(tokens) => parse_instr(line.as_slice(), tokens.as_slice(), &Nameless),
             Err(fault) => {
-                if let TextFault::Memory(want) = fault {
-                    self.refuse(Reason::Memory(want));
-                }
+                self.memory.is_refused |= matches!(fault, TextFault::Memory(_));
                 Err(SyntaxFault::Shape)
             }
         };
@@ -167,27 +163,30 @@ impl Source {
 
     /// A statement with a part of an address among its operands: of a target it is a name alone.
     fn referring(&mut self, word: &[u8], text: &[u8], place: Place) {
-        let inner = bytes_between(text, place.start, place.end);
-        let Some((name, offset)) = expression_of(inner.trim_ascii()) else {
-            return self.named(Naming::Operands, word);
-        };
         let part = place.part;
-        if matches!(part, Part::Target) & (name.is_empty() | (offset != 0)) {
-            return self.named(Naming::Operands, word);
-        }
+        let inner = bytes_between(text, place.start, place.end);
+        let (name, offset) = match expression_of(inner.trim_ascii()) {
+            Some((name, offset))
+                if !matches!(part, Part::Target) | (!name.is_empty() & (offset == 0)) => {
+                (name, offset)
+            }
+            _ => return self.named(Naming::Operands, word),
+        };
         let before = bytes_between(text, 0, place.at);
         let behind = bytes_between(text, place.end.saturating_add(1), text.len());
-        let pieces = [word, b" ", before, b"0", behind];
+        let mut reference = None;
+        let mut bits = 0;
         if name.is_empty() {
-            let number = (offset as i128).rem_euclid(0x1_0000_0000) as u32;
-            return self.statement(word, &pieces, None, with_part(0, part, number));
+            bits = with_part(0, part, word_of(offset));
+        } else {
+            let symbol = self.symbol(name);
+            reference = Some(Reference {
+                part,
+                symbol,
+                offset,
+            });
         }
-        let reference = Reference {
-            part,
-            symbol: self.symbol(name),
-            offset,
-        };
-        self.statement(word, &pieces, Some(reference), 0)
+        self.statement(word, &[word, b" ", before, b"0", behind], reference, bits)
     }
 
     /// An instruction, and what stands behind its mnemonic.
@@ -202,9 +201,9 @@ impl Source {
         }
         let is_call = is_same(word, b"call");
         if is_call & text.starts_with(b"%") {
-            return self.refuse(Reason::CallThroughPointer);
+            return self.refuse(Cause::CallThroughPointer);
         }
-        if is_call | (word.starts_with(b"b") & !is_plain) {
+        let (operands, place) = if is_call | (word.starts_with(b"b") & !is_plain) {
             let (target, _) = first_operand(text);
             let place = Place {
                 at: 0,
@@ -212,10 +211,12 @@ impl Source {
                 end: target.len(),
                 part: Part::Target,
             };
-            return self.referring(word, target, place);
-        }
-        match part_in(text) {
-            Some(place) => self.referring(word, text, place),
+            (target, Some(place))
+        } else {
+            (text, part_in(text))
+        };
+        match place {
+            Some(place) => self.referring(word, operands, place),
             None => self.statement(word, &[word, b" ", text], None, 0),
         }
     }

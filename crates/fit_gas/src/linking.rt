@@ -1,6 +1,6 @@
 //! What the names of several files stand for.
 use crate::source::{Source, SymbolPlace};
-use fit_code::{Fault, Naming, Reason};
+use fit_code::{Line, Memory};
 use std::collections::BTreeMap;
 
 /// Where the symbols of a source stand, in whichever file.
@@ -24,22 +24,35 @@ impl Linked<'_> {
         }
         found.place
     }
+
+    /// Where a global name stands.
+    pub fn global(&self, name: &str) -> SymbolPlace {
+        match self.globals.get(name) {
+            Some(place) => *place,
+            None => SymbolPlace::Nowhere,
+        }
+    }
 }
 
-/// Finds where global names stand.
-///
-/// # Errors
-/// A global name that stands at two places. A name that stands nowhere is no fault as long as nothing needs it.
-pub fn links_of(source: &Source) -> Result<Linked<'_>, Fault> {
-    let mut globals: BTreeMap<&str, SymbolPlace> = BTreeMap::new(source.alloc);
-    for symbol in &source.symbols {
+/// Finds where global names stand; and the line and the symbol of the first one that stands at a second place. A name
+/// that stands nowhere is no fault as long as nothing needs it.
+pub fn links_of<'l>(
+    memory: &mut Memory,
+    source: &'l Source,
+) -> (Linked<'l>, Option<(Line, usize)>) {
+    let mut globals: BTreeMap<&str, SymbolPlace> = BTreeMap::new(memory.alloc);
+    let mut second = None;
+    for (number, symbol) in source.symbols.as_slice().iter().enumerate() {
         if symbol.is_global & !matches!(symbol.place, SymbolPlace::Nowhere) {
-            let before = globals.insert(symbol.name.as_str(), symbol.place)?;
-            if before.is_some() {
-                let reason = Reason::Named(Naming::DefinedTwice, symbol.name.clone()?);
-                return Err(Fault::new(symbol.line, reason));
+            match globals.insert(symbol.name.as_str(), symbol.place) {
+                Ok(before) => {
+                    if before.is_some() & second.is_none() {
+                        second = Some((symbol.line, number));
+                    }
+                }
+                Err(_) => memory.is_refused = true,
             }
         }
     }
-    Ok(Linked { source, globals })
+    (Linked { source, globals }, second)
 }

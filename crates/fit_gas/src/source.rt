@@ -1,8 +1,9 @@
 //! What is read of assembly, before its names are resolved.
 use crate::text::{first_label, first_word, is_name, place_among, place_of, shown};
-use fit_code::{Fault, Line, Naming, Reason};
+use fit_code::{Fault, Line, Memory, Naming, Reason};
 use std::alloc::{AllocError, Global};
 use std::collections::BTreeMap;
+use std::mem;
 use v8_syntax::bytes_between;
 
 /// How many names there may be.
@@ -100,10 +101,28 @@ pub enum Section {
     Ignored,
 }
 
+/// A text of its own; an empty one where memory is refused, which is noted.
+pub fn owned(memory: &mut Memory, text: &str) -> String {
+    let mut made = String::new(memory.alloc);
+    memory.take(made.push_str(text));
+    made
+}
+
+/// Why a line can't be read, but for want of memory.
+#[derive(Clone, Copy)]
+pub enum Cause {
+    Unreadable(&'static str),
+    /// There is more of something than there may be.
+    TooMany(&'static str, u64),
+    CallThroughPointer,
+    /// A name, which the source has.
+    Named(Naming),
+}
+
 /// What has been read so far, of one file or of several.
 #[derive(Drop)]
 pub struct Source {
-    pub alloc: Global,
+    pub memory: Memory,
     pub files: Vec<String>,
     pub symbols: Vec<Symbol>,
     pub codes: Vec<Code>,
@@ -127,15 +146,16 @@ pub struct Source {
     place: Line,
     /// The line of C, where one is known.
     pub(crate) origin: Option<Line>,
-    /// The first fault: what is read behind it counts for nothing.
-    fault: Option<Fault>,
+    /// The first fault but want of memory, and the name in it: what is read behind it counts for nothing.
+    fault: Option<(Line, Cause)>,
+    name: String,
 }
 
 impl Source {
     /// Nothing read yet.
     pub fn new(alloc: Global) -> Source {
         Source {
-            alloc,
+            memory: Memory::new(alloc),
             files: Vec::new(alloc),
             symbols: Vec::new(alloc),
             codes: Vec::new(alloc),
@@ -151,6 +171,7 @@ impl Source {
             place: Line { file: 0, number: 0 },
             origin: None,
             fault: None,
+            name: String::new(alloc),
         }
     }
 
@@ -159,60 +180,49 @@ impl Source {
         self.origin.unwrap_or(self.place)
     }
 
-    /// Notes a fault, of which the first one is told.
-    pub(crate) fn note(&mut self, fault: Fault) {
+    /// Notes a fault at the line that is read, of which the first one is told.
+    pub(crate) fn refuse(&mut self, cause: Cause) {
         if self.fault.is_none() {
-            self.fault = Some(fault);
-        }
-    }
-
-    /// Notes want of memory.
-    pub(crate) fn lack(&mut self) {
-        self.note(Fault::from(AllocError))
-    }
-
-    /// Notes a fault at the line that is read.
-    pub(crate) fn refuse(&mut self, reason: Reason) {
-        self.note(Fault::new(self.line(), reason))
-    }
-
-    /// Notes what can't be read.
-    pub(crate) fn unreadable(&mut self, what: &'static str) {
-        self.refuse(Reason::Unreadable(what))
-    }
-
-    /// Notes that there is more than there may be.
-    pub(crate) fn too_many(&mut self, what: &'static str, most: u64) {
-        self.refuse(Reason::TooMany { what, most })
-    }
-
-    /// A text of its own; an empty one where memory is refused, which is noted.
-    fn owned(&mut self, text: &str) -> String {
-        match String::from_str(self.alloc, text) {
-            Ok(made) => made,
-            Err(_) => {
-                self.lack();
-                String::new(self.alloc)
-            }
+            self.fault = Some((self.line(), cause));
         }
     }
 
     /// Notes a fault that names what stands in the line.
     pub(crate) fn named(&mut self, naming: Naming, name: &[u8]) {
-        let name = self.owned(shown(name));
-        self.refuse(Reason::Named(naming, name))
+        if self.fault.is_none() {
+            self.name = owned(&mut self.memory, shown(name));
+        }
+        self.refuse(Cause::Named(naming))
+    }
+
+    /// Tells what was noted.
+    fn told(&mut self) -> Result<(), Fault> {
+        if self.memory.is_refused {
+            return Err(Fault::from(AllocError));
+        }
+        let Some((line, cause)) = self.fault else {
+            return Ok(());
+        };
+        let reason = match cause {
+            Cause::Unreadable(what) => Reason::Unreadable(what),
+            Cause::TooMany(what, most) => Reason::TooMany { what, most },
+            Cause::CallThroughPointer => Reason::CallThroughPointer,
+            Cause::Named(naming) => {
+                let none = String::new(self.memory.alloc);
+                Reason::Named(naming, mem::replace(&mut self.name, none))
+            }
+        };
+        Err(Fault::new(line, reason))
     }
 
     /// The number of a file's name, which is new.
     pub(crate) fn add_file(&mut self, name: &[u8]) -> usize {
         let number = self.files.len();
         if number >= NAMES {
-            self.too_many("files", 200_000);
+            self.refuse(Cause::TooMany("files", 200_000));
         }
-        let name = self.owned(shown(name));
-        if self.files.push(name).is_err() {
-            self.lack();
-        }
+        let name = owned(&mut self.memory, shown(name));
+        self.memory.push(&mut self.files, name);
         number
     }
 
@@ -227,22 +237,18 @@ impl Source {
             self.named(Naming::Label, name);
         }
         if number >= NAMES {
-            self.too_many("names", 200_000);
+            self.refuse(Cause::TooMany("names", 200_000));
         }
-        let key = self.owned(text);
-        if self.names.insert(key, number).is_err() {
-            self.lack();
-        }
+        let key = owned(&mut self.memory, text);
+        self.memory.is_refused |= self.names.insert(key, number).is_err();
         let symbol = Symbol {
-            name: self.owned(text),
+            name: owned(&mut self.memory, text),
             is_global: false,
             is_function: false,
             place: SymbolPlace::Nowhere,
             line: self.line(),
         };
-        if self.symbols.push(symbol).is_err() {
-            self.lack();
-        }
+        self.memory.push(&mut self.symbols, symbol);
         number
     }
 
@@ -261,7 +267,7 @@ impl Source {
     pub(crate) fn count_items(&mut self, count: usize) {
         self.items = self.items.saturating_add(count);
         if self.items > ITEMS {
-            self.too_many("labels and instructions", 400_000);
+            self.refuse(Cause::TooMany("labels and instructions", 400_000));
         }
     }
 
@@ -278,11 +284,9 @@ impl Source {
             let code = Code {
                 symbol,
                 line: self.place,
-                items: Vec::new(self.alloc),
+                items: Vec::new(self.memory.alloc),
             };
-            if self.codes.push(code).is_err() {
-                self.lack();
-            }
+            self.memory.push(&mut self.codes, code);
         } else if self.in_code
             && let Some(code) = self.codes.last()
         {
@@ -318,7 +322,7 @@ impl Source {
         match self.section {
             _ if word.is_empty() => {}
             Section::Code => self.instruction(word, rest),
-            Section::Data { .. } => self.unreadable("an instruction among data"),
+            Section::Data { .. } => self.refuse(Cause::Unreadable("an instruction among data")),
             Section::Ignored => {}
         }
     }
@@ -338,7 +342,7 @@ impl Source {
         self.place = Line { file, number: 0 };
         let mut start: usize = 0;
         for _ in 0..=text.len() {
-            if self.fault.is_some() | (start > text.len()) {
+            if self.memory.is_refused | self.fault.is_some() | (start > text.len()) {
                 break;
             }
             let rest = bytes_between(text, start, text.len());
@@ -347,16 +351,6 @@ impl Source {
             self.place.number = self.place.number.saturating_add(1);
             self.read_line(line);
         }
-        match self.fault.take() {
-            Some(fault) => Err(fault),
-            None => Ok(()),
-        }
-    }
-
-    /// The code ends where another section begins, and goes on where the code's does.
-    pub(crate) fn enter(&mut self, section: Section) {
-        self.section = section;
-        self.in_object = false;
-        self.align = 1;
+        self.told()
     }
 }

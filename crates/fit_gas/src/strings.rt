@@ -1,6 +1,6 @@
 //! The bytes that a string of the assembler stands for.
-use crate::text::{digits_of, unquoted};
-use std::alloc::AllocError;
+use crate::text::unquoted;
+use fit_code::Memory;
 use v8_syntax::{beside, bytes_between};
 
 /// The letters that stand for other bytes behind a backslash.
@@ -15,25 +15,33 @@ static LETTERS: [(&str, u8); 5] = [
 /// The byte that stands behind a backslash, and how many bytes of the text it takes: octal digits, three at most, or a
 /// letter. None where nothing stands there, and of `x`.
 fn escaped(text: &[u8]) -> Option<(u8, usize)> {
-    let letter = *text.first()?;
-    for fewer in 0..3usize {
-        let count = 3usize.saturating_sub(fewer);
-        if let Some(value) = digits_of(bytes_between(text, 0, count), 8) {
-            return Some((value.rem_euclid(256) as u8, count));
+    let mut value: u8 = 0;
+    let mut length: usize = 0;
+    for byte in bytes_between(text, 0, text.len().min(3)) {
+        let digit = byte.wrapping_sub(b'0');
+        if digit > 7 {
+            break;
+        }
+        value = value.wrapping_mul(8).wrapping_add(digit);
+        length = length.saturating_add(1);
+    }
+    if length > 0 {
+        return Some((value, length));
+    }
+    match *text.first()? {
+        b'x' => None,
+        letter => {
+            let found = beside(bytes_between(text, 0, 1), &LETTERS);
+            Some((found.unwrap_or(letter), 1))
         }
     }
-    if letter == b'x' {
-        return None;
-    }
-    let found = beside(bytes_between(text, 0, 1), &LETTERS);
-    Some((found.unwrap_or(letter), 1))
 }
 
 /// Appends the bytes of a string, which stands here in its quotes, and a zero where it ends with one. False where it
 /// has no quotes, and where `\x` is in it, which isn't read, or a backslash that ends it.
-pub fn push_string(text: &[u8], ends: bool, out: &mut Vec<u8>) -> Result<bool, AllocError> {
+pub fn push_string(memory: &mut Memory, text: &[u8], ends: bool, out: &mut Vec<u8>) -> bool {
     let Some(mut rest) = unquoted(text) else {
-        return Ok(false);
+        return false;
     };
     for _ in 0..text.len() {
         let Some((first, others)) = rest.split_first() else {
@@ -42,16 +50,16 @@ pub fn push_string(text: &[u8], ends: bool, out: &mut Vec<u8>) -> Result<bool, A
         let (byte, length) = if *first == b'\\' {
             match escaped(others) {
                 Some(found) => found,
-                None => return Ok(false),
+                None => return false,
             }
         } else {
             (*first, 0)
         };
-        out.push(byte)?;
+        memory.push(out, byte);
         rest = bytes_between(others, length, others.len());
     }
     if ends {
-        out.push(0)?;
+        memory.push(out, 0);
     }
-    Ok(true)
+    true
 }

@@ -90,28 +90,8 @@ pub fn first_label(text: &[u8]) -> Option<(&[u8], &[u8])> {
     }
 }
 
-/// The number of some digits, below 2^40.
-pub fn digits_of(digits: &[u8], radix: u8) -> Option<i64> {
-    let mut value: i64 = 0;
-    for byte in digits {
-        let byte = *byte;
-        let digit = match byte {
-            b'0'..=b'9' => byte - b'0',
-            b'a'..=b'z' => byte - b'a' + 10,
-            b'A'..=b'Z' => byte - b'A' + 10,
-            _ => 36,
-        };
-        value = value
-            .saturating_mul(i64::from(radix))
-            .saturating_add(i64::from(digit));
-        if (digit >= radix) | (value >= LIMIT) {
-            return None;
-        }
-    }
-    if digits.is_empty() { None } else { Some(value) }
-}
-
 /// A number as the assembler reads it, perhaps behind a sign: hexadecimal behind `0x`, octal behind `0`, else decimal.
+/// It lies below 2^40.
 pub fn number_of(text: &[u8]) -> Option<i64> {
     let (natural, sign) = match text {
         [b'-', rest @ ..] => (rest, -1),
@@ -122,7 +102,31 @@ pub fn number_of(text: &[u8]) -> Option<i64> {
         [b'0', _, ..] => (natural, 8),
         _ => (natural, 10),
     };
-    Some(digits_of(digits, radix)?.saturating_mul(sign))
+    let mut value: i64 = 0;
+    for byte in digits {
+        let byte = *byte;
+        let digit = match byte {
+            b'0'..=b'9' => byte - b'0',
+            b'a'..=b'z' => byte - b'a' + 10,
+            b'A'..=b'Z' => byte - b'A' + 10,
+            _ => 36,
+        };
+        let digit = i64::from(digit);
+        value = value.saturating_mul(radix).saturating_add(digit);
+        if (digit >= radix) | (value >= LIMIT) {
+            return None;
+        }
+    }
+    if digits.is_empty() {
+        None
+    } else {
+        Some(value.saturating_mul(sign))
+    }
+}
+
+/// A number as a word, without the bits that don't fit.
+pub fn word_of(number: i64) -> u32 {
+    (number as i128).rem_euclid(0x1_0000_0000) as u32
 }
 
 /// A name, perhaps with a number behind it; or a number, with no name.

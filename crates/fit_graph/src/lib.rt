@@ -9,12 +9,12 @@ mod live;
 mod means;
 
 pub use cells::{
-    Growth, Shape, Thresholds, are_same, enter, go_along, join, range_in, return_from, run_step,
-    run_to_call, thresholds_of,
+    Growth, Shape, Thresholds, enter, go_along, join, range_in, return_from, run_step, run_to_call,
+    thresholds_of,
 };
 pub use graph::{
-    Loop, Order, Tangle, enters_beside_head, loops_of, order_of, predecessors_of, reached_from,
-    successors_in, successors_of, tangle_of,
+    Graph, Loop, Order, Tangle, order_of, predecessors_of, reached_from, successors_in,
+    successors_of, tangle_of,
 };
 pub use live::{Effects, Liveness, Locations, effects_in, effects_of, read_at_end};
 pub use means::Means;

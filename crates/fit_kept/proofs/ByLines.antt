@@ -1,8 +1,8 @@
 -- Why lines stay annotated line by line, and what is left of them without their annotations.
-use Rattle.std.proofs.Common.{◌≡◌, ℕ, ◌⊎◌, inl, inr, Bool, true, false, List, [], ◌∷◌, length, refl, sym, ap, subst, ◌∙◌, arith}
+use Rattle.std.proofs.Common.{◌≡◌, ℕ, inl, inr, Bool, true, List, [], ◌∷◌, length, refl, sym, ap, subst, ◌∙◌, arith}
 use Rattle.sbx_asm.specs.Items.{lines_of}
 use Rattle.std.specs.Prelude.{if◌then◌else◌}
-use Rattle.fit_kept.specs.Lines.{IsAnnotated, IsKept, Takes, Fills, is_annotation, bare, without}
+use Rattle.fit_kept.specs.Lines.{IsAnnotated, IsKept, Takes, is_annotation, bare, without}
 
 -- an annotation takes nothing
 pub takes_annotation : (ls : List (List ℕ)) (m : List ℕ) → is_annotation m ≡ true → Takes ls m ls

@@ -1,10 +1,9 @@
-//! The law of `fit annotate`: what it makes of a source is that source with annotations, and nothing else is another.
+//! The law of `fit annotate`: whether a text is a source with annotations and nothing else; and where a line has the
+//! numbers that may change.
 #![tactic(auto)]
 
-mod annotating;
 mod keeping;
 mod lines;
 
-pub use annotating::{Refusal, annotate};
-pub use fit_annotate::{Addition, Annotated, Annotation, Asked, Total, Value, insert};
 pub use keeping::is_annotated;
+pub use lines::{Parts, parts_of};

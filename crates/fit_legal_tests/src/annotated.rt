@@ -1,36 +1,27 @@
 //! Sources whose annotations were worked out by hand.
-use fit_kept::{Annotated, Asked, Refusal, annotate};
+use fit_annotate::{Asked, Refusal, annotate};
 use std::alloc::{AllocError, Global};
 
-/// What is made of a source.
-#[derive(Clone, Copy)]
-enum Wanted<'w> {
-    /// This text, and no note.
-    Text(&'w [u8]),
-    /// A text that begins so, and no note.
-    Begin(&'w [u8]),
-    /// One note, that a loop at this line has no counter.
-    Counter(u32),
-    /// Nothing, since the assembler refuses this line.
-    Refused(usize),
-}
-
-fn is_made(made: &Annotated, wanted: Wanted<'_>) -> bool {
-    match (made.notes.as_slice(), wanted) {
-        ([], Wanted::Text(text)) => made.text.as_slice() == text,
-        ([], Wanted::Begin(text)) => made.text.as_slice().starts_with(text),
-        ([note], Wanted::Counter(line)) => note.line == line
-            && matches!(note.asked, Asked::Counter),
-        _ => false,
+/// Whether a source gets this text, or one that begins so and `goes_on`, and there is nothing to note.
+fn becomes(alloc: Global, source: &[u8], text: &[u8], goes_on: bool) -> bool {
+    match annotate(alloc, "t.s", source) {
+        Ok(made) => {
+            let is_whole = made.text.len() == text.len();
+            made.notes.is_empty() && made.text.starts_with(text) && (goes_on || is_whole)
+        }
+        Err(_refusal) => false,
     }
 }
 
-/// Whether this is made of a source.
-fn makes(alloc: Global, source: &[u8], wanted: Wanted<'_>) -> bool {
-    match (annotate(alloc, "t.s", source), wanted) {
-        (Ok(made), wanted) => is_made(&made, wanted),
-        (Err(Refusal::Source(fault)), Wanted::Refused(line)) => fault.line == line,
-        _ => false,
+/// The one line of a source at which a counter is asked for, or which the assembler refuses; 0 where neither is.
+fn line_told(alloc: Global, source: &[u8]) -> usize {
+    match annotate(alloc, "t.s", source) {
+        Ok(made) => match made.notes.as_slice() {
+            [note] if matches!(note.asked, Asked::Counter) => note.line as usize,
+            _ => 0,
+        },
+        Err(Refusal::Source(fault)) => fault.line,
+        Err(_refusal) => 0,
     }
 }
 
@@ -83,7 +74,7 @@ const ANNOTATED: &[u8] = b".services exit,put
 /// The countdown of the examples without its annotations, and with those that stand there.
 #[test]
 fn a_countdown(rt: HostRuntime) {
-    assert!(rt; makes(rt.alloc(), COUNTDOWN, Wanted::Text(ANNOTATED)));
+    assert!(rt; becomes(rt.alloc(), COUNTDOWN, ANNOTATED, false));
 }
 
 /// A loop that nothing counts.
@@ -99,9 +90,9 @@ const ENDLESS: &[u8] = b".services exit,put
 /// A loop that nothing counts is noted at its line, and a source that means no image is refused at its own.
 #[test]
 fn what_isnt_shown(rt: HostRuntime) {
-    assert!(rt; makes(rt.alloc(), ENDLESS, Wanted::Counter(4)));
+    assert!(rt; line_told(rt.alloc(), ENDLESS) == 4);
     let source = b".services exit\n    nop\n";
-    assert!(rt; makes(rt.alloc(), source, Wanted::Refused(2)));
+    assert!(rt; line_told(rt.alloc(), source) == 2);
 }
 
 /// As many blocks as a function may have, each of one word but for the last one.
@@ -121,5 +112,5 @@ fn many_blocks(rt: HostRuntime) {
     let is_full = push_blocks(&mut source).is_ok();
     let wanted =
         b".services exit\n.function main,leaf,0,0,4099\n.fuel 4099\n nop\n.block b1\n.fuel 4098\n nop\n.block b2\n";
-    assert!(rt; is_full && makes(rt.alloc(), source.as_bytes(), Wanted::Begin(wanted)));
+    assert!(rt; is_full && becomes(rt.alloc(), source.as_bytes(), wanted, true));
 }

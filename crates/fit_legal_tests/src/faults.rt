@@ -1,10 +1,12 @@
 //! Sources that are refused.
-use crate::told::{are_told, is_shown};
+use crate::told::are_told;
 use fit_code::{Fault, Line, Reason};
+use fit_text::FaultLine;
 use std::alloc::Global;
+use std::slice::from_ref;
 
 /// What stands behind `main:` in the fourth line, and why there is no program.
-static REFUSED: [(&str, &str); 20] = [
+static REFUSED: [(&str, &str); 10] = [
     (
         " save %sp,-96,%sp\n call main\n nop\n ret\n restore",
         "t.s:6: refused: recursion: main calls main",
@@ -45,6 +47,10 @@ static REFUSED: [(&str, &str); 20] = [
         " add %sp,-96,%sp\n ld [%sp+188],%o0\n retl\n sub %sp,-96,%sp",
         "t.s:6: refused: main: an access to the stack outside of its frame",
     ),
+];
+
+/// The same of what no sandboxed program may do.
+static FORBIDDEN: [(&str, &str); 10] = [
     // Calls through pointers, as gcc and as clang write them, with the line of C where it is known.
     (
         " save %sp,-96,%sp\n call %o1\n nop\n ret\n restore",
@@ -94,6 +100,7 @@ static REFUSED: [(&str, &str); 20] = [
 #[test]
 fn sources_are_refused(rt: HostRuntime) {
     are_told(&rt, rt.alloc(), &REFUSED);
+    are_told(&rt, rt.alloc(), &FORBIDDEN);
 }
 
 /// What is told of budgets that are refused, most of which the loop in line 9 may take.
@@ -116,8 +123,15 @@ fn is_budget_shown(alloc: Global, turns: u64, wanted: &str) -> bool {
         turns,
         is_loop: true,
     };
-    let line = Line { file: 0, number: 9 };
-    is_shown(alloc, &Fault::new(line, reason), "a.c", wanted)
+    let fault = &Fault::new(Line { file: 0, number: 9 }, reason);
+    let mut told = String::new(alloc);
+    match String::from_str(alloc, "a.c") {
+        Ok(name) => {
+            let files = from_ref(&name);
+            write!(told, "{}", FaultLine { fault, files }).is_ok() && told.as_str() == wanted
+        }
+        Err(_error) => false,
+    }
 }
 
 #[test]

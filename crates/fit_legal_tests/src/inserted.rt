@@ -1,6 +1,7 @@
 //! Sources with annotations put in, written out by hand.
+use fit_annotate::{Addition, Annotation, Total, Value, insert};
 use fit_code::Reason;
-use fit_kept::{Addition, Annotation, Total, Value, insert, is_annotated};
+use fit_kept::is_annotated;
 use sbx_image::Range;
 use std::alloc::Global;
 

@@ -2,97 +2,52 @@
 use fit_code::{Block, End, Fault, Function, Program};
 use fit_gas::Source;
 use fit_legal::program_of;
-use std::alloc::Global;
-use std::fmt::Display;
+use fit_text::FaultLine;
+use std::alloc::{AllocError, Global};
 use std::process::Abort;
 use v8_formats::encode;
 
-/// What is told of a source.
-#[derive(Drop)]
-struct Told {
-    text: String,
-    /// Whether memory was refused, so that something lacks in it.
-    lacks: bool,
-}
-
-impl Told {
-    fn nothing(alloc: Global) -> Told {
-        Told {
-            text: String::new(alloc),
-            lacks: false,
-        }
-    }
-
-    fn add(&mut self, text: &str) {
-        self.lacks |= self.text.push_str(text).is_err();
-    }
-
-    fn put<D: Display>(&mut self, before: &str, value: &D) {
-        self.lacks |= write!(self.text, "{before}{value}").is_err();
-    }
-
-    fn is(&self, wanted: &str) -> bool {
-        !self.lacks && self.text.as_str() == wanted
-    }
-}
-
-fn push_end(told: &mut Told, end: End) {
-    match end {
-        End::Jump(to) => told.put(">", &to),
-        End::Branch { taken, next, .. } => {
-            told.put("?", &taken);
-            told.put(",", &next);
-        }
-        End::Return(_) => told.add("."),
-        End::Exit => told.add("!"),
-    }
-}
-
-/// The words of a block's steps, and its end.
-fn push_block(told: &mut Told, block: &Block) {
+/// Tells the words of a block's steps, and its end.
+fn push_block(told: &mut String, block: &Block) -> Result<(), AllocError> {
     for step in block.steps.as_slice() {
         let word = encode(&step.instr);
-        told.lacks |= write!(told.text, " {word:08x}").is_err();
+        write!(told, " {word:08x}")?;
     }
-    told.add(" ");
-    push_end(told, block.end);
+    match block.end {
+        End::Jump(to) => write!(told, " >{to}"),
+        End::Branch { taken, next, .. } => write!(told, " ?{taken},{next}"),
+        End::Return(_) => told.push_str(" ."),
+        End::Exit => told.push_str(" !"),
+    }
 }
 
-fn push_function(told: &mut Told, function: &Function) {
-    told.add(function.name.as_str());
-    told.put(" ", &function.frame);
-    told.add(":");
+/// Tells the name of a function, the bytes of its frame, and its blocks.
+fn push_function(told: &mut String, function: &Function) -> Result<(), AllocError> {
+    let Function { name, frame, .. } = function;
+    write!(told, "{name} {frame}:")?;
     for block in function.blocks.as_slice() {
-        push_block(told, block);
+        push_block(told, block)?;
     }
-    told.add("\n");
+    told.push_str("\n")
 }
 
-fn push_program(told: &mut Told, program: &Program) {
+/// Tells the regions of a program: whether each may be read alone, where it begins, and how many bytes it has.
+fn push_regions(told: &mut String, program: &Program) -> Result<(), AllocError> {
+    for region in program.regions.as_slice() {
+        let right = if region.readonly { "ro" } else { "rw" };
+        let (start, length) = (region.start, region.length);
+        write!(told, "{right} {start:x} {length}\n")?;
+    }
+    Ok(())
+}
+
+/// Tells the regions and the functions of a program.
+fn push_program(told: &mut String, program: &Program) -> Result<(), AllocError> {
+    push_regions(told, program)?;
     for function in program.functions.as_slice() {
-        push_function(told, function);
+        push_function(told, function)?;
     }
-}
-
-/// Whether a program has these regions: whether each may be read alone, where it begins, and how many bytes it has.
-fn has_regions(program: &Program, wanted: &[(bool, u32, u32)]) -> bool {
-    for (place, region) in program.regions.iter().enumerate() {
-        let found = (region.readonly, region.start, region.length);
-        match wanted.get(place) {
-            Some(other) if found == *other => {}
-            _ => return false,
-        }
-    }
-    program.regions.len() == wanted.len()
-}
-
-/// Whether a fault is shown so, where its file has this name.
-pub(crate) fn is_shown(alloc: Global, fault: &Fault, name: &str, wanted: &str) -> bool {
-    let mut told = Told::nothing(alloc);
-    if let Ok(name) = String::from_str(alloc, name) {
-        told.put("", &fault.shown(&[name]));
-    }
-    told.is(wanted)
+    Ok(())
 }
 
 /// What each source begins with.
@@ -100,34 +55,36 @@ const HEAD: &str = ".global main\n.type main,#function\n.type f,#function\nmain:
 
 /// The program of one file, which has this behind `main:`.
 fn made(source: &mut Source, body: &str) -> Result<Program, Fault> {
-    let mut text = String::from_str(source.alloc, HEAD)?;
-    text.push_str(body)?;
+    let mut text = String::new(source.memory.alloc);
+    write!(text, "{HEAD}{body}")?;
     source.read("t.s", text.as_bytes())?;
-    program_of(source.alloc, source, "main")
+    program_of(source.memory.alloc, source, "main")
 }
 
 /// Whether this is told of a program, or is why there is none.
 fn tells(alloc: Global, body: &str, wanted: &str) -> bool {
     let mut source = Source::new(alloc);
-    let mut told = Told::nothing(alloc);
-    match made(&mut source, body) {
+    let mut told = String::new(alloc);
+    let done = match made(&mut source, body) {
         Ok(program) => push_program(&mut told, &program),
-        Err(fault) => told.put("", &fault.shown(source.files.as_slice())),
-    }
-    told.is(wanted)
+        Err(fault) => {
+            let files = source.files.as_slice();
+            write!(
+                told,
+                "{}",
+                FaultLine {
+                    fault: &fault,
+                    files
+                }
+            )
+        }
+    };
+    done.is_ok() && told.as_str() == wanted
 }
 
 /// Asserts that each row is told.
 pub(crate) fn are_told(rt: &impl Abort, alloc: Global, rows: &[(&str, &str)]) {
     for (body, wanted) in rows {
         assert!(rt; tells(alloc, body, wanted), "{body}");
-    }
-}
-
-/// Whether the program of a source has these regions.
-pub(crate) fn is_laid_out(alloc: Global, body: &str, wanted: &[(bool, u32, u32)]) -> bool {
-    match made(&mut Source::new(alloc), body) {
-        Ok(program) => has_regions(&program, wanted),
-        Err(_fault) => false,
     }
 }

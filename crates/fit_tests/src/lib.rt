@@ -8,5 +8,6 @@ mod plans;
 mod settling;
 
 pub use asks::{Access, Asking, Lack, asks_of, needed_alignment};
-pub use cuts::{number_in, push_block, push_instrs, register};
-pub use settling::{Kind, Options, Test, add_tests};
+pub use cuts::{CODES, Y, insert_instr, number_in, push_block, push_instrs, register, use_of};
+pub use plans::{Kind, Test};
+pub use settling::{Options, add_tests};

@@ -1,11 +1,13 @@
-//! A program as an annotated source.
+//! A program as an annotated source, and a fault as a line.
 #![tactic(auto)]
 
 mod annotations;
 mod code;
 mod data;
+mod fault;
 mod names;
 mod text;
 
 pub use annotations::{Annotations, BlockNotes, FunctionNotes};
 pub use code::source_of;
+pub use fault::{FaultLine, Why};

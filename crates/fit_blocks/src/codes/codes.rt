@@ -3,7 +3,7 @@
 use crate::plain::{against_zero, step_of};
 use crate::points::{bit_of, operands_read, reads_codes, sets_codes, written};
 use crate::stops::Stops;
-use fit_code::{Block, End, Function};
+use fit_code::{Block, End, Function, Memory};
 use fit_graph::predecessors_of;
 use v8_formats::{Instr, bits_of, decode, encode, three_of};
 use v8_word::Cond;
@@ -32,148 +32,109 @@ fn repeated(instr: &Instr, zero_alone: bool) -> Option<u32> {
     }
 }
 
-/// Whether a block reads codes that it didn't set; and whether zero and sign alone matter of them.
-fn reads_before(block: &Block) -> Option<bool> {
+/// What a block does with the codes.
+#[derive(Clone, Copy)]
+struct Codes {
+    /// Whether it reads codes that it didn't set; and whether zero and sign alone matter of them.
+    read: Option<bool>,
+    /// The instruction that sets them last.
+    setter: Option<Instr>,
+    /// What is written behind that, or in the whole block where nothing sets them.
+    written: u32,
+}
+
+fn codes_of(block: &Block) -> Codes {
+    let mut codes = Codes {
+        read: None,
+        setter: None,
+        written: 0,
+    };
     for step in block.steps.as_slice() {
-        if reads_codes(&step.instr) {
-            return Some(false);
+        if codes.setter.is_none() & reads_codes(&step.instr) {
+            codes.read = Some(false);
         }
         if sets_codes(&step.instr) {
-            return None;
+            codes.setter = Some(step.instr);
+            codes.written = 0;
+        } else if step.callee.is_some() {
+            // A callee may write all of these.
+            codes.written |= 0xffff;
+        } else {
+            codes.written |= written(&step.instr);
         }
     }
-    match block.end {
-        End::Branch { cond, .. } => Some(matches!(
+    if let End::Branch { cond, .. } = block.end
+        && codes.setter.is_none() & codes.read.is_none()
+    {
+        codes.read = Some(matches!(
             cond,
             Cond::Equal | Cond::NotEqual | Cond::Negative | Cond::Positive
-        )),
-        _ => None,
+        ));
     }
+    codes
 }
 
-/// What sets the codes that a block begins with.
-#[derive(Drop)]
-struct Search<'s> {
-    stops: &'s mut Stops,
-    predecessors: &'s [Vec<usize>],
-    /// The word of the instruction that sets the same.
-    found: Option<u32>,
-    /// What is written between it and the block.
-    written: u32,
-    /// Whether there is one alone, which may be repeated.
-    is_one: bool,
+/// The word of what sets the codes that a block begins with, as one instruction that may stand at its start. The blocks
+/// before it are those of `first`, and each one's those of `before`; `zero_alone` says that zero and sign alone matter.
+fn setter_of(
+    memory: &mut Memory,
+    blocks: &[Block],
+    before: &[Vec<usize>],
+    first: &[usize],
     zero_alone: bool,
-    /// The blocks that are to be looked at.
-    open: Vec<usize>,
-    /// For each block whether it is among these, or was.
-    seen: Vec<bool>,
-}
-
-impl Search<'_> {
-    /// The blocks before a block are to be looked at; where there are none the codes are set nowhere.
-    fn enter(&mut self, block: usize) {
-        let before = match self.predecessors.get(block) {
-            Some(before) => before.as_slice(),
-            None => &[],
+) -> Option<u32> {
+    let mut flags = memory.repeat(false, blocks.len());
+    let seen = flags.as_mut_slice();
+    let mut open = memory.copy(first);
+    let mut is_one = !first.is_empty();
+    let mut found = None;
+    let mut later = 0;
+    // Each block is looked at once, so that there is an end.
+    for _ in 0..usize::MAX {
+        let Some(place) = open.pop() else {
+            break;
         };
-        self.is_one = self.is_one & !before.is_empty();
-        for from in before {
-            let seen = self.seen.as_mut_slice();
-            if *from < seen.len() && !seen[*from] {
-                seen[*from] = true;
-                self.stops.push(&mut self.open, *from);
+        if (place < blocks.len()) & (place < seen.len()) && !seen[place] {
+            seen[place] = true;
+            let codes = codes_of(&blocks[place]);
+            later |= codes.written;
+            if let Some(instr) = codes.setter {
+                let word = repeated(&instr, zero_alone);
+                is_one &= word.is_some() & (found.is_none() | (found == word));
+                found = word;
+            } else if place < before.len() {
+                let sources = before[place].as_slice();
+                is_one &= !sources.is_empty();
+                memory.is_refused |= open.extend_from_slice(sources).is_err();
             }
         }
     }
-
-    /// Looks for what sets the codes at the end of a block; goes to the blocks before it where nothing in it does.
-    fn look(&mut self, number: usize, block: &Block) {
-        let mut setter = None;
-        let mut later = 0;
-        for step in block.steps.as_slice() {
-            if sets_codes(&step.instr) {
-                setter = Some(step.instr);
-                later = 0;
-            } else {
-                // a callee may write all of these
-                later |= match step.callee {
-                    Some(_) => 0xffff,
-                    None => written(&step.instr),
-                };
-            }
-        }
-        self.written |= later;
-        if let Some(instr) = setter {
-            let word = repeated(&instr, self.zero_alone);
-            let is_same = self.found.is_none() | (self.found == word);
-            self.is_one = self.is_one & is_same & word.is_some();
-            self.found = word;
-        } else {
-            self.enter(number);
-        }
-    }
-
-    /// The word of what sets the codes that a block begins with, as one instruction that may stand at its start.
-    fn setter_of(&mut self, blocks: &[Block], block: usize) -> Option<u32> {
-        self.found = None;
-        self.written = 0;
-        self.is_one = true;
-        self.open.clear();
-        self.seen.as_mut_slice().fill(false);
-        self.enter(block);
-        for place in 0..blocks.len() {
-            if let Some(from) = self.open.get(place).copied()
-                && let Some(found) = blocks.get(from)
-            {
-                self.look(from, found);
-            }
-        }
-        // It may where it is one alone, and nothing that it reads is written behind it.
-        let read = operands_read(&three_of(self.found.unwrap_or(0)));
-        if self.is_one & (read & self.written == 0) {
-            self.found
-        } else {
-            None
-        }
-    }
-
-    /// Repeats the compare that a block needs, if it does and nothing stopped it before.
-    fn repeat(&mut self, function: &mut Function, number: usize) {
-        if self.stops.first.is_none()
-            && let Some(block) = function.blocks.get(number)
-            && let Some(zero_alone) = reads_before(block)
-        {
-            let line = block.line;
-            self.zero_alone = zero_alone;
-            let setter = self.setter_of(function.blocks.as_slice(), number);
-            let Some(word) = setter else {
-                return self.stops.form(function.name.as_str(), line, REFUSED);
-            };
-            if let Some(block) = function.blocks.get_mut(number)
-                && block.steps.insert(0, step_of(decode(word), line)).is_err()
-            {
-                self.stops.lack();
-            }
-        }
+    // It may stand there where it is one alone, and nothing that it reads is written behind it.
+    match found {
+        Some(word) if is_one & (operands_read(&three_of(word)) & later == 0) => found,
+        _ => None,
     }
 }
 
 /// Repeats compares in the blocks that read the codes of other blocks' ends. It is a fault where they can't be.
 pub fn repeat_compares(stops: &mut Stops, function: &mut Function) {
-    let alloc = stops.alloc;
-    let predecessors = stops.made(predecessors_of(alloc, function));
-    let seen = stops.made(Vec::from_elem(alloc, false, predecessors.len()));
-    let mut search = Search {
-        stops,
-        predecessors: predecessors.as_slice(),
-        found: None,
-        written: 0,
-        is_one: true,
-        zero_alone: false,
-        open: Vec::new(alloc),
-        seen,
-    };
-    for number in 0..function.blocks.len() {
-        search.repeat(function, number);
+    let before = stops.made(predecessors_of(stops.memory.alloc, function));
+    let before = before.as_slice();
+    let blocks = function.blocks.as_mut_slice();
+    for number in 0..blocks.len() {
+        let line = blocks[number].line;
+        if let Some(zero_alone) = codes_of(&blocks[number]).read
+            && number < before.len()
+        {
+            let first = before[number].as_slice();
+            match setter_of(&mut stops.memory, blocks, before, first, zero_alone) {
+                Some(word) => {
+                    let compare = step_of(decode(word), line);
+                    let inserted = blocks[number].steps.insert(0, compare);
+                    stops.memory.is_refused |= inserted.is_err();
+                }
+                None => stops.form(line, REFUSED),
+            }
+        }
     }
 }

@@ -22,8 +22,21 @@ pub(crate) fn moved(end: End, numbers: &[Option<usize>]) -> End {
     }
 }
 
-/// Puts the blocks that have numbers where these say, and their ends by these. No number is above that of its block.
-fn put_blocks(blocks: &mut [Block], numbers: &[Option<usize>]) {
+/// Leaves out the blocks that can't be reached, and the first one, which is empty, where no other block goes to the one
+/// that it goes to.
+pub fn prune(stops: &mut Stops, function: &mut Function, goes_to_second: bool) {
+    let Ok(order) = order_of(stops.memory.alloc, function) else {
+        stops.memory.is_refused = true;
+        return;
+    };
+    let mut places = order.places;
+    let numbers = places.as_mut_slice();
+    if !goes_to_second && !numbers.is_empty() {
+        numbers[0] = None;
+    }
+    let count = number_marked(numbers, 0);
+    let blocks = function.blocks.as_mut_slice();
+    // No number is above that of its block.
     for (place, number) in numbers.iter().enumerate() {
         if let Some(number) = *number
             && (number < blocks.len()) & (place < blocks.len())
@@ -32,20 +45,5 @@ fn put_blocks(blocks: &mut [Block], numbers: &[Option<usize>]) {
             blocks.swap(number, place);
         }
     }
-}
-
-/// Leaves out the blocks that can't be reached, and the first one, which is empty, where no other block goes to the one
-/// that it goes to.
-pub fn prune(stops: &mut Stops, function: &mut Function, goes_to_second: bool) {
-    let Ok(order) = order_of(stops.alloc, function) else {
-        return stops.lack();
-    };
-    let mut numbers = order.places;
-    let numbers = numbers.as_mut_slice();
-    if !goes_to_second && !numbers.is_empty() {
-        numbers[0] = None;
-    }
-    let count = number_marked(numbers, 0);
-    put_blocks(function.blocks.as_mut_slice(), numbers);
     function.blocks.truncate(count);
 }

@@ -1,6 +1,5 @@
 //! Instructions in forms of which more is known.
-use crate::stops::Stops;
-use fit_code::{Function, Step};
+use fit_code::{Function, Memory, Step};
 use v8_formats::{Instr, Operand, Three};
 use v8_word::Reg;
 
@@ -25,13 +24,13 @@ fn named_alone(fields: &Three) -> Option<Reg> {
 
 /// Pushes a step in forms of which more is known: `tst r` as `cmp r,0`, `orcc a,0,d` as a move and a compare of `d`
 /// with 0, and a number added to itself as a shift.
-fn push_plain(stops: &mut Stops, steps: &mut Vec<Step>, step: &Step) {
+fn push_plain(memory: &mut Memory, steps: &mut Vec<Step>, step: &Step) {
     let instr = match step.instr {
         Instr::OrCc(fields) => match named_alone(&fields) {
             Some(register) if fields.rd == Reg::G0 => against_zero(register),
             Some(_) => {
                 let instr = Instr::Or(fields);
-                stops.push(steps, Step { instr, ..*step });
+                memory.push(steps, Step { instr, ..*step });
                 against_zero(fields.rd)
             }
             None => step.instr,
@@ -49,7 +48,7 @@ fn push_plain(stops: &mut Stops, steps: &mut Vec<Step>, step: &Step) {
         }),
         other => other,
     };
-    stops.push(steps, Step { instr, ..*step })
+    memory.push(steps, Step { instr, ..*step })
 }
 
 /// The number of a function in the program, by its number in the source.
@@ -64,15 +63,15 @@ fn place_in(order: &[usize], code: usize) -> usize {
 
 /// Puts plainer forms into a function, and gives its calls the numbers of the program's functions, of which `order` has
 /// those in the source.
-pub fn put_plainly(stops: &mut Stops, function: &mut Function, order: &[usize]) {
+pub fn put_plainly(memory: &mut Memory, function: &mut Function, order: &[usize]) {
     for block in function.blocks.iter_mut() {
-        let mut steps = Vec::new(stops.alloc);
+        let mut steps = Vec::new(memory.alloc);
         for step in block.steps.as_slice() {
             let mut step = *step;
             if let Some(callee) = step.callee {
                 step.callee = Some(place_in(order, callee));
             }
-            push_plain(stops, &mut steps, &step);
+            push_plain(memory, &mut steps, &step);
         }
         block.steps = steps;
     }

@@ -1,6 +1,6 @@
 //! What instructions read and write.
-use v8_formats::{Instr, Operand, Three, Trap, bits_of, encode, three_of};
-use v8_word::{Cond, Reg};
+use v8_formats::{Instr, Operand, Three, bits_of, encode, three_of};
+use v8_word::Reg;
 
 /// A word read as a signed number.
 pub fn signed(word: u32) -> i64 {
@@ -9,11 +9,6 @@ pub fn signed(word: u32) -> i64 {
     } else {
         i64::from(word) - 0x1_0000_0000
     }
-}
-
-/// A signed number as a word, without the bits that don't fit.
-pub fn word_of(number: i64) -> u32 {
-    (number as i128).rem_euclid(0x1_0000_0000) as u32
 }
 
 /// The fields rd, rs1 and operand2; none of an instruction that hasn't these.
@@ -28,10 +23,7 @@ pub fn fields_of(instr: &Instr) -> Option<Three> {
 
 /// The bit of a register; %g0 has none.
 pub fn bit_of(register: Reg) -> u32 {
-    match register.number() {
-        0 => 0,
-        number => 1u32.checked_shl(u32::from(number)).unwrap_or(0),
-    }
+    1u32.checked_shl(u32::from(register.number())).unwrap_or(0) & !1
 }
 
 /// The registers that the operands name.
@@ -127,16 +119,6 @@ pub fn reads_codes(instr: &Instr) -> bool {
         instr,
         Instr::Addx(_) | Instr::Subx(_) | Instr::AddxCc(_) | Instr::SubxCc(_) | Instr::MulsCc(_)
     )
-}
-
-/// The number of the service that `ta n` asks for; none of another trap.
-pub fn service_of(trap: &Trap) -> Option<u32> {
-    match trap.operand2 {
-        Operand::Immediate(number) if trap.rs1 == Reg::G0 && trap.cond == Cond::Always => {
-            Some(number)
-        }
-        _ => None,
-    }
 }
 
 /// Whether sandboxed code may have an instruction within a block that is no trap: arithmetic, loads and stores of the

@@ -1,8 +1,7 @@
 //! Where the objects of a program lie.
-use crate::points::fields::word_of;
-use crate::stops::Stops;
-use fit_code::{Fault, Line, NO_LINE, Naming, Object, Reason, Region};
-use fit_gas::{Fix, Linked, Source, SymbolPlace, links_of};
+use crate::stops::{Stop, Stops};
+use fit_code::{Line, Memory, NO_LINE, Naming, Object, Region};
+use fit_gas::{Fix, Linked, Source, SymbolPlace, links_of, owned, word_of};
 
 /// Where the data of an image begin.
 const DATA: u32 = 0x8_0000;
@@ -47,11 +46,8 @@ impl Layout<'_> {
     fn ends_within(&mut self) -> bool {
         let ends_within = self.end.saturating_add(TAIL) <= DATA + MOST;
         if !ends_within {
-            let reason = Reason::TooMany {
-                what: "bytes of data",
-                most: u64::from(MOST),
-            };
-            self.stops.note(Fault::new(self.line, reason));
+            let stop = Stop::TooMany("bytes of data", u64::from(MOST));
+            self.stops.note(self.line, stop);
         }
         ends_within
     }
@@ -76,14 +72,14 @@ impl Layout<'_> {
             name,
             readonly,
             align,
-            bytes: Vec::new(self.stops.alloc),
+            bytes: Vec::new(self.stops.memory.alloc),
             start,
         };
         if self.ends_within() {
-            self.stops.take(object.bytes.extend_from_slice(bytes));
-            self.stops.take(object.bytes.resize(length, 0));
+            object.bytes = self.stops.memory.copy(bytes);
+            self.stops.memory.take(object.bytes.resize(length, 0));
         }
-        self.stops.push(&mut self.objects, object);
+        self.stops.memory.push(&mut self.objects, object);
         number
     }
 
@@ -95,7 +91,7 @@ impl Layout<'_> {
             if datum.readonly == readonly
                 && let Some(symbol) = source.symbols.get(datum.symbol)
             {
-                let name = self.stops.owned(symbol.name.as_str());
+                let name = owned(&mut self.stops.memory, symbol.name.as_str());
                 let align = datum.align.max(8);
                 let bytes = datum.bytes.as_slice();
                 let number = self.add(name, readonly, align, bytes, bytes.len(), symbol.line);
@@ -109,17 +105,18 @@ impl Layout<'_> {
 
     /// The object of so many bytes for the arguments in memory of a function of the source, which a line asks for.
     pub fn arguments_of(&mut self, function: usize, bytes: usize, line: Line) -> usize {
-        for (known, object) in &self.arguments {
+        for (known, object) in self.arguments.as_slice() {
             if *known == function {
                 return *object;
             }
         }
-        let mut name = String::new(self.stops.alloc);
-        if write!(name, "arguments of function {function}").is_err() {
-            self.stops.lack();
-        }
+        let mut name = String::new(self.stops.memory.alloc);
+        let written = write!(name, "arguments of function {function}");
+        self.stops.memory.is_refused |= written.is_err();
         let object = self.add(name, false, 8, &[], bytes, line);
-        self.stops.push(&mut self.arguments, (function, object));
+        self.stops
+            .memory
+            .push(&mut self.arguments, (function, object));
         object
     }
 
@@ -145,7 +142,7 @@ impl Layout<'_> {
             start,
             length,
         };
-        self.stops.push(&mut self.regions, region);
+        self.stops.memory.push(&mut self.regions, region);
     }
 
     /// The object that a symbol stands for, by its number here. It is a fault at a line where it stands for none.
@@ -158,8 +155,7 @@ impl Layout<'_> {
             SymbolPlace::Nowhere => Naming::NotDefined,
             _ => Naming::AddressOfFunction,
         };
-        let name = name_of(self.source, symbol);
-        self.stops.named(line, naming, name);
+        self.stops.note(line, Stop::Named(naming, symbol));
         0
     }
 
@@ -172,22 +168,6 @@ impl Layout<'_> {
             if let Some(object) = self.objects.get_mut(number) {
                 put_word(object.bytes.as_mut_slice(), fix.at, word);
             }
-        }
-    }
-
-    /// Adds the objects of the source, the constants first.
-    fn lay_out(&mut self) {
-        let source = self.source;
-        let resized = self.numbers.resize(source.objects.len(), 0);
-        self.stops.take(resized);
-        self.add_all(true);
-        if !self.objects.is_empty() {
-            self.end_region(true);
-            let _ = self.ends_within();
-        }
-        self.add_all(false);
-        for (place, datum) in source.objects.iter().enumerate() {
-            self.fill(place, datum.fixes.as_slice());
         }
     }
 }
@@ -212,25 +192,41 @@ fn put_word(bytes: &mut [u8], at: usize, word: u32) {
 }
 
 /// Lays out the objects of a source: the constants first, on pages that may be read alone. What stops it is noted in
-/// the layout: an address of what is no object; more bytes than an image may have.
-///
-/// # Errors
-/// A global name that stands at two places.
-pub fn layout_of(source: &Source) -> Result<Layout<'_>, Fault> {
-    let alloc = source.alloc;
-    let linked = links_of(source)?;
+/// the layout: a global name that stands at two places; an address of what is no object; more bytes than an image may
+/// have.
+pub fn layout_of(source: &Source) -> Layout<'_> {
+    let alloc = source.memory.alloc;
+    let mut memory = Memory::new(alloc);
+    let numbers = memory.repeat(0, source.objects.len());
+    let (linked, second) = links_of(&mut memory, source);
+    let mut stops = Stops {
+        memory,
+        symbol: 0,
+        first: None,
+    };
+    if let Some((line, symbol)) = second {
+        stops.note(line, Stop::Named(Naming::DefinedTwice, symbol));
+    }
     let mut layout = Layout {
-        stops: Stops { alloc, first: None },
+        stops,
         source,
         linked,
         objects: Vec::new(alloc),
         regions: Vec::new(alloc),
-        numbers: Vec::new(alloc),
+        numbers,
         arguments: Vec::new(alloc),
         start: DATA,
         end: DATA + HEAD,
         line: NO_LINE,
     };
-    layout.lay_out();
-    Ok(layout)
+    layout.add_all(true);
+    if !layout.objects.is_empty() {
+        layout.end_region(true);
+        let _ = layout.ends_within();
+    }
+    layout.add_all(false);
+    for (place, datum) in source.objects.iter().enumerate() {
+        layout.fill(place, datum.fixes.as_slice());
+    }
+    layout
 }

@@ -7,7 +7,7 @@ mod points;
 
 pub use fields::{
     Access, access_of, bit_of, fields_of, next_register, operands_read, read_by, reads_codes,
-    sets_codes, signed, word_of, written,
+    sets_codes, signed, written,
 };
 pub use layout::{Layout, layout_of, name_of};
-pub use points::{Flow, Point, Points, points_of};
+pub use points::{Flow, Point, points_of};

@@ -1,7 +1,7 @@
 //! The instructions of a function with their numbers filled in, and what each does to the flow of control.
 use crate::points::flow::{flow_of, step_from};
-use crate::points::layout::{Layout, name_of};
-use fit_code::{Line, Step};
+use crate::points::layout::Layout;
+use fit_code::Step;
 use fit_gas::Code;
 use v8_formats::Three;
 use v8_word::Cond;
@@ -32,28 +32,22 @@ pub struct Point {
     pub flow: Flow,
 }
 
-/// The instructions of a function, by their places.
-#[derive(Drop)]
-pub struct Points {
-    pub name: String,
-    pub line: Line,
-    pub list: Vec<Point>,
-}
-
 /// The instructions of a function, by its number in the source. What stops it is noted: an instruction that sandboxed
 /// code may not have; a jump that is no return; a branch out of the function; a name that stands nowhere, or is a
 /// function's where an object's is wanted.
-pub fn points_of(layout: &mut Layout, number: usize, code: &Code) -> Points {
-    let name = name_of(layout.source, code.symbol);
-    let mut list = Vec::new(layout.stops.alloc);
+pub fn points_of(layout: &mut Layout, number: usize, code: &Code) -> Vec<Point> {
+    layout.stops.symbol = code.symbol;
+    let mut points = Vec::new(layout.stops.memory.alloc);
     for item in code.items.as_slice() {
         let step = step_from(layout, item);
-        let flow = flow_of(layout, (number, name), &step.instr, item);
-        layout.stops.push(&mut list, Point { step, flow });
+        let flow = match flow_of(&layout.linked, number, &step.instr, item) {
+            Ok(flow) => flow,
+            Err(stop) => {
+                layout.stops.note(item.line, stop);
+                Flow::Nothing
+            }
+        };
+        layout.stops.memory.push(&mut points, Point { step, flow });
     }
-    Points {
-        name: layout.stops.owned(name),
-        line: code.line,
-        list,
-    }
+    points
 }

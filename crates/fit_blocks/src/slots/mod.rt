@@ -4,4 +4,4 @@ mod slots;
 mod starts;
 
 pub use slots::may_go_before;
-pub use starts::{frame_and_start, mark_leads, number_marked};
+pub use starts::{frame_and_start, leads_of, number_marked};

@@ -1,9 +1,9 @@
 //! The counters of loops.
-use crate::bounds::changes::{Passage, add_ways};
-use crate::bounds::rounds::least_of_round;
+use crate::bounds::changes::{Change, Passage, add_ways};
 use crate::task::{Setting, Task};
+use crate::ways::{constant_at, settle};
 use fit_code::{Memory, Program};
-use fit_graph::{Loop, enters_beside_head, loops_of, range_in};
+use fit_graph::{Graph, Loop, range_in};
 use fit_ranges::Ranges;
 use sbx_domain::State;
 use sbx_parts::Cell;
@@ -48,21 +48,13 @@ impl Bounds {
 
     /// Finds the loops of a function and their bounds.
     pub(crate) fn find(&mut self, setting: &Setting<'_>, state: &mut State, memory: &mut Memory) {
-        let (alloc, function) = (setting.task.alloc, setting.function);
-        let mut is_plain = false;
-        match enters_beside_head(alloc, function) {
-            Ok(entered) => is_plain = entered.is_none(),
-            Err(error) => memory.take(Err(error)),
-        }
-        match loops_of(alloc, function) {
-            Ok(loops) => self.loops = loops,
-            Err(error) => memory.take(Err(error)),
-        }
+        let graph = Graph::of(memory, setting.function);
+        self.loops = graph.loops(memory);
+        let beside = graph.entered_beside(memory, setting.function);
         for within in self.loops.as_slice() {
-            let bound = if is_plain {
-                bound_of(setting, within, state, memory)
-            } else {
-                None
+            let bound = match beside {
+                Some(_) => None,
+                None => bound_of(setting, within, state, memory),
             };
             memory.push(&mut self.bounds, bound);
         }
@@ -76,10 +68,8 @@ impl Bounds {
         // an inner loop stands behind those around it, which are as unbounded as it is
         for place in (0..loops.len()).rev() {
             if place < bounds.len() {
-                let is_kept = match bounds[place] {
-                    Some(bound) => bound.is_steady & (bound.rounds <= most),
-                    None => false,
-                };
+                let is_kept =
+                    matches!(bounds[place], Some(it) if it.is_steady & (it.rounds <= most));
                 if !is_kept {
                     bounds[place] = None;
                     if let Some(parent) = loops[place].parent
@@ -94,12 +84,12 @@ impl Bounds {
 
     /// Whether a block is the head of a loop that has a bound.
     pub fn has_head(&self, block: usize) -> bool {
-        for (place, within) in self.loops.iter().enumerate() {
-            if within.head == block {
-                return self.at(place).is_some();
-            }
+        let loops = self.loops.as_slice();
+        let mut is_found = false;
+        for place in 0..loops.len() {
+            is_found |= (loops[place].head == block) & self.at(place).is_some();
         }
-        false
+        is_found
     }
 }
 
@@ -117,41 +107,6 @@ fn is_known_throughout(setting: &Setting<'_>, within: &Loop, location: u16) -> b
     true
 }
 
-/// How a location changes on the ways of a loop.
-#[derive(Clone, Copy)]
-struct Course {
-    /// Whether no way raises it, or may.
-    falls: bool,
-    /// Whether no way lowers it, or may.
-    rises: bool,
-    /// Whether it changes by one number on each way.
-    is_steady: bool,
-}
-
-/// How a location changes on these ways; nothing where it does otherwise than by a number on one of them.
-fn course_of(passages: &[Passage], location: u16) -> Option<Course> {
-    let mut course = Course {
-        falls: true,
-        rises: true,
-        is_steady: true,
-    };
-    for passage in passages {
-        if passage.location == location {
-            let Some(change) = passage.change else {
-                return None;
-            };
-            course.falls &= change.most <= 0;
-            course.rises &= change.least >= 0;
-            course.is_steady &= change.least == change.most;
-        }
-    }
-    if course.falls || course.rises {
-        Some(course)
-    } else {
-        None
-    }
-}
-
 /// The bound that a location of a loop's head gives; none where it doesn't change one way, where it may not change in a
 /// round, and where it isn't known throughout the loop.
 fn bound_by(
@@ -162,41 +117,41 @@ fn bound_by(
     memory: &mut Memory,
 ) -> Option<Bound> {
     let Cell { location, range } = *cell;
-    let Some(course) = course_of(passages, location) else {
-        return None;
-    };
-    if !is_known_throughout(setting, within, location) {
-        return None;
+    let (mut falls, mut rises, mut is_steady) = (true, true, true);
+    let mut ways = Vec::new(memory.alloc);
+    for passage in passages {
+        if passage.location == location {
+            let Change { least, most } = passage.change;
+            falls &= most <= 0;
+            rises &= least >= 0;
+            is_steady &= least == most;
+            memory.push(&mut ways, passage.way);
+        }
     }
-    let (alloc, blocks) = (setting.task.alloc, within.holds.len());
-    let least = least_of_round(alloc, passages, location, within.head, blocks, memory);
-    let Ok(amount) = i64::try_from(least) else {
-        return None;
-    };
-    if least == 0 {
+    let mut least = 0;
+    if (falls | rises) && is_known_throughout(setting, within, location) {
+        // each way asks for as much less as the location changes there, so the dearest round changes it least
+        let mut constants = memory.repeat(None, within.holds.len());
+        settle(constants.as_mut_slice(), ways.as_slice());
+        let constant = constant_at(constants.as_slice(), within.head);
+        least = constant.unwrap_or(0).unsigned_abs();
+    }
+    let amount = i64::try_from(least).unwrap_or(0);
+    if least == 0 || amount == 0 {
         return None;
     }
     let width = i64::from(range.hi).saturating_sub(i64::from(range.lo));
     let rounds = width.unsigned_abs() / least;
     Some(Bound {
         location,
-        change: if course.falls {
+        change: if falls {
             amount.saturating_neg()
         } else {
             amount
         },
         rounds: rounds.saturating_add(1),
-        is_steady: course.is_steady,
+        is_steady,
     })
-}
-
-/// Whether a bound is better than what was found: a steady one than others, and then that of fewer rounds.
-fn is_better(bound: &Bound, found: &Option<Bound>) -> bool {
-    match found {
-        Some(other) if bound.is_steady == other.is_steady => bound.rounds < other.rounds,
-        Some(_) => bound.is_steady,
-        None => true,
-    }
 }
 
 /// The bound of a loop by the counter that changes by one number and gives the fewest rounds, else by another; none
@@ -211,12 +166,17 @@ fn bound_of(
     let cells = task.ranges.cells(task.number, within.head).unwrap_or(&[]);
     let mut passages = Vec::new(task.alloc);
     add_ways(setting, within, cells, &mut passages, state, memory);
-    let mut found = None;
+    let mut found: Option<Bound> = None;
     for cell in cells {
-        if let Some(bound) = bound_by(setting, within, passages.as_slice(), cell, memory)
-            && is_better(&bound, &found)
-        {
-            found = Some(bound);
+        if let Some(bound) = bound_by(setting, within, passages.as_slice(), cell, memory) {
+            let is_better = match found {
+                Some(other) if bound.is_steady == other.is_steady => bound.rounds < other.rounds,
+                Some(_) => bound.is_steady,
+                None => true,
+            };
+            if is_better {
+                found = Some(bound);
+            }
         }
     }
     found

@@ -15,62 +15,48 @@ pub struct Change {
     pub most: i64,
 }
 
-/// A way from a block of a loop to another one, and by how much a location that the loop's head knows changes there;
-/// nothing where it is something else.
+/// Otherwise than by a number that is known: by any.
+const ANY: Change = Change {
+    least: i64::MIN,
+    most: i64::MAX,
+};
+
+/// A way from a block of a loop to another one, and by how much a location that the loop's head knows changes there.
 #[derive(Clone, Copy)]
 pub struct Passage {
     pub location: u16,
     /// Where a round ends it leads nowhere. It asks for as much less as the location changes at least, whichever way it
     /// goes.
     pub way: Way,
-    pub change: Option<Change>,
+    pub change: Change,
 }
 
-/// By how much a form of these terms is more than the number that the location began with, where its other terms lie
-/// in these cells' ranges; nothing where it is something else.
-fn change_of(constant: i64, terms: &[FormTerm], location: u16, cells: &[Cell]) -> Option<Change> {
-    let (mut least, mut most) = (constant, constant);
-    let mut is_found = false;
-    for term in terms {
-        let Ok(times) = i64::try_from(term.coefficient) else {
-            return None;
-        };
+/// By how much a location changes on a way of a block that begins with these cells, behind which the state is this: by
+/// how much its form is more than the number that it began with, where the other terms lie in the cells' ranges.
+fn change_to(location: u16, cells: &[Cell], state: &State) -> Change {
+    let Some(form) = state.form(location) else {
+        return ANY;
+    };
+    let (mut least, mut most) = (form.constant(), form.constant());
+    let (mut is_found, mut is_known) = (false, true);
+    let terms: ArrayVec<FormTerm, 8> = form.terms();
+    for term in terms.as_slice() {
+        let times = i64::try_from(term.coefficient).unwrap_or(i64::MAX);
         if term.location == location {
             is_found = times == 1;
-            continue;
+        } else if let Some(range) = range_in(cells, term.location) {
+            let low = times.saturating_mul(i64::from(range.lo));
+            let high = times.saturating_mul(i64::from(range.hi));
+            least = least.saturating_add(low.min(high));
+            most = most.saturating_add(low.max(high));
+        } else {
+            is_known = false;
         }
-        let Some(range) = range_in(cells, term.location) else {
-            return None;
-        };
-        let low = times.saturating_mul(i64::from(range.lo));
-        let high = times.saturating_mul(i64::from(range.hi));
-        least = least.saturating_add(low.min(high));
-        most = most.saturating_add(low.max(high));
     }
-    if is_found {
-        Some(Change { least, most })
+    if is_found & is_known {
+        Change { least, most }
     } else {
-        None
-    }
-}
-
-/// By how much a location changes on a way of a block that begins with these cells, behind which the state is this.
-fn change_to(location: u16, cells: &[Cell], state: &State) -> Option<Change> {
-    let Some(form) = state.form(location) else {
-        return None;
-    };
-    let terms: ArrayVec<FormTerm, 8> = form.terms();
-    change_of(form.constant(), terms.as_slice(), location, cells)
-}
-
-/// How much less a way asks for where a location changes so; nothing where it changes otherwise.
-fn cost_of(change: Option<Change>) -> i64 {
-    match change {
-        Some(Change { least, most }) => {
-            let (one, other) = (least.saturating_neg(), most.saturating_neg());
-            least.min(one).max(most.min(other))
-        }
-        None => 0,
+        ANY
     }
 }
 
@@ -91,15 +77,15 @@ fn add_way(
     let cells = ranges.cells(number, from).unwrap_or(&[]);
     for cell in known {
         let change = change_to(cell.location, cells, state);
-        let way = Way {
-            from,
-            to,
-            is_metered: false,
-            cost: cost_of(change),
-        };
+        let (fall, rise) = (change.most.saturating_neg(), change.least.saturating_neg());
         let passage = Passage {
             location: cell.location,
-            way,
+            way: Way {
+                from,
+                to,
+                is_metered: false,
+                cost: change.least.min(rise).max(change.most.min(fall)),
+            },
             change,
         };
         memory.push(passages, passage);

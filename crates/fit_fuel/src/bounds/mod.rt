@@ -2,6 +2,5 @@
 //! in a range.
 mod bounds;
 mod changes;
-mod rounds;
 
 pub use bounds::{Bound, Bounds, bounds_of};

@@ -15,9 +15,9 @@ fn counted(fuel: &Fuel, within: &Loop) -> i64 {
             continue;
         };
         let asked = constant_at(fuel.constants.as_slice(), to).unwrap_or(0);
-        if to == within.head && !within.has(way.from) {
+        if (to == within.head) & !within.has(way.from) {
             inside = inside.max(way.cost.saturating_add(asked));
-        } else if within.has(way.from) && !within.has(to) {
+        } else if within.has(way.from) & !within.has(to) {
             behind = behind.max(asked);
         }
     }

@@ -8,7 +8,7 @@ use crate::meter::Meter;
 use crate::task::{Setting, Task};
 use crate::totals::{Total, total_of};
 use crate::ways::{Fuel, constant_at};
-use fit_code::{Fault, Function, Line, NO_LINE, Program, Reason};
+use fit_code::{Fault, Function, Line, Memory, NO_LINE, Program, Reason};
 use fit_ranges::Ranges;
 use fit_text::{Annotations, FunctionNotes};
 use sbx_domain::State;
@@ -42,33 +42,34 @@ fn settle(
     fuel: &mut Fuel,
     state: &mut State,
 ) -> Option<(Option<Line>, &'static str)> {
+    let mut lack = Some((None, "no fuel was found for its loops"));
+    let mut is_over = false;
     for round in 0..ROUNDS {
-        if task.number >= program.functions.len() {
-            break;
-        }
-        let setting = Setting {
-            program,
-            function: &program.functions[task.number],
-            task: &*task,
-        };
-        if round == 0 {
-            fuel.take_blocks(task.alloc, setting.function, task.meter);
-            bounds.find(&setting, state, &mut fuel.memory);
-        }
-        if !find_fuel(&setting, bounds, fuel, state) {
-            break;
-        }
-        let weighed = match task.meter {
-            Some(meter) => set_weights(&mut program.functions[task.number], meter, fuel),
-            None => Weighed::Same,
-        };
-        match weighed {
-            Weighed::Same => return None,
-            Weighed::More => {}
-            Weighed::TooMuch(line) => return Some((Some(line), TOO_MUCH)),
+        if !is_over & (task.number < program.functions.len()) {
+            is_over = true;
+            let setting = Setting {
+                program,
+                function: &program.functions[task.number],
+                task: &*task,
+            };
+            if round == 0 {
+                fuel.take_blocks(task.alloc, setting.function, task.meter);
+                bounds.find(&setting, state, &mut fuel.memory);
+            }
+            if find_fuel(&setting, bounds, fuel, state) {
+                let weighed = match task.meter {
+                    Some(meter) => set_weights(&mut program.functions[task.number], meter, fuel),
+                    None => Weighed::Same,
+                };
+                match weighed {
+                    Weighed::Same => lack = None,
+                    Weighed::More => is_over = false,
+                    Weighed::TooMuch(line) => lack = Some((Some(line), TOO_MUCH)),
+                }
+            }
         }
     }
-    Some((None, "no fuel was found for its loops"))
+    lack
 }
 
 /// Finds the fuel of a function, which each of its blocks says then, and what a call takes. A budget that is too great
@@ -91,7 +92,7 @@ fn find_total(
         return Err(refused(function, line.unwrap_or(function.line), what));
     }
     let first = constant_at(fuel.constants.as_slice(), 0).unwrap_or(0);
-    let turns = u64::try_from(first).unwrap_or(0);
+    let turns = first.max(0).unsigned_abs();
     if turns >= BOUND {
         let dearest = dearest_loop(function, bounds.loops.as_slice(), fuel, task.meter);
         let is_loop = dearest.is_some();
@@ -109,7 +110,13 @@ pub fn declare_function(
     state: &mut State,
 ) -> Result<FunctionNotes, Fault> {
     let mut bounds = Bounds::none(task.alloc);
-    let mut fuel = Fuel::none(task.alloc);
+    let mut fuel = Fuel {
+        places: Vec::new(task.alloc),
+        blocks: Vec::new(task.alloc),
+        ways: Vec::new(task.alloc),
+        constants: Vec::new(task.alloc),
+        memory: Memory::new(task.alloc),
+    };
     match find_total(program, task, &mut bounds, &mut fuel, state) {
         Ok((budget, total)) => Ok(FunctionNotes {
             budget,

@@ -41,7 +41,7 @@ fn words_of(block: &Block) -> u64 {
 impl Found {
     /// Takes in how much there is of something, and how much there may be.
     fn check(&mut self, line: Line, what: &'static str, count: u64, most: u64) {
-        if count > most && self.excess.is_none() {
+        if (count > most) & self.excess.is_none() {
             self.excess = Some(Excess {
                 line,
                 what,

@@ -7,24 +7,20 @@ use fit_graph::{Loop, range_in};
 use fit_text::BlockNotes;
 use sbx_domain::State;
 use sbx_parts::Term;
-use std::alloc::AllocError;
 
 /// Adds a term to those of a block, which stand by location.
 fn add_term(terms: &mut Vec<Term>, term: Term, memory: &mut Memory) {
     let mut place: usize = 0;
-    for other in terms.iter_mut() {
+    let mut is_found = false;
+    for other in terms.as_mut_slice() {
         if other.location == term.location {
             other.coefficient = other.coefficient.saturating_add(term.coefficient);
-            return;
+            is_found = true;
         }
-        if other.location < term.location {
-            place = place.saturating_add(1);
-        }
+        place = place.saturating_add(usize::from(other.location < term.location));
     }
-    if place <= terms.len()
-        && let Err(failed) = terms.insert(place, term)
-    {
-        memory.take(Err(AllocError::from(failed)));
+    if !is_found & (place <= terms.len()) {
+        memory.is_refused |= terms.insert(place, term).is_err();
     }
 }
 
@@ -46,29 +42,13 @@ fn begin(task: &Task<'_>, blocks: &mut [BlockNotes], memory: &mut Memory) {
     }
 }
 
-/// How many turns pay for a round, where its weight is known: so many for each number that the counter changes by,
-/// above 0 where it falls.
-fn coefficient_of(bound: &Bound, weight: Option<i64>) -> Option<i32> {
-    let Some(weight) = weight else {
-        return None;
-    };
-    let change = i64::try_from(bound.change.unsigned_abs()).unwrap_or(i64::MAX);
-    let rounds: i64 = weight.max(1).saturating_sub(1) / change.max(1);
-    match i32::try_from(rounds.saturating_add(1)) {
-        Ok(each) if bound.change < 0 => Some(each),
-        Ok(each) => Some(each.saturating_neg()),
-        Err(_) => None,
-    }
-}
-
 /// Whether a place of the meter stands in a loop.
 pub(crate) fn has_place(within: &Loop, places: &[Option<u32>]) -> bool {
+    let mut is_found = false;
     for (block, taken) in places.iter().enumerate() {
-        if taken.is_some() && within.has(block) {
-            return true;
-        }
+        is_found |= taken.is_some() & within.has(block);
     }
-    false
+    is_found
 }
 
 /// Adds the terms that pay for a loop's rounds; says whether there are some: none where it has no bound, where no way
@@ -80,26 +60,31 @@ fn add_rounds(
     bound: Option<Bound>,
     state: &mut State,
 ) -> bool {
-    let Some(bound) = bound else {
-        return false;
-    };
-    if !fuel.pay(setting, Some(within), state) {
-        return false;
-    }
-    let weight = constant_at(fuel.constants.as_slice(), within.head);
-    let Some(coefficient) = coefficient_of(&bound, weight) else {
-        return false;
-    };
-    let term = Term {
-        location: bound.location,
-        coefficient,
-    };
-    for (block, notes) in fuel.blocks.iter_mut().enumerate() {
-        if within.has(block) {
-            add_term(&mut notes.terms, term, &mut fuel.memory);
+    let mut are_found = false;
+    if let Some(bound) = bound
+        && fuel.pay(setting, Some(within), state)
+        && let Some(weight) = constant_at(fuel.constants.as_slice(), within.head)
+    {
+        // so many turns for each number that the counter changes by pay for a round, above 0 where it falls
+        let rounds: i64 = weight.max(1).saturating_sub(1) / bound.change.saturating_abs().max(1);
+        if let Ok(each) = i32::try_from(rounds.saturating_add(1)) {
+            are_found = true;
+            let term = Term {
+                location: bound.location,
+                coefficient: if bound.change < 0 {
+                    each
+                } else {
+                    each.saturating_neg()
+                },
+            };
+            for (block, notes) in fuel.blocks.iter_mut().enumerate() {
+                if within.has(block) {
+                    add_term(&mut notes.terms, term, &mut fuel.memory);
+                }
+            }
         }
     }
-    true
+    are_found
 }
 
 /// Finds the terms of each block of a function with these loops and bounds, and then the constants; says whether there

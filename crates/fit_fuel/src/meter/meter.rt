@@ -80,9 +80,9 @@ pub fn taken_by(meter: &Meter, block: &Block) -> Option<u32> {
         && let Some(last) = block.steps.last()
         && let Instr::SubCc(fields) = last.instr
         && let Operand::Immediate(weight) = fields.operand2
-        && fields.rd == meter.register
-        && fields.rs1 == meter.register
-        && block.slot.is_some() == meter.word.is_some()
+        && (fields.rd == meter.register)
+            & (fields.rs1 == meter.register)
+            & (block.slot.is_some() == meter.word.is_some())
     {
         Some(weight)
     } else {

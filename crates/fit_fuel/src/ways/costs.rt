@@ -41,27 +41,27 @@ pub fn way_of(
     memory: &mut Memory,
 ) -> Option<Way> {
     let to = successors_in(setting.function, from)[way % 2];
-    let is_asked = match (within, to) {
-        (Some(within), Some(to)) => within.has(from) & within.has(to),
-        (Some(_), None) => false,
-        (None, _) => to.is_some() | (way == 0),
+    let (is_asked, end) = match (within, to) {
+        (Some(within), Some(to)) => {
+            let end = if to == within.head { None } else { Some(to) };
+            (within.has(from) & within.has(to), end)
+        }
+        (Some(_), None) => (false, None),
+        (None, _) => (to.is_some() | (way == 0), to),
     };
     let (ranges, number) = (setting.task.ranges, setting.task.number);
     if !is_asked || (to.is_some() && !ranges.run_block(setting.program, number, from, way, state)) {
         return None;
     }
-    let mut sum = Sum::of(setting.task.alloc, weight_of_block(setting, from));
-    sum.take_terms(terms_at(blocks, from));
+    let weight = weight_of_block(setting, from);
+    let mut sum = Sum::without(setting.task.alloc, weight, terms_at(blocks, from));
     if let Some(to) = to {
         sum.add_terms(state, terms_at(blocks, to));
     }
-    memory.take(sum.memory.told(()));
+    memory.is_refused |= sum.is_refused;
     Some(Way {
         from,
-        to: match within {
-            Some(within) if to == Some(within.head) => None,
-            _ => to,
-        },
+        to: end,
         is_metered: false,
         // nothing is known of a function's first block, whose fuel has no terms
         cost: sum.greatest(ranges.cells(number, from).unwrap_or(&[])),

@@ -26,17 +26,6 @@ pub struct Fuel {
 }
 
 impl Fuel {
-    /// Nothing is known.
-    pub fn none(alloc: Global) -> Fuel {
-        Fuel {
-            places: Vec::new(alloc),
-            blocks: Vec::new(alloc),
-            ways: Vec::new(alloc),
-            constants: Vec::new(alloc),
-            memory: Memory::new(alloc),
-        }
-    }
-
     /// Takes in the blocks of a function, of which nothing is known but which are places of its meter.
     pub fn take_blocks(&mut self, alloc: Global, function: &Function, meter: Option<&Meter>) {
         for block in function.blocks.as_slice() {
@@ -71,15 +60,12 @@ impl Fuel {
             );
             if let Some(mut way) = found {
                 // the way on from a place of the meter is the one that isn't taken
-                way.is_metered = place % 2 == 1
-                    && way.from < self.places.len()
+                way.is_metered = (place % 2 == 1) & (way.from < self.places.len())
                     && self.places[way.from].is_some();
                 self.memory.push(&mut self.ways, way);
             }
         }
-        self.constants.clear();
-        self.memory
-            .take(self.constants.resize(self.blocks.len(), None));
+        self.constants = self.memory.repeat(None, self.blocks.len());
         settle(self.constants.as_mut_slice(), self.ways.as_slice())
     }
 
@@ -92,7 +78,7 @@ impl Fuel {
             if block > 0
                 && let Some(cells) = ranges.cells(number, block)
             {
-                self.memory.take(notes.cells.extend_from_slice(cells));
+                notes.cells = self.memory.copy(cells);
             }
         }
     }

@@ -16,18 +16,18 @@ fn raise(constants: &mut [Option<i64>], ways: &[Way]) -> bool {
     let mut has_risen = false;
     for place in (0..ways.len()).rev() {
         let way = &ways[place];
-        if !way.is_metered && way.from < constants.len() {
-            let wanted = match way.to {
-                Some(to) => match constant_at(constants, to) {
-                    Some(there) => Some(way.cost.saturating_add(there)),
-                    None => None,
-                },
-                None => Some(way.cost),
+        if !way.is_metered & (way.from < constants.len()) {
+            let behind = match way.to {
+                Some(to) => constant_at(constants, to),
+                None => Some(0),
             };
-            // what isn't known is less than all that is
-            if wanted > constants[way.from] {
-                constants[way.from] = wanted;
-                has_risen = true;
+            if let Some(behind) = behind {
+                let wanted = Some(way.cost.saturating_add(behind));
+                // what isn't known is less than all that is
+                if wanted > constants[way.from] {
+                    constants[way.from] = wanted;
+                    has_risen = true;
+                }
             }
         }
     }

@@ -1,7 +1,6 @@
 //! Sums of multiples of locations, and the greatest value that they can have. A sum past the greatest number stays
 //! there, and is refused as a budget.
 use arrayvec::ArrayVec;
-use fit_code::Memory;
 use fit_graph::range_in;
 use sbx_domain::State;
 use sbx_form::FormTerm;
@@ -21,7 +20,7 @@ pub struct Sum {
     constant: i64,
     multiples: Vec<Multiple>,
     /// Whether memory was refused for one of them.
-    pub memory: Memory,
+    pub is_refused: bool,
 }
 
 /// So many times the end of a range that makes the most of it.
@@ -32,32 +31,30 @@ fn greatest_of(times: i64, range: Range) -> i64 {
 }
 
 impl Sum {
-    /// A number alone.
-    pub fn of(alloc: Global, constant: i64) -> Sum {
-        Sum {
+    /// A number, from which a block's own terms are taken away.
+    pub fn without(alloc: Global, constant: i64, terms: &[Term]) -> Sum {
+        let mut sum = Sum {
             constant,
             multiples: Vec::new(alloc),
-            memory: Memory::new(alloc),
+            is_refused: false,
+        };
+        for term in terms {
+            sum.add(term.location, i64::from(term.coefficient).saturating_neg());
         }
+        sum
     }
 
     /// Adds so many times a location.
     fn add(&mut self, location: u16, times: i64) {
-        for multiple in self.multiples.iter_mut() {
+        let mut is_found = false;
+        for multiple in self.multiples.as_mut_slice() {
             if multiple.location == location {
                 multiple.times = multiple.times.saturating_add(times);
-                return;
+                is_found = true;
             }
         }
-        self.memory
-            .push(&mut self.multiples, Multiple { location, times });
-    }
-
-    /// Adds so many times the terms of a form.
-    fn add_form(&mut self, times: i64, terms: &[FormTerm]) {
-        for term in terms {
-            let coefficient = i64::try_from(term.coefficient).unwrap_or(i64::MAX);
-            self.add(term.location, times.saturating_mul(coefficient));
+        if !is_found {
+            self.is_refused |= self.multiples.push(Multiple { location, times }).is_err();
         }
     }
 
@@ -65,23 +62,18 @@ impl Sum {
     pub fn add_terms(&mut self, state: &State, terms: &[Term]) {
         for term in terms {
             let times = i64::from(term.coefficient);
-            let more = if let Some(form) = state.form(term.location) {
+            let mut more = i64::MAX;
+            if let Some(form) = state.form(term.location) {
                 let others: ArrayVec<FormTerm, 8> = form.terms();
-                self.add_form(times, others.as_slice());
-                times.saturating_mul(form.constant())
+                for other in others.as_slice() {
+                    let coefficient = i64::try_from(other.coefficient).unwrap_or(i64::MAX);
+                    self.add(other.location, times.saturating_mul(coefficient));
+                }
+                more = times.saturating_mul(form.constant());
             } else if let Some(range) = state.range(term.location) {
-                greatest_of(times, range)
-            } else {
-                i64::MAX
-            };
+                more = greatest_of(times, range);
+            }
             self.constant = self.constant.saturating_add(more);
-        }
-    }
-
-    /// Takes away a block's own terms.
-    pub fn take_terms(&mut self, terms: &[Term]) {
-        for term in terms {
-            self.add(term.location, i64::from(term.coefficient).saturating_neg());
         }
     }
 

@@ -1,28 +1,10 @@
 //! What the words of a block weigh, in turns at worst.
 use crate::task::Setting;
-use crate::totals::Total;
-use fit_code::{End, Step};
+use fit_code::End;
 use v8_formats::Instr;
 
 /// What SAVE weighs, and RESTORE.
 const WINDOW: u64 = 25;
-
-/// What a step weighs; a call its slot and the callee's budget, too, where that is known.
-fn weight_of_step(known: &[Option<Total>], step: &Step) -> u64 {
-    match step.callee {
-        Some(callee) => {
-            let mut budget: u64 = 0;
-            if callee < known.len()
-                && let Some(total) = known[callee]
-            {
-                budget = total.budget.unwrap_or(0);
-            }
-            budget.saturating_add(2)
-        }
-        None if matches!(step.instr, Instr::Ticc(_)) => 5,
-        None => 1,
-    }
-}
 
 /// What the end of a block weighs, by its place in the function, and the SAVE before the first one.
 fn weight_of_ends(framed: bool, place: usize, end: &End) -> u64 {
@@ -33,7 +15,7 @@ fn weight_of_ends(framed: bool, place: usize, end: &End) -> u64 {
         End::Return(_) => 2,
         End::Exit => 3,
     };
-    if place == 0 && framed {
+    if (place == 0) & framed {
         weight + WINDOW
     } else {
         weight
@@ -54,8 +36,22 @@ pub fn weight_of_block(setting: &Setting<'_>, place: usize) -> i64 {
     let block = &function.blocks[place];
     let mut weight = weight_of_ends(function.framed, place, &block.end);
     for step in block.steps.as_slice() {
-        weight = weight.saturating_add(weight_of_step(task.known, step));
+        // a call weighs its slot and the callee's budget, too, where that is known
+        let turns = match step.callee {
+            Some(callee) if callee < task.known.len() => match task.known[callee] {
+                Some(total) => total.budget.unwrap_or(0).saturating_add(2),
+                None => 2,
+            },
+            Some(_) => 2,
+            None if matches!(step.instr, Instr::Ticc(_)) => 5,
+            None => 1,
+        };
+        weight = weight.saturating_add(turns);
     }
-    let spared = task.spared.get(place).copied().unwrap_or(0);
+    let spared = if place < task.spared.len() {
+        task.spared[place]
+    } else {
+        0
+    };
     signed(weight).saturating_sub(signed(spared))
 }

@@ -6,9 +6,10 @@ use sbx_range::{Cell, Range};
 /// The range of a location among cells that stand by location.
 pub fn range_in(cells: &[Cell], location: u16) -> Option<Range> {
     let place = cells.partition_point(|cell| cell.location < location);
-    match cells.get(place) {
-        Some(cell) if cell.location == location => Some(cell.range),
-        _ => None,
+    if place < cells.len() && cells[place].location == location {
+        Some(cells[place].range)
+    } else {
+        None
     }
 }
 
@@ -60,15 +61,4 @@ pub fn join(growth: Growth, cells: &mut Vec<Cell>, others: &[Cell]) {
         }
     }
     cells.truncate(count);
-}
-
-/// Whether two lists are the same.
-pub fn are_same(a: &[Cell], b: &[Cell]) -> bool {
-    for (place, x) in a.iter().enumerate() {
-        match b.get(place) {
-            Some(y) if x.location == y.location && x.range == y.range => {}
-            _ => return false,
-        }
-    }
-    a.len() == b.len()
 }

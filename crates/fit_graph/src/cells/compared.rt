@@ -8,9 +8,6 @@ use std::alloc::Global;
 use v8_formats::{Operand, Reg, Three};
 use v8_meaning::{Loading, Op, Operation, Transfer, operation_of};
 
-/// In the place of a location, where nothing is known of a word.
-const UNKNOWN: u16 = 0xffff;
-
 /// What a register holds, as far as its block tells: the word that a location had where the block began, and a number
 /// more; the number alone where the location is 0.
 #[derive(Clone, Copy)]
@@ -19,12 +16,13 @@ struct Held {
     more: i64,
 }
 
-impl Held {
-    /// The word of a location.
-    fn word(location: u16) -> Held {
-        Held { location, more: 0 }
-    }
+/// A word of which nothing is known: no location has this number.
+const UNKNOWN: Held = Held {
+    location: 0xffff,
+    more: 0,
+};
 
+impl Held {
     /// A number alone.
     fn number(number: i64) -> Held {
         Held {
@@ -36,7 +34,7 @@ impl Held {
     /// A sum, of which one has to be a number alone.
     fn plus(self, other: Held) -> Held {
         if (self.location != 0) & (other.location != 0) {
-            return Held::word(UNKNOWN);
+            return UNKNOWN;
         }
         Held {
             location: self.location.max(other.location),
@@ -66,43 +64,17 @@ struct Registers {
 impl Registers {
     /// The registers where a block begins.
     fn begun() -> Registers {
-        let mut held = [Held::word(0); 32];
+        let mut held = [UNKNOWN; 32];
         for location in 0..32u16 {
             held[usize::from(location)].location = location;
         }
         Registers { held }
     }
 
-    fn of(&self, register: Reg) -> Held {
-        self.held[usize::from(register.number())]
-    }
-
-    fn of_operand(&self, operand: Operand) -> Held {
+    fn of(&self, operand: Operand) -> Held {
         match operand {
-            Operand::Register(register) => self.of(register),
+            Operand::Register(register) => self.held[usize::from(register.number())],
             Operand::Immediate(number) => Held::number(i64::from(number.cast_signed())),
-        }
-    }
-
-    fn put(&mut self, register: Reg, held: Held) {
-        if register != Reg::G0 {
-            self.held[usize::from(register.number())] = held;
-        }
-    }
-
-    /// What an operation gives.
-    fn result(&self, op: Op, fields: &Three) -> Held {
-        let (first, second) = (self.of(fields.rs1), self.of_operand(fields.operand2));
-        match op {
-            Op::Add | Op::AddCc => first.plus(second),
-            Op::Sub | Op::SubCc if second.location == 0 => {
-                first.plus(Held::number(second.more.saturating_neg()))
-            }
-            Op::Or | Op::OrCc if first.is_zero() | second.is_zero() => first.plus(second),
-            Op::Or if (first.location == 0) & (second.location == 0) => {
-                Held::number(first.more | second.more)
-            }
-            _ => Held::word(UNKNOWN),
         }
     }
 
@@ -110,9 +82,24 @@ impl Registers {
     fn forget(&mut self, mask: u32) {
         for number in 1..32 {
             if mask >> number & 1 == 1 {
-                self.held[number] = Held::word(UNKNOWN);
+                self.held[number] = UNKNOWN;
             }
         }
+    }
+}
+
+/// What an operation gives.
+fn result_of(op: Op, first: Held, second: Held) -> Held {
+    match op {
+        Op::Add | Op::AddCc => first.plus(second),
+        Op::Sub | Op::SubCc if second.location == 0 => {
+            first.plus(Held::number(second.more.saturating_neg()))
+        }
+        Op::Or | Op::OrCc if first.is_zero() | second.is_zero() => first.plus(second),
+        Op::Or if (first.location == 0) & (second.location == 0) => {
+            Held::number(first.more | second.more)
+        }
+        _ => UNKNOWN,
     }
 }
 
@@ -128,45 +115,46 @@ impl Compared {
 
     /// Two words are compared.
     fn compare(&mut self, first: Held, second: Held) {
-        let is_known = (first.location != UNKNOWN) & (second.location != UNKNOWN);
-        if !is_known | (first.location == second.location) {
+        let (one, other) = (first.location, second.location);
+        if (one == UNKNOWN.location) | (other == UNKNOWN.location) | (one == other) {
             return;
         }
-        if second.location == 0 {
-            self.add(first.location, second.more.saturating_sub(first.more));
-        } else if first.location == 0 {
-            self.add(second.location, first.more.saturating_sub(second.more));
+        if other == 0 {
+            self.add(one, second.more.saturating_sub(first.more));
+        } else if one == 0 {
+            self.add(other, first.more.saturating_sub(second.more));
         } else {
-            let (first, second) = (first.location, second.location);
-            let pairs = [(first, second), (second, first)];
+            let pairs = [(one, other), (other, one)];
             self.entries.is_refused |= self.pairs.extend_from_slice(&pairs).is_err();
         }
     }
 
     /// A step of a block.
     fn step(&mut self, registers: &mut Registers, frame: u32, step: &Step) {
-        match operation_of(&step.instr) {
+        let (register, held) = match operation_of(&step.instr) {
             Operation::Compute(op, fields) => {
-                let result = registers.result(op, &fields);
+                let first = registers.of(Operand::Register(fields.rs1));
+                let second = registers.of(fields.operand2);
+                let result = result_of(op, first, second);
                 match op {
-                    Op::SubCc => self.compare(
-                        registers.of(fields.rs1),
-                        registers.of_operand(fields.operand2),
-                    ),
+                    Op::SubCc => self.compare(first, second),
                     Op::AddCc | Op::OrCc => self.compare(result, Held::number(0)),
                     _ => {}
                 }
-                registers.put(fields.rd, result);
+                (fields.rd, result)
             }
             Operation::SetHigh(fields) => {
                 let number = fields.imm22.wrapping_mul(1024).cast_signed();
-                registers.put(fields.rd, Held::number(i64::from(number)));
+                (fields.rd, Held::number(i64::from(number)))
             }
             Operation::Transfer(Transfer::Load(Loading::Word), operand) => {
-                let location = frame_word_of(frame, &operand).unwrap_or(UNKNOWN);
-                registers.put(operand.rd, Held::word(location));
+                let location = frame_word_of(frame, &operand).unwrap_or(UNKNOWN.location);
+                (operand.rd, Held { location, more: 0 })
             }
-            _ => registers.forget(effects_in(frame, step).writes),
+            _ => return registers.forget(effects_in(frame, step).writes),
+        };
+        if register != Reg::G0 {
+            registers.held[usize::from(register.number())] = held;
         }
     }
 

@@ -1,28 +1,13 @@
-//! Numbers behind the locations that they are of, in one number each: by location, then by number.
-
-/// A number of a location.
-pub fn entry(location: u16, number: i32) -> i64 {
-    (i64::from(location) << 32).saturating_add(i64::from(number))
-}
-
-/// The number.
-pub fn number_of(entry: i64) -> i32 {
-    ((entry.cast_unsigned() & 0xffff_ffff) as u32).cast_signed()
-}
-
-/// The location that it is of.
-pub fn location_of(entry: i64) -> u16 {
-    let place = entry.saturating_add(1 << 31) >> 32;
-    (place.cast_unsigned() & 0xffff) as u16
-}
+//! Numbers of locations.
 
 /// A location that is compared with more numbers than this one hands none on.
 const MOST: usize = 100;
 
-/// Numbers of locations, each behind its location. That memory was refused for one is told at the end.
+/// Numbers of locations. That memory was refused for one is told at the end.
 #[derive(Drop)]
 pub struct Entries {
-    pub list: Vec<i64>,
+    /// Each number behind its location.
+    pub list: Vec<(u16, i32)>,
     /// Whether memory was refused for one.
     pub is_refused: bool,
 }
@@ -31,7 +16,7 @@ impl Entries {
     /// Adds numbers of a location.
     pub fn add(&mut self, location: u16, numbers: &[i32]) {
         for number in numbers {
-            self.is_refused |= self.list.push(entry(location, *number)).is_err();
+            self.is_refused |= self.list.push((location, *number)).is_err();
         }
     }
 
@@ -39,10 +24,9 @@ impl Entries {
     pub fn take_over(&mut self, to: u16, from: u16) {
         let count = self.list.len();
         for place in 0..count {
-            if let Some(known) = self.list.get(place).copied()
-                && location_of(known) == from
-            {
-                self.add(to, &[number_of(known)]);
+            if place < self.list.len() && self.list[place].0 == from {
+                let number = self.list[place].1;
+                self.add(to, &[number]);
             }
         }
         if self.list.len().saturating_sub(count) > MOST {
@@ -50,7 +34,7 @@ impl Entries {
         }
     }
 
-    /// The least first, and each once.
+    /// By location, the least number first, and each once.
     pub fn sort(&mut self) {
         self.list.as_mut_slice().sort_unstable();
         self.list.dedup();

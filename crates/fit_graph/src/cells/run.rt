@@ -22,7 +22,7 @@ pub fn enter(function: &Function, params: &[Range], state: &mut State) {
             cells[place].range = params[place];
         }
     }
-    state.start(cells.get(..params.len()).unwrap_or(&cells));
+    state.start(&cells[..params.len().min(6)]);
     if function.framed {
         state.save();
     }
@@ -38,11 +38,11 @@ pub fn run_to_call(frame: u32, step: &Step, state: &mut State) {
 
 /// Where a callee has returned, and the program's functions have these results.
 pub fn return_from(results: &[Vec<Range>], callee: usize, state: &mut State) {
-    let results = match results.get(callee) {
-        Some(results) => results.as_slice(),
-        None => &[],
-    };
-    state.return_with(results);
+    if callee < results.len() {
+        state.return_with(results[callee].as_slice());
+    } else {
+        state.return_with(&[]);
+    }
 }
 
 /// A step in a frame of so many bytes, where the program's functions have these results.

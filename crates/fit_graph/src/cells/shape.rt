@@ -1,7 +1,8 @@
 //! The shape of a function, for who goes along its ways.
-use crate::graph::{Graph, Listed, Loop, Order, list};
+use crate::graph::{Graph, Listed, Loop, Order, list, put_places};
 use crate::live::Locations;
 use fit_code::{Function, Memory};
+use std::alloc::Global;
 
 /// What stays the same while a function's ranges are looked for.
 #[derive(Drop)]
@@ -25,7 +26,7 @@ fn gathered(memory: &mut Memory, blocks: &[usize], within: &Loop) -> Vec<usize> 
     let mut is_behind = false;
     for block in blocks {
         is_behind |= *block == within.head;
-        if is_behind && !within.has(*block) {
+        if is_behind & !within.has(*block) {
             memory.push(&mut others, *block);
         } else {
             memory.push(&mut gathered, *block);
@@ -37,10 +38,10 @@ fn gathered(memory: &mut Memory, blocks: &[usize], within: &Loop) -> Vec<usize> 
 
 impl Shape {
     /// The place of the order behind the last one from which a way leads to a block; 0 where none does.
-    fn end_of(&self, block: usize) -> usize {
+    pub fn end_of(&self, block: usize) -> usize {
         let mut end: usize = 0;
-        if let Some(sources) = self.sources.get(block) {
-            for way in sources {
+        if block < self.sources.len() {
+            for way in self.sources[block].as_slice() {
                 if let Some(place) = self.order.place(*way / 2) {
                     end = end.max(place.saturating_add(1));
                 }
@@ -49,19 +50,16 @@ impl Shape {
         end
     }
 
-    /// The place behind a stretch that begins at a place: ways lead back within one alone, so that what stands before
-    /// it is looked at once.
-    pub fn end_of_stretch(&self, start: usize) -> usize {
-        let mut behind = start.saturating_add(1);
-        for place in start..self.order.blocks.len() {
-            if place >= behind {
-                break;
-            }
-            if let Some(block) = self.order.blocks.get(place) {
-                behind = behind.max(self.end_of(*block)).max(place.saturating_add(1));
-            }
+    /// Nothing, before the shape of a function is known.
+    pub fn none(alloc: Global) -> Shape {
+        Shape {
+            order: Order {
+                blocks: Vec::new(alloc),
+                places: Vec::new(alloc),
+            },
+            sources: Vec::new(alloc),
+            live: Vec::new(alloc),
         }
-        behind
     }
 
     /// The shape of a function, of whose blocks this is live.
@@ -72,7 +70,7 @@ impl Shape {
         for within in loops.as_slice() {
             order.blocks = gathered(memory, order.blocks.as_slice(), within);
         }
-        order.put_places();
+        put_places(order.places.as_mut_slice(), order.blocks.as_slice());
         Shape {
             order,
             sources: list(memory, function, Listed::Ways),

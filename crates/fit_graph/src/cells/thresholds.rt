@@ -1,6 +1,6 @@
 //! The numbers at which a range that grows may stop.
 use crate::cells::compared::compared_in;
-use crate::cells::entries::{Entries, entry, location_of, number_of};
+use crate::cells::entries::Entries;
 use fit_code::{Function, Memory, Program};
 use sbx_domain::LOCATIONS;
 use sbx_range::Range;
@@ -45,7 +45,6 @@ const ADDRESSES: u16 = LOCATIONS as u16;
 /// Where the ranges of a function's locations may stop.
 #[derive(Drop)]
 pub struct Thresholds {
-    /// The numbers, the least first.
     entries: Entries,
     /// Where the data begin and end.
     start: i32,
@@ -88,12 +87,12 @@ impl Thresholds {
         let is_address = (self.start <= number) & (number <= self.end.saturating_add(1));
         let all = if is_address { ADDRESSES } else { NUMBERS };
         for near in &[location, all] {
-            let place = match entries.binary_search(&entry(*near, number)) {
+            let place = match entries.binary_search(&(*near, number)) {
                 Ok(place) => place,
                 Err(above) => above.wrapping_sub(usize::from(is_below)),
             };
-            if place < entries.len() && location_of(entries[place]) == *near {
-                return number_of(entries[place]);
+            if place < entries.len() && entries[place].0 == *near {
+                return entries[place].1;
             }
         }
         if is_below { i32::MIN } else { i32::MAX }

@@ -87,7 +87,8 @@ impl Graph {
         loops
     }
 
-    /// A block that control goes back to, though it isn't on each way to where control comes from.
+    /// A block that control goes back to, though it isn't on each way to where control comes from: a loop that has
+    /// another entry beside it. None where each loop of the function has one entry, which is its head.
     pub fn entered_beside(&self, memory: &mut Memory, function: &Function) -> Option<usize> {
         let blocks = self.order.blocks.as_slice();
         for way in 0..blocks.len().saturating_mul(2) {

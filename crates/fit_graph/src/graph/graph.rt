@@ -16,23 +16,23 @@ impl Order {
     pub fn place(&self, block: usize) -> Option<usize> {
         self.places.get(block).copied().flatten()
     }
+}
 
-    /// Says for each block at which place it stands.
-    pub fn put_places(&mut self) {
-        let places = self.places.as_mut_slice();
-        for (place, block) in self.blocks.as_slice().iter().enumerate() {
-            if *block < places.len() {
-                places[*block] = Some(place);
-            }
+/// Says for each block of an order at which place it stands.
+pub(crate) fn put_places(places: &mut [Option<usize>], blocks: &[usize]) {
+    for (place, block) in blocks.iter().enumerate() {
+        if *block < places.len() {
+            places[*block] = Some(place);
         }
     }
 }
 
 /// The blocks that control may go to from a block, where a branch is taken first. None of a number that is no block's.
 pub fn successors_in(function: &Function, block: usize) -> [Option<usize>; 2] {
-    match function.blocks.get(block) {
-        Some(block) => block.end.ways(),
-        None => [None, None],
+    if block < function.blocks.len() {
+        function.blocks[block].end.ways()
+    } else {
+        [None, None]
     }
 }
 
@@ -85,35 +85,30 @@ pub fn successors_of(alloc: Global, function: &Function) -> Result<Vec<Vec<usize
 
 /// The order of a function's blocks: reverse postorder, from the first block on.
 pub(crate) fn order_in(memory: &mut Memory, function: &Function) -> Order {
-    let mut order = Order {
-        places: memory.repeat(None, function.blocks.len()),
-        blocks: Vec::new(memory.alloc),
-    };
-    let places = order.places.as_mut_slice();
+    let mut found = memory.repeat(None, function.blocks.len());
+    let mut blocks = Vec::new(memory.alloc);
+    let places = found.as_mut_slice();
     // Blocks that are to be entered, and such that were and are to be left: these stand below the blocks of their ways.
-    let mut open = memory.copy(&[(0, false)]);
+    let mut open = memory.copy(&[(Some(0), false)]);
     // A block is entered once, which leaves three here. Each that was entered has some place.
     for _ in 0..=places.len().saturating_mul(3) {
-        let Some((block, is_entered)) = open.pop() else {
-            break;
-        };
-        if is_entered {
-            memory.push(&mut order.blocks, block);
-        } else if block < places.len() && places[block].is_none() {
-            places[block] = Some(0);
-            let [first, second] = successors_in(function, block);
-            let none = places.len();
-            let behind = [
-                (block, true),
-                (second.unwrap_or(none), false),
-                (first.unwrap_or(none), false),
-            ];
-            memory.is_refused |= open.extend_from_slice(&behind).is_err();
+        if let Some((Some(block), is_entered)) = open.pop() {
+            if is_entered {
+                memory.push(&mut blocks, block);
+            } else if block < places.len() && places[block].is_none() {
+                places[block] = Some(0);
+                let [first, second] = successors_in(function, block);
+                let behind = [(Some(block), true), (second, false), (first, false)];
+                memory.is_refused |= open.extend_from_slice(&behind).is_err();
+            }
         }
     }
-    order.blocks.reverse();
-    order.put_places();
-    order
+    blocks.reverse();
+    put_places(places, blocks.as_slice());
+    Order {
+        blocks,
+        places: found,
+    }
 }
 
 /// The order of a function's blocks: reverse postorder, from the first block on.

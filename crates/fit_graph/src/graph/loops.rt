@@ -1,8 +1,5 @@
 //! The loops of a function.
-use crate::graph::back::Graph;
 use crate::graph::reach::is_held;
-use fit_code::{Function, Memory};
-use std::alloc::{AllocError, Global};
 
 /// The blocks that can come back to a head without leaving it behind.
 #[derive(Drop)]
@@ -34,20 +31,4 @@ pub fn last_around(loops: &[Loop], block: usize) -> Option<usize> {
         }
     }
     found
-}
-
-/// The loops of a function whose heads are on each way to their blocks, one for each head, by their heads' order: an
-/// outer one before an inner one.
-pub fn loops_of(alloc: Global, function: &Function) -> Result<Vec<Loop>, AllocError> {
-    let mut memory = Memory::new(alloc);
-    let loops = Graph::of(&mut memory, function).loops(&mut memory);
-    memory.told(loops)
-}
-
-/// A block that control goes back to, though it isn't on each way to where control comes from: a loop that has another
-/// entry beside it. None where each loop of the function has one entry, which is its head.
-pub fn enters_beside_head(alloc: Global, function: &Function) -> Result<Option<usize>, AllocError> {
-    let mut memory = Memory::new(alloc);
-    let found = Graph::of(&mut memory, function).entered_beside(&mut memory, function);
-    memory.told(found)
 }

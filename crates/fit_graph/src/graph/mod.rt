@@ -6,9 +6,9 @@ mod loops;
 mod reach;
 mod tangles;
 
-pub(crate) use back::Graph;
-pub(crate) use graph::{Listed, list, order_in};
+pub use back::Graph;
+pub(crate) use graph::{Listed, list, order_in, put_places};
 pub use graph::{Order, order_of, predecessors_of, successors_in, successors_of};
-pub use loops::{Loop, enters_beside_head, loops_of};
+pub use loops::Loop;
 pub use reach::reached_from;
 pub use tangles::{Tangle, tangle_of};

@@ -29,15 +29,16 @@ pub(crate) fn bit(register: Reg) -> u32 {
     1 << register.number() & !1
 }
 
-pub(crate) fn bit_of(operand: Operand) -> u32 {
-    match operand {
-        Operand::Register(register) => bit(register),
-        Operand::Immediate(_) => 0,
+/// The bits of what an instruction works on, or an address is the sum of.
+pub(crate) fn bits_of(first: Reg, second: Operand) -> u32 {
+    match second {
+        Operand::Register(second) => bit(first) | bit(second),
+        Operand::Immediate(_) => bit(first),
     }
 }
 
 /// What reads and writes registers alone.
-fn of_registers(reads: u32, writes: u32) -> Effects {
+pub(crate) fn of_registers(reads: u32, writes: u32) -> Effects {
     Effects {
         reads,
         writes,
@@ -49,10 +50,9 @@ fn of_registers(reads: u32, writes: u32) -> Effects {
 /// A load, a store or an exchange, of a word of the frame or elsewhere.
 fn of_transfer(frame: u32, transfer: Transfer, operand: &MemoryOperand) -> Effects {
     let word = frame_word_of(frame, operand);
-    let address = if word.is_none() {
-        bit(operand.rs1) | bit_of(operand.operand2)
-    } else {
-        0
+    let address = match word {
+        Some(_) => 0,
+        None => bits_of(operand.rs1, operand.operand2),
     };
     let one = bit(operand.rd);
     let two = one | bit(odd_of(operand.rd));
@@ -79,11 +79,11 @@ pub fn effects_of(frame: u32, instr: &Instr) -> Effects {
         Operation::Compute(_, fields)
         | Operation::Divide(_, fields)
         | Operation::TaggedTrap(_, fields) => {
-            (bit(fields.rs1) | bit_of(fields.operand2), bit(fields.rd))
+            (bits_of(fields.rs1, fields.operand2), bit(fields.rd))
         }
         Operation::SetHigh(fields) => (0, bit(fields.rd)),
         Operation::ReadY(rd) => (0, bit(rd)),
-        Operation::WriteY(fields) => (bit(fields.rs1) | bit_of(fields.operand2), 0),
+        Operation::WriteY(fields) => (bits_of(fields.rs1, fields.operand2), 0),
         Operation::Transfer(transfer, operand) => return of_transfer(frame, transfer, &operand),
         Operation::TrapOnCondition(trap) => match service_of(&trap) {
             Some(1) => (0, OUT_0),

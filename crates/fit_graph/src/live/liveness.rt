@@ -1,9 +1,10 @@
 //! Which locations are live: read later before they are written, whatever the words on the way are.
 use crate::graph::order_in;
-use crate::live::effects::{Effects, LOST, bit, bit_of, effects_of};
+use crate::live::effects::{LOST, bits_of, effects_of, of_registers};
 use crate::live::locations::Locations;
 use crate::means::Means;
 use fit_code::{Block, End, Function, NO_LINE, Program, Step};
+use std::alloc::Global;
 
 /// How many of %o0 to %o5 a function takes for granted at its entry, and how many its callers do behind a call.
 #[derive(Clone, Copy, PartialEq, Eq)]
@@ -33,26 +34,16 @@ pub struct Liveness {
 /// As many rounds as liveness may take over the program.
 const ROUNDS: usize = 20_000;
 
-/// The first registers of six that begin at a number, each of which has a bit.
-fn first_registers(from: u32, count: u8) -> u32 {
-    let ones = (1u32 << count.min(6)).saturating_sub(1);
-    if from == 24 { ones << 24 } else { ones << 8 }
+/// The first ones of six registers, each of which has a bit.
+fn first_of_six(count: u8) -> u32 {
+    (1u32 << count.min(6)).saturating_sub(1)
 }
 
-/// One more than the last of six registers that begin at a number which is in the set; 0 where none is.
-fn last_register(from: u32, registers: u32) -> u8 {
-    let six = if from == 24 {
-        registers >> 24 & 0x3f
-    } else {
-        registers >> 8 & 0x3f
-    };
-    32u32.saturating_sub(six.leading_zeros()).min(6) as u8
-}
-
-/// Before what reads and writes so.
-fn pass(live: &mut Locations, effects: &Effects) {
-    live.remove(effects.writes, effects.word_written);
-    live.insert(effects.reads, effects.word_read);
+/// One more than the last one of the first six of some registers; 0 where none of them is there.
+fn last_of_six(registers: u32) -> u8 {
+    32u32
+        .saturating_sub((registers & 0x3f).leading_zeros())
+        .min(6) as u8
 }
 
 /// The registers that the end of a block reads, each of which has a bit, in a function of so many results. A return
@@ -61,7 +52,7 @@ pub fn read_at_end(function: &Function, results: u8, end: &End) -> u32 {
     match end {
         End::Return(fields) if function.framed => {
             let rd = fields.rd.number();
-            let given = if 8 <= rd && rd < 14 {
+            let given = if (8 <= rd) & (rd < 14) {
                 1u32 << (rd + 16)
             } else {
                 0
@@ -69,11 +60,11 @@ pub fn read_at_end(function: &Function, results: u8, end: &End) -> u32 {
             let operands = if rd == 0 {
                 0
             } else {
-                bit(fields.rs1) | bit_of(fields.operand2)
+                bits_of(fields.rs1, fields.operand2)
             };
-            (first_registers(24, results) & !given) | operands
+            (first_of_six(results) << 24 & !given) | operands
         }
-        End::Return(_) => first_registers(8, results),
+        End::Return(_) => first_of_six(results) << 8,
         End::Exit => 1 << 8,
         End::Jump(_) | End::Branch { .. } => 0,
     }
@@ -91,9 +82,10 @@ fn live_behind(function: &Function, results: u8, block: &Block, live: &[Location
         }
     }
     if let Some(slot) = &block.slot {
-        pass(&mut behind, &effects_of(function.frame, slot));
+        behind.pass(&effects_of(function.frame, slot));
     }
-    behind.insert(read_at_end(function, results, &block.end), None);
+    let reads = read_at_end(function, results, &block.end);
+    behind.pass(&of_registers(reads, 0));
     behind
 }
 
@@ -115,17 +107,16 @@ impl Asked {
             let counts = self.counts.as_mut_slice();
             if callee < counts.len() {
                 let asked = &mut counts[callee];
-                let results = last_register(8, live.registers());
+                let results = last_of_six(live.registers() >> 8);
                 self.is_new |= results > asked.results;
                 asked.results = asked.results.max(results);
-                live.remove(LOST, None);
-                live.insert(first_registers(8, asked.params), None);
+                live.pass(&of_registers(first_of_six(asked.params) << 8, LOST));
             }
         } else {
-            pass(live, &effects_of(frame, &step.instr));
+            live.pass(&effects_of(frame, &step.instr));
         }
         if let Some(slot) = &step.slot {
-            pass(live, &effects_of(frame, slot));
+            live.pass(&effects_of(frame, slot));
         }
     }
 
@@ -138,7 +129,7 @@ impl Asked {
         place: usize,
     ) {
         let blocks = function.blocks.as_slice();
-        if place < blocks.len() && place < live.len() {
+        if (place < blocks.len()) & (place < live.len()) {
             let block = &blocks[place];
             let mut found = live_behind(function, results, block, live);
             for step in block.steps.as_slice().iter().rev() {
@@ -147,81 +138,88 @@ impl Asked {
             self.is_new |= live[place].add(&found);
         }
     }
-}
 
-impl Liveness {
-    /// Goes over the blocks of a function once, those that follow first, and counts what it takes for granted at its
-    /// entry. The first function of a program is called by nobody.
-    fn pass_function(&mut self, number: usize, function: &Function) {
-        let (orders, live) = (self.orders.as_slice(), self.live.as_mut_slice());
-        if number >= orders.len() || number >= live.len() {
-            return;
+    /// Goes over the blocks of the function of a number once, at which this is live: those that follow first, as an
+    /// order has them. Counts what it takes for granted at its entry, but for the first function of a program, which is
+    /// called by nobody.
+    fn pass_function(
+        &mut self,
+        live: &mut [Locations],
+        (number, function): (usize, &Function),
+        order: &[usize],
+    ) {
+        let results = self.of(number).results;
+        for place in order {
+            self.pass_block(live, function, results, *place);
         }
-        let live = live[number].as_mut_slice();
-        let results = self.asked.of(number).results;
-        for place in orders[number].as_slice() {
-            self.asked.pass_block(live, function, results, *place);
-        }
-        let from = if function.framed { 24 } else { 8 };
-        let counts = self.asked.counts.as_mut_slice();
-        if number > 0
-            && number < counts.len()
-            && let Some(first) = live.first()
-        {
-            let params = last_register(from, first.registers());
+        let from = if function.framed { 24 } else { 8u32 };
+        let counts = self.counts.as_mut_slice();
+        if (number > 0) & (number < counts.len()) & !live.is_empty() {
+            let params = last_of_six(live[0].registers() >> from);
             counts[number].params = counts[number].params.max(params);
         }
     }
+}
 
-    /// Goes over all functions once, those that are called first.
-    fn pass_program(&mut self, program: &Program) {
-        for number in (0..program.functions.len()).rev() {
-            if let Some(function) = program.functions.get(number) {
-                self.pass_function(number, function);
-            }
-        }
-    }
-
-    /// Goes over a program until no more is live or asked for.
+impl Liveness {
+    /// Goes over a program until no more is live or asked for, through all functions once and again, those that are
+    /// called first.
     fn settle(&mut self, means: &mut Means, program: &Program) {
+        let (functions, orders) = (program.functions.as_slice(), self.orders.as_slice());
+        let live = self.live.as_mut_slice();
+        self.asked.is_new = true;
         for _ in 0..ROUNDS {
-            self.asked.is_new = false;
-            self.pass_program(program);
-            if !self.asked.is_new {
-                return;
+            if self.asked.is_new {
+                self.asked.is_new = false;
+                for number in (0..functions.len()).rev() {
+                    if (number < orders.len()) & (number < live.len()) {
+                        let (function, order) = (&functions[number], orders[number].as_slice());
+                        let live = live[number].as_mut_slice();
+                        self.asked.pass_function(live, (number, function), order);
+                    }
+                }
             }
         }
-        let what = "rounds over which locations are live";
-        means.spend(NO_LINE, what, ROUNDS as u64);
+        if self.asked.is_new {
+            let what = "rounds over which locations are live";
+            means.spend(NO_LINE, what, ROUNDS as u64);
+        }
     }
 
     /// What is live in a program.
     pub fn of(means: &mut Means, program: &Program) -> Liveness {
         let memory = &mut means.memory;
-        let mut found = Liveness {
-            asked: Asked {
-                counts: memory.repeat(NONE, program.functions.len()),
-                is_new: false,
-            },
-            orders: Vec::new(memory.alloc),
-            live: Vec::new(memory.alloc),
-        };
+        let mut found = Liveness::none(memory.alloc);
         for function in program.functions.as_slice() {
             let mut order = order_in(memory, function).blocks;
             order.reverse();
             memory.push(&mut found.orders, order);
             let live = memory.repeat(Locations::none(), function.blocks.len());
             memory.push(&mut found.live, live);
+            memory.push(&mut found.asked.counts, NONE);
         }
         found.settle(means, program);
         found
     }
 
+    /// Nothing is live in no program.
+    pub fn none(alloc: Global) -> Liveness {
+        Liveness {
+            asked: Asked {
+                counts: Vec::new(alloc),
+                is_new: false,
+            },
+            orders: Vec::new(alloc),
+            live: Vec::new(alloc),
+        }
+    }
+
     /// What is live where each block of a function begins.
     pub fn of_function(&self, function: usize) -> &[Locations] {
-        match self.live.get(function) {
-            Some(live) => live.as_slice(),
-            None => &[],
+        if function < self.live.len() {
+            self.live[function].as_slice()
+        } else {
+            &[]
         }
     }
 }

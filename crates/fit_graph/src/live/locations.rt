@@ -1,4 +1,6 @@
 //! Sets of locations.
+use crate::live::effects::Effects;
+
 /// So many words of 64 bits have a bit for each location.
 const WORDS: usize = 17;
 
@@ -27,11 +29,14 @@ impl Locations {
         }
     }
 
-    /// Takes registers and a frame word out.
-    pub fn remove(&mut self, registers: u32, frame_word: Option<u16>) {
-        self.words[0] &= !u64::from(registers);
-        if let Some(location) = frame_word {
+    /// Takes out what is written so, and puts in what is read.
+    pub fn pass(&mut self, effects: &Effects) {
+        self.words[0] = self.words[0] & !u64::from(effects.writes) | u64::from(effects.reads);
+        if let Some(location) = effects.word_written {
             self.words[usize::from(location / 64) % WORDS] &= !(1 << (location % 64));
+        }
+        if let Some(location) = effects.word_read {
+            self.words[usize::from(location / 64) % WORDS] |= 1 << (location % 64);
         }
     }
 

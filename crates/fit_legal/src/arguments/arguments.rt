@@ -1,8 +1,8 @@
 //! Arguments in memory. Nothing recurses, so each function has one place in the data for the arguments that its
 //! callers leave at `%sp + 64` and behind: the address of a struct that is returned, the seventh argument and
 //! further ones.
-use fit_blocks::{Access, Layout, access_of, signed};
-use fit_code::{Block, End, Function, Step};
+use fit_blocks::{Access, access_of, signed};
+use fit_code::{Block, End, Step};
 use v8_formats::{Instr, Operand, Three, Upper, decode, encode};
 use v8_word::Reg;
 
@@ -27,16 +27,9 @@ pub fn with_operands(instr: &Instr, rs1: Reg, operand2: Operand) -> Instr {
     decode(encode(instr) & !OPERANDS | other & OPERANDS)
 }
 
-/// The access of a step to a place in an object, behind SETHI of its address; or, where a register is named, steps that
-/// leave that address in it.
-pub fn in_object(
-    layout: &Layout,
-    object: usize,
-    offset: i64,
-    step: &Step,
-    made: Option<Reg>,
-) -> (Step, Step) {
-    let address = layout.address(object, offset);
+/// The access of a step to an address in an object, behind SETHI of it; or, where a register is named, steps that leave
+/// that address in it.
+pub fn in_object(object: usize, address: u32, step: &Step, made: Option<Reg>) -> [Step; 2] {
     let operand2 = Operand::Immediate(address & 0x3ff);
     let (base, instr) = match made {
         Some(rd) => {
@@ -60,7 +53,7 @@ pub fn in_object(
         object,
         ..*step
     };
-    (first, second)
+    [first, second]
 }
 
 /// What a step reaches in the data: the number of an object, or of the function whose arguments it is; the place there;
@@ -82,26 +75,20 @@ fn argument_at(access: &Access, register: Reg) -> Option<i64> {
     }
 }
 
-/// The function that steps call first.
-fn called_by(steps: &[Step]) -> Option<usize> {
-    for step in steps {
-        if step.callee.is_some() {
-            return step.callee;
-        }
-    }
-    None
-}
-
 /// The function that is called next, from a place of a block on, where no branch is before it.
 fn next_call(blocks: &[Block], block: usize, place: usize) -> Option<usize> {
     let mut block = block;
     let mut place = place;
     for _ in 0..blocks.len() {
         let found = blocks.get(block)?;
-        let callee = called_by(found.steps.as_slice().get(place..).unwrap_or(&[]));
+        for step in found.steps.as_slice().get(place..).unwrap_or(&[]) {
+            if step.callee.is_some() {
+                return step.callee;
+            }
+        }
         match found.end {
-            End::Jump(to) if callee.is_none() => block = to,
-            _ => return callee,
+            End::Jump(to) => block = to,
+            _ => return None,
         }
         place = 0;
     }
@@ -114,7 +101,8 @@ fn next_call(blocks: &[Block], block: usize, place: usize) -> Option<usize> {
 /// # Errors
 /// Where an argument is stored, and a branch comes before the next call.
 pub fn argument_of(
-    function: &Function,
+    blocks: &[Block],
+    framed: bool,
     number: usize,
     (block, place): (usize, usize),
     step: &Step,
@@ -133,13 +121,13 @@ pub fn argument_of(
             None => return Ok(None),
         },
     };
-    let base = if function.framed { Reg::FP } else { Reg::SP };
+    let base = if framed { Reg::FP } else { Reg::SP };
     if let Some(offset) = argument_at(&access, base) {
         return Ok(Some((number, offset, made, None)));
     }
     match argument_at(&access, Reg::SP) {
-        Some(offset) if function.framed & access.stores => {
-            match next_call(function.blocks.as_slice(), block, place) {
+        Some(offset) if framed & access.stores => {
+            match next_call(blocks, block, place) {
                 Some(callee) => Ok(Some((callee, offset, None, None))),
                 None => Err("an argument in memory, and no call behind it"),
             }

@@ -1,7 +1,7 @@
 //! Which functions call which.
-use fit_blocks::{Stops, name_of};
-use fit_code::{Fault, Line, NO_LINE, Naming, Reason};
-use fit_gas::{Linked, Part, Source, SymbolPlace};
+use fit_blocks::{Stop, Stops, name_of};
+use fit_code::{Line, NO_LINE, Naming};
+use fit_gas::{Linked, Part, Source, SymbolPlace, owned};
 use v8_formats::{Instr, decode};
 
 /// A function that a walk is in, up to its item of a number.
@@ -13,10 +13,10 @@ struct Progress {
     place: usize,
 }
 
-/// A walk over the functions that are called.
+/// A walk over the functions that are called, up to what stops it.
 #[derive(Drop)]
 struct Walk<'s, 'w, 'l> {
-    stops: Stops,
+    stops: &'w mut Stops,
     source: &'s Source,
     linked: &'w Linked<'l>,
     /// The functions that the walk is in, each called by the one before it.
@@ -25,48 +25,47 @@ struct Walk<'s, 'w, 'l> {
     entered: Vec<bool>,
     /// Functions that were left, callees before their callers.
     left: Vec<usize>,
+    /// What is told before the name that was noted.
+    before: String,
 }
 
 impl Walk<'_, '_, '_> {
     /// Notes that functions call each other in a round, where the walk is in one that is called at a line, with their
     /// names from that one on.
-    fn tell_round(&mut self, callee: usize, symbol: usize, line: Line) {
-        let source = self.source;
-        let mut names = String::new(source.alloc);
+    fn note_round(&mut self, callee: usize, symbol: usize, line: Line) {
         let mut is_round = false;
         for progress in self.open.as_slice() {
-            is_round = is_round | (progress.code == callee);
+            is_round |= progress.code == callee;
             if is_round {
-                let name = name_of(source, progress.symbol);
-                if write!(names, "{name} calls ").is_err() {
-                    self.stops.lack();
-                }
+                let name = name_of(self.source, progress.symbol);
+                let written = write!(self.before, "{name} calls ");
+                self.stops.memory.is_refused |= written.is_err();
             }
         }
         if is_round {
-            self.stops.take(names.push_str(name_of(source, symbol)));
-            let reason = Reason::Named(Naming::Recursion, names);
-            self.stops.note(Fault::new(line, reason));
+            self.stops
+                .note(line, Stop::Named(Naming::Recursion, symbol));
         }
     }
 
     /// Goes on to the function that is called by a symbol at a line.
     fn go_into(&mut self, symbol: usize, line: Line) {
-        let SymbolPlace::Function(callee) = self.linked.place(symbol) else {
-            let name = name_of(self.source, symbol);
-            return self.stops.named(line, Naming::NotDefined, name);
+        let SymbolPlace::Function(code) = self.linked.place(symbol) else {
+            return self
+                .stops
+                .note(line, Stop::Named(Naming::NotDefined, symbol));
         };
         let entered = self.entered.as_mut_slice();
-        if callee < entered.len() && !entered[callee] {
-            entered[callee] = true;
+        if code < entered.len() && !entered[code] {
+            entered[code] = true;
             let progress = Progress {
-                code: callee,
+                code,
                 symbol,
                 place: 0,
             };
-            self.stops.push(&mut self.open, progress);
+            self.stops.memory.push(&mut self.open, progress);
         } else {
-            self.tell_round(callee, symbol, line);
+            self.note_round(code, symbol, line);
         }
     }
 
@@ -84,59 +83,52 @@ impl Walk<'_, '_, '_> {
             {
                 let place = progress.place.saturating_add(1);
                 let progress = Progress { place, ..progress };
-                self.stops.push(&mut self.open, progress);
+                self.stops.memory.push(&mut self.open, progress);
                 if let Some(reference) = item.reference
                     && matches!(reference.part, Part::Target)
                     && matches!(decode(item.word), Instr::Call(_))
+                    && self.stops.first.is_none()
                 {
                     self.go_into(reference.symbol, item.line);
                 }
             } else {
-                self.stops.push(&mut self.left, progress.code);
+                self.stops.memory.push(&mut self.left, progress.code);
             }
         }
     }
 }
 
-/// The symbol of the function of a global name.
-fn entry_of(source: &Source, name: &str) -> Option<usize> {
-    for (number, symbol) in source.symbols.as_slice().iter().enumerate() {
-        if symbol.is_global
-            && symbol.name.as_str() == name
-            && matches!(symbol.place, SymbolPlace::Function(_))
-        {
-            return Some(number);
-        }
-    }
-    None
-}
-
-/// The numbers of the functions that a run from the entry can come to, callers before those that they call.
-///
-/// # Errors
-/// Where functions call each other in a round; where one is called that stands nowhere; where the entry stands
-/// nowhere.
-pub fn order_of_calls(source: &Source, linked: &Linked, entry: &str) -> Result<Vec<usize>, Fault> {
-    let alloc = source.alloc;
+/// The numbers of the functions that a run from the entry can come to, callers before those that they call. If nothing
+/// stopped it before, what does is noted: functions that call each other in a round; a call of what stands nowhere, or
+/// an entry that does. What is told before the name that is noted comes with it.
+pub fn order_of_calls(
+    stops: &mut Stops,
+    source: &Source,
+    linked: &Linked,
+    entry: &str,
+) -> (Vec<usize>, String) {
+    let alloc = stops.memory.alloc;
+    let entered = stops.memory.repeat(false, source.codes.len());
     let mut walk = Walk {
-        stops: Stops { alloc, first: None },
+        stops,
         source,
         linked,
         open: Vec::new(alloc),
-        entered: Vec::new(alloc),
+        entered,
         left: Vec::new(alloc),
+        before: String::new(alloc),
     };
-    let resized = walk.entered.resize(source.codes.len(), false);
-    walk.stops.take(resized);
-    match entry_of(source, entry) {
-        Some(first) => walk.go_into(first, NO_LINE),
-        None => walk.stops.named(NO_LINE, Naming::NoEntry, entry),
+    if walk.stops.first.is_none() {
+        if let SymbolPlace::Function(number) = linked.global(entry)
+            && let Some(code) = source.codes.get(number)
+        {
+            walk.go_into(code.symbol, NO_LINE);
+        } else {
+            walk.before = owned(&mut walk.stops.memory, entry);
+            walk.stops.note(NO_LINE, Stop::NoEntry);
+        }
     }
     walk.go_all();
     walk.left.reverse();
-    let Walk { stops, left, .. } = walk;
-    match stops.first {
-        Some(fault) => Err(fault),
-        None => Ok(left),
-    }
+    (walk.left, walk.before)
 }

@@ -6,7 +6,8 @@ use crate::places::{
     uses_frame, word_place, word_step,
 };
 use fit_blocks::{Layout, Stops, next_register, operands_read, written};
-use fit_code::{End, Function, Step};
+use fit_code::{Block, End, Function, Step};
+use fit_gas::owned;
 
 const UNKNOWN_SIZE: &str = "an array of a size that isn't constant";
 
@@ -51,7 +52,7 @@ fn reached(step: &Step, object: usize, size: u32) -> Result<Option<Reached>, &'s
     }
     if let Some((access, place)) = place_accessed(&step.instr, size) {
         let end = place.saturating_add(i64::from(access.bytes));
-        if place < 0 || i64::from(size) < end {
+        if (place < 0) | (i64::from(size) < end) {
             return Err("an access to the stack outside of its frame");
         }
         Ok(Some((object, place, None, None)))
@@ -64,107 +65,94 @@ fn reached(step: &Step, object: usize, size: u32) -> Result<Option<Reached>, &'s
     }
 }
 
-/// What functions do with their frames.
-#[derive(Clone, Copy)]
-enum Use {
-    Nothing,
-    /// To spill words, and no more.
-    Spills,
-    More,
+/// Whether a step takes room from %sp, in a function that has no window.
+fn takes_room(framed: bool, step: &Step) -> bool {
+    !framed & (written(&step.instr) & STACK_POINTER != 0)
 }
 
-/// Whether a step takes room from %sp, in a function without a window.
-fn takes_room(function: &Function, step: &Step) -> bool {
-    !function.framed & (written(&step.instr) & STACK_POINTER != 0)
-}
-
-/// What a function does with its frame of some size. It is a fault where a step changes %sp or %fp, but to take room,
-/// and where a return hands on an address in the frame.
-fn use_of(stops: &mut Stops, function: &Function, size: u32) -> Use {
-    let mut used = Use::Nothing;
+/// Whether a function uses its frame of some size; and whether for more than to spill words. It is a fault where a step
+/// changes %sp or %fp, but to take room, and where a return hands on an address in the frame.
+fn use_of(stops: &mut Stops, function: &Function, size: u32) -> (bool, bool) {
+    let mut is_used = false;
+    let mut is_more = false;
     let mut returns = false;
     for block in function.blocks.as_slice() {
         for step in block.steps.as_slice() {
-            let is_changed = written(&step.instr) & STACK != 0;
-            if takes_room(function, step) {
+            if takes_room(function.framed, step) {
                 continue;
-            } else if is_changed {
-                stops.form(function.name.as_str(), step.line, UNKNOWN_SIZE);
+            } else if written(&step.instr) & STACK != 0 {
+                stops.form(step.line, UNKNOWN_SIZE);
             } else if uses_frame(step) {
-                let is_more = matches!(used, Use::More) | word_place(&step.instr, size).is_none();
-                used = if is_more { Use::More } else { Use::Spills };
+                is_used = true;
+                is_more |= word_place(&step.instr, size).is_none();
             }
         }
         if let End::Return(fields) = block.end {
-            returns = returns | (operands_read(&fields) & STACK != 0);
+            returns |= operands_read(&fields) & STACK != 0;
         }
     }
     if returns {
-        let what = "a return with an address in its frame";
-        stops.form(function.name.as_str(), function.line, what);
+        stops.form(function.line, "a return with an address in its frame");
     }
-    used
+    (is_used, is_more)
 }
 
 /// Pushes what stands for a step of a function, by its block and its place there: nothing where it takes room from %sp.
 fn push_placed(
     layout: &mut Layout,
     steps: &mut Vec<Step>,
-    function: &Function,
-    way: Way,
-    (block, place): (usize, usize),
+    blocks: &[Block],
+    (framed, way): (bool, Way),
+    at: (usize, usize),
     step: &Step,
 ) {
-    if takes_room(function, step) {
-        return;
-    }
     let found = match way {
+        _ if takes_room(framed, step) => return,
         Way::Spills(size) => {
             let (first, second) = spilled(step, size);
-            layout.stops.push(steps, first);
+            layout.stops.memory.push(steps, first);
             if let Some(second) = second {
-                layout.stops.push(steps, second);
+                layout.stops.memory.push(steps, second);
             }
             return;
         }
         Way::Object(object, size) => reached(step, object, size),
-        Way::Arguments(number) => argument_of(function, number, (block, place), step),
+        Way::Arguments(number) => argument_of(blocks, framed, number, at, step),
     };
     match found {
         Ok(Some((whose, offset, made, moved))) => {
             let object = match way {
-                Way::Object(object, _) => object,
-                _ => layout.arguments_of(whose, BYTES, step.line),
+                Way::Arguments(_) => layout.arguments_of(whose, BYTES, step.line),
+                _ => whose,
             };
-            let (high, low) = in_object(layout, object, offset, step, made);
-            layout.stops.push(steps, high);
-            layout.stops.push(steps, low);
+            let address = layout.address(object, offset);
+            let memory = &mut layout.stops.memory;
+            let placed = in_object(object, address, step, made);
+            memory.is_refused |= steps.extend_from_slice(&placed).is_err();
             if let Some(moved) = moved {
-                layout.stops.push(steps, moved);
+                memory.push(steps, moved);
             }
         }
-        Ok(None) => layout.stops.push(steps, *step),
-        Err(what) => layout.stops.form(function.name.as_str(), step.line, what),
+        Ok(None) => layout.stops.memory.push(steps, *step),
+        Err(what) => layout.stops.form(step.line, what),
     }
-}
-
-/// The steps of a block put otherwise.
-fn placed_steps(layout: &mut Layout, function: &Function, way: Way, block: usize) -> Vec<Step> {
-    let mut steps = Vec::new(layout.stops.alloc);
-    if let Some(found) = function.blocks.get(block) {
-        for (place, step) in found.steps.as_slice().iter().enumerate() {
-            push_placed(layout, &mut steps, function, way, (block, place), step);
-        }
-    }
-    steps
 }
 
 /// Puts the steps of a function otherwise.
 fn place_steps(layout: &mut Layout, function: &mut Function, way: Way) {
-    for block in 0..function.blocks.len() {
-        let steps = placed_steps(layout, function, way, block);
-        if let Some(found) = function.blocks.get_mut(block) {
-            found.steps = steps;
+    let framed = function.framed;
+    for number in 0..function.blocks.len() {
+        let mut steps = Vec::new(layout.stops.memory.alloc);
+        let blocks = function.blocks.as_slice();
+        if number < blocks.len() {
+            for (place, step) in blocks[number].steps.as_slice().iter().enumerate() {
+                let at = (number, place);
+                push_placed(layout, &mut steps, blocks, (framed, way), at, step);
+            }
+        }
+        let blocks = function.blocks.as_mut_slice();
+        if number < blocks.len() {
+            blocks[number].steps = steps;
         }
     }
 }
@@ -175,10 +163,10 @@ fn room_of(stops: &mut Stops, function: &Function) -> Option<u32> {
     let mut most: i64 = -1;
     for block in function.blocks.as_slice() {
         for step in block.steps.as_slice() {
-            if takes_room(function, step) {
+            if takes_room(function.framed, step) {
                 match taken_by(step) {
                     Some(bytes) => most = most.max(bytes),
-                    None => stops.form(function.name.as_str(), step.line, UNKNOWN_SIZE),
+                    None => stops.form(step.line, UNKNOWN_SIZE),
                 }
             }
         }
@@ -200,13 +188,14 @@ pub fn place_frame(layout: &mut Layout, function: &mut Function, number: usize) 
         place_steps(layout, function, Way::Arguments(number));
     }
     let size = room.unwrap_or(function.frame);
-    let used = use_of(&mut layout.stops, function, size);
-    let stays = matches!(used, Use::Spills) & function.framed & (size % 8 == 0);
-    let way = if stays | matches!(used, Use::Nothing) {
+    let (is_used, is_more) = use_of(&mut layout.stops, function, size);
+    let stays = is_used & !is_more & function.framed & (size % 8 == 0);
+    let way = if stays | !is_used {
         Way::Spills(size)
     } else {
-        let mut name = layout.stops.owned("frame of ");
-        layout.stops.take(name.push_str(function.name.as_str()));
+        let mut name = owned(&mut layout.stops.memory, "frame of ");
+        let pushed = name.push_str(function.name.as_str());
+        layout.stops.memory.take(pushed);
         let object = layout.add(name, false, 8, &[], size as usize, function.line);
         Way::Object(object, size)
     };

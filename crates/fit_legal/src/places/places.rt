@@ -1,7 +1,8 @@
 //! Places in a function's frame: what its instructions say of them by %sp and %fp.
 use crate::arguments::{scratch, with_operands};
-use fit_blocks::{Access, access_of, bit_of, fields_of, read_by, signed, word_of};
+use fit_blocks::{Access, access_of, bit_of, fields_of, read_by, signed};
 use fit_code::Step;
+use fit_gas::word_of;
 use v8_formats::{Instr, Operand, Three};
 use v8_word::Reg;
 
@@ -119,7 +120,7 @@ pub fn by_scratch(step: &Step, object: usize, size: u32) -> Option<(i64, Step)> 
         _ => return None,
     };
     let is_sum = matches!(step.instr, Instr::Add(_) | Instr::Sub(_) | Instr::SubCc(_));
-    if !is_sum && access_of(&step.instr).is_none() {
+    if !(is_sum | access_of(&step.instr).is_some()) {
         return None;
     }
     let step = Step {

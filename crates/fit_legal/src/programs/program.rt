@@ -2,10 +2,10 @@
 use crate::calls::order_of_calls;
 use crate::frames::place_frame;
 use fit_blocks::{
-    Layout, Stops, bit_of, function_of, give_one_entry, layout_of, operands_read, points_of,
+    Layout, Stop, Stops, bit_of, function_of, give_one_entry, layout_of, operands_read,
     put_plainly, read_by, repeat_compares, result_register, step_of, written,
 };
-use fit_code::{End, Fault, Function, Program, Reason, Step};
+use fit_code::{End, Fault, Function, Memory, Program};
 use fit_gas::{Code, Source};
 use std::alloc::Global;
 use v8_formats::{Instr, Operand, Three};
@@ -17,57 +17,50 @@ const FUNCTIONS: usize = 256;
 /// The registers that hold frames and the ways back, a bit a register: %sp, %o7, %fp and %i7.
 const HELD: u32 = 1 << 14 | 1 << 15 | 1 << 30 | 1 << 31;
 
-fn is_spill(step: &Step) -> bool {
-    match step.instr {
-        Instr::Load(fields) | Instr::Store(fields) => {
-            (fields.rs1 == Reg::SP)
-                & matches!(fields.operand2, Operand::Immediate(_))
-                & (bit_of(fields.rd) & HELD == 0)
-        }
-        _ => false,
-    }
-}
-
 /// It is a fault where a step of a function names a register that holds a frame or a way back, but to spill words, or
 /// the end of a block does.
 fn check_held(stops: &mut Stops, function: &Function) {
     let what = "a register that holds a frame or the way back";
     for block in function.blocks.as_slice() {
         for step in block.steps.as_slice() {
-            let named = read_by(&step.instr) | written(&step.instr);
-            if step.callee.is_none() & (named & HELD != 0) & !is_spill(step) {
-                return stops.form(function.name.as_str(), step.line, what);
+            let mut named = read_by(&step.instr) | written(&step.instr);
+            if let Instr::Load(fields) | Instr::Store(fields) = step.instr
+                && matches!(fields.operand2, Operand::Immediate(_))
+                && fields.rs1 == Reg::SP
+            {
+                named = bit_of(fields.rd);
+            }
+            if step.callee.is_none() & (named & HELD != 0) {
+                stops.form(step.line, what);
             }
         }
         if let End::Return(fields) = block.end
             && (operands_read(&fields) | bit_of(fields.rd)) & HELD != 0
         {
-            return stops.form(function.name.as_str(), block.line, what);
+            stops.form(block.line, what);
         }
     }
 }
 
-/// What leaves a framed function's result in %o0 before it returns: what RESTORE would write there, or what it would
-/// move there from %i0.
-fn result_move(fields: Three) -> Instr {
-    let rd = result_register();
-    if fields.rd == rd {
-        return Instr::Add(fields);
-    }
-    let operand2 = Operand::Register(Reg::new(24).unwrap_or(Reg::G0));
-    let rs1 = Reg::G0;
-    Instr::Or(Three { rd, rs1, operand2 })
-}
-
-/// A run ends where the function that it begins at would return.
-fn end_runs(stops: &mut Stops, function: &mut Function) {
+/// A run ends where the function that it begins at would return. In a framed one %o0 gets its result before that: what
+/// RESTORE would write there, or what it would move there from %i0.
+fn end_runs(memory: &mut Memory, function: &mut Function) {
     let framed = function.framed;
+    let rd = result_register();
     for block in function.blocks.iter_mut() {
         if let End::Return(fields) = block.end {
             block.end = End::Exit;
+            let instr = if fields.rd == rd {
+                Instr::Add(fields)
+            } else {
+                Instr::Or(Three {
+                    rd,
+                    rs1: Reg::G0,
+                    operand2: Operand::Register(Reg::new(24).unwrap_or(Reg::G0)),
+                })
+            };
             if framed {
-                let step = step_of(result_move(fields), block.line);
-                stops.push(&mut block.steps, step);
+                memory.push(&mut block.steps, step_of(instr, block.line));
             }
         }
     }
@@ -81,17 +74,16 @@ fn add(
     code: &Code,
     order: &[usize],
 ) {
-    let points = points_of(layout, number, code);
-    let mut function = function_of(&mut layout.stops, points);
+    let mut function = function_of(layout, number, code);
     give_one_entry(&mut layout.stops, &mut function);
     place_frame(layout, &mut function, number);
     check_held(&mut layout.stops, &function);
-    put_plainly(&mut layout.stops, &mut function, order);
+    put_plainly(&mut layout.stops.memory, &mut function, order);
     repeat_compares(&mut layout.stops, &mut function);
     if functions.is_empty() {
-        end_runs(&mut layout.stops, &mut function);
+        end_runs(&mut layout.stops.memory, &mut function);
     }
-    layout.stops.push(functions, function);
+    layout.stops.memory.push(functions, function);
 }
 
 /// Adds the functions of these numbers, up to what stops it: that is first the first function beyond those that an
@@ -101,11 +93,9 @@ fn add_all(layout: &mut Layout, functions: &mut Vec<Function>, order: &[usize]) 
     if let Some(number) = order.get(FUNCTIONS)
         && let Some(code) = source.codes.get(*number)
     {
-        let reason = Reason::TooMany {
-            what: "functions",
-            most: 256,
-        };
-        layout.stops.note(Fault::new(code.line, reason));
+        layout
+            .stops
+            .note(code.line, Stop::TooMany("functions", 256));
     }
     for number in order {
         if layout.stops.first.is_none()
@@ -124,29 +114,19 @@ fn add_all(layout: &mut Layout, functions: &mut Vec<Function>, order: &[usize]) 
 /// function; an array whose size isn't constant; an instruction that sandboxed code may not have; a name that
 /// stands nowhere; a form that compilers don't write; more functions, or bytes of data, than an image may have.
 pub fn program_of(alloc: Global, source: &Source, entry: &str) -> Result<Program, Fault> {
-    let files = source.files.clone()?;
-    let mut layout = layout_of(source)?;
-    let order = match order_of_calls(source, &layout.linked, entry) {
-        Ok(order) => order,
-        Err(fault) => {
-            layout.stops.note(fault);
-            Vec::new(alloc)
-        }
-    };
+    let mut layout = layout_of(source);
+    let mut stops = layout.stops;
+    let (order, before) = order_of_calls(&mut stops, source, &layout.linked, entry);
+    layout.stops = stops;
     let mut functions = Vec::new(alloc);
     add_all(&mut layout, &mut functions, order.as_slice());
-    let Layout {
-        stops,
-        objects,
-        regions,
-        ..
-    } = layout;
-    match stops.first {
+    let files = layout.stops.made(source.files.clone());
+    match layout.stops.fault(source, before.as_str()) {
         Some(fault) => Err(fault),
         None => Ok(Program {
             functions,
-            objects,
-            regions,
+            objects: layout.objects,
+            regions: layout.regions,
             files,
         }),
     }

@@ -1,11 +1,11 @@
-//! Putting the meter into a function.
-use crate::metering::heads::add_heads;
-use crate::metering::registers::free_register;
-use fit_code::{End, Function, NO_LINE};
+//! Putting the meter into a function. Before some of its blocks stand places that count it down: on each round of its
+//! loops is one, but for those that a counter bounds. A loop so bounded that stands behind a loop without bound, and in
+//! no loop, has one all the same: else each round of that loop would pay for it, since the run may go on there.
+use crate::metering::registers::{free_register, named_in};
+use fit_code::{Block, End, Function, Memory, NO_LINE};
 use fit_fuel::{Bounds, Meter, counting, number_in};
-use fit_graph::Loop;
-use fit_tests::{push_block, push_instrs, register};
-use std::alloc::Global;
+use fit_graph::{order_of, successors_in};
+use fit_tests::{insert_instr, push_block, register};
 use v8_formats::{Cond, Instr, Operand, Reg, Three};
 
 /// The exit word of a run whose meter is empty, but for the line.
@@ -13,6 +13,29 @@ const EMPTY: u32 = 4 << 16;
 
 /// The greatest number that a meter may begin with.
 const GREATEST: u64 = 0x7fff_ffff;
+
+/// The blocks that control goes back to, as an order of the blocks has it, but for the heads of loops with bounds: each
+/// round of another loop comes through one of them.
+fn unbounded_heads(memory: &mut Memory, function: &Function, bounds: &Bounds) -> Vec<usize> {
+    let mut heads = Vec::new(memory.alloc);
+    let Ok(order) = order_of(memory.alloc, function) else {
+        memory.is_refused = true;
+        return heads;
+    };
+    let blocks = order.blocks.as_slice();
+    // a block has two ways at most
+    for way in 0..blocks.len().saturating_mul(2) {
+        let place = way / 2;
+        if place < blocks.len()
+            && let Some(to) = successors_in(function, blocks[place])[way % 2]
+            && let Some(earlier) = order.place(to)
+            && (earlier <= place) & !bounds.has_head(to) & !heads.contains(&to)
+        {
+            memory.push(&mut heads, to);
+        }
+    }
+    heads
+}
 
 /// The instruction that moves the meter's word from the frame or, with `stores`, to it; none where it has none.
 fn word_move(meter: &Meter, stores: bool) -> Option<Instr> {
@@ -24,20 +47,22 @@ fn word_move(meter: &Meter, stores: bool) -> Option<Instr> {
         rs1: Reg::SP,
         operand2: Operand::Immediate(distance),
     };
-    if stores {
-        Some(Instr::Store(fields))
+    Some(if stores {
+        Instr::Store(fields)
     } else {
-        Some(Instr::Load(fields))
-    }
+        Instr::Load(fields)
+    })
 }
 
 /// A meter of so many turns that isn't in use yet: in a register that has no other use or, where there is none, in a
 /// new word of the frame; nothing where there is no room for it.
 fn meter_for(function: &mut Function, turns: u64) -> Option<Meter> {
-    let unit = turns / GREATEST + 1;
-    let count = (turns / unit).clamp(1, GREATEST);
     let frame = function.frame;
-    let free = free_register(function);
+    let mut named = 0;
+    for block in function.blocks.as_slice() {
+        named |= named_in(frame, block);
+    }
+    let free = free_register(function.framed, named);
     let mut word = None;
     if free.is_none() {
         if !function.framed || frame > 4096 - 8 {
@@ -46,6 +71,8 @@ fn meter_for(function: &mut Function, turns: u64) -> Option<Meter> {
         function.frame = frame.saturating_add(8);
         word = Some(frame);
     }
+    let unit = turns / GREATEST + 1;
+    let count = (turns / unit).clamp(1, GREATEST);
     Some(Meter {
         register: free.unwrap_or(register(7)),
         word,
@@ -55,138 +82,120 @@ fn meter_for(function: &mut Function, turns: u64) -> Option<Meter> {
     })
 }
 
-/// Adds a place of the meter before a block, behind the block where the run ends because the meter is empty. Says
-/// whether memory was refused.
-fn add_place(alloc: Global, function: &mut Function, meter: &Meter, before: usize) -> bool {
-    // of the block's first step, or of its end
-    let mut line = function.line;
-    if before < function.blocks.len() {
-        let block = &function.blocks[before];
-        line = match block.steps.first() {
-            Some(step) => step.line,
-            None => block.line,
-        };
+/// Lets blocks that go to a block go to another one, but for those of a loop, which is given by whether each block is
+/// in it.
+fn redirect(blocks: &mut [Block], from: usize, to: usize, within: &[bool]) {
+    for number in 0..blocks.len() {
+        if number >= within.len() || !within[number] {
+            blocks[number].end = match blocks[number].end {
+                End::Jump(way) => End::Jump(if way == from { to } else { way }),
+                End::Branch { cond, taken, next } => End::Branch {
+                    cond,
+                    taken: if taken == from { to } else { taken },
+                    next: if next == from { to } else { next },
+                },
+                end => end,
+            };
+        }
     }
-    let blocks = &mut function.blocks;
-    let end = End::Branch {
-        cond: Cond::Negative,
-        taken: blocks.len(),
-        next: before,
-    };
-    let word = number_in(register(8), EMPTY | line.number.min(0xffff));
-    let mut lacks = push_block(alloc, blocks, &word, End::Exit, line).is_err();
-    let [high, low, count] = counting(meter, 1);
-    let instrs = [word_move(meter, false), high, low, count];
-    lacks |= push_block(alloc, blocks, &instrs, end, line).is_err();
-    if let Some(block) = blocks.last_mut() {
-        block.slot = word_move(meter, true);
-    }
-    lacks
 }
 
-/// Puts a place before a block: whatever went to the block goes there, but for the blocks of a loop, which is given by
-/// whether each block is in it. Says whether memory was refused.
+/// Puts a place of the meter before a block, and a block where the run ends because the meter is empty: whatever went
+/// to the block goes to the place, but for the blocks of a loop, which is given by whether each block is in it.
 fn put_place(
-    alloc: Global,
-    function: &mut Function,
+    memory: &mut Memory,
+    blocks: &mut Vec<Block>,
     meter: &Meter,
     head: usize,
     within: &[bool],
-) -> bool {
-    // behind the block where the run ends
-    let place = function.blocks.len().saturating_add(1);
-    for (number, block) in function.blocks.iter_mut().enumerate() {
-        let is_in = number < within.len() && within[number];
-        match &mut block.end {
-            End::Jump(to) if !is_in & (*to == head) => *to = place,
-            End::Branch { taken, next, .. } if !is_in => {
-                *taken = if *taken == head { place } else { *taken };
-                *next = if *next == head { place } else { *next };
-            }
-            _ => {}
-        }
+) {
+    if head >= blocks.len() {
+        return;
     }
-    add_place(alloc, function, meter, head)
+    // of the block's first step, or of its end
+    let line = match blocks[head].steps.first() {
+        Some(step) => step.line,
+        None => blocks[head].line,
+    };
+    let exit = blocks.len();
+    let place = exit.saturating_add(1);
+    redirect(blocks.as_mut_slice(), head, place, within);
+    let word = number_in(register(8), EMPTY | line.number.min(0xffff));
+    push_block(memory, blocks, &word, (End::Exit, None), line);
+    let [high, low, count] = counting(meter, 1);
+    let instrs = [word_move(meter, false), high, low, count];
+    let end = End::Branch {
+        cond: Cond::Negative,
+        taken: exit,
+        next: head,
+    };
+    push_block(memory, blocks, &instrs, (end, word_move(meter, true)), line);
 }
 
-/// What the meter begins with is set where the function begins. Says whether memory was refused.
-fn put_start(alloc: Global, function: &mut Function, meter: &Meter) -> bool {
-    let [high, low] = number_in(meter.register, meter.count);
-    let instrs = [high, low, word_move(meter, true)];
-    let mut lacks = false;
-    if let Some(first) = function.blocks.first_mut() {
-        let mut steps = Vec::new(alloc);
-        lacks |= push_instrs(&mut steps, &instrs, NO_LINE).is_err();
-        lacks |= steps.extend_from_slice(first.steps.as_slice()).is_err();
-        first.steps = steps;
-    }
-    lacks
-}
-
-/// Gives a function with these loops a meter, which places before these blocks count down. There are also places before
-/// loops that go without the meter in one that has it, on the ways into them, so that what comes before pays for the
-/// way there alone, and not for their rounds. Says whether memory was refused.
-fn put_meter(
-    alloc: Global,
-    function: &mut Function,
+/// Puts places of a meter before these of a function's blocks, and before loops that go without the meter in one that
+/// has it, on the ways into them, so that what comes before pays for the way there alone, and not for their rounds.
+fn put_places(
+    memory: &mut Memory,
+    blocks: &mut Vec<Block>,
     meter: &Meter,
-    loops: &[Loop],
-    heads: &[usize],
-) -> bool {
-    let mut lacks = false;
-    for head in heads {
-        lacks |= put_place(alloc, function, meter, *head, &[]);
+    bounds: &Bounds,
+    heads: &mut Vec<usize>,
+) {
+    for head in heads.as_slice() {
+        put_place(memory, blocks, meter, *head, &[]);
     }
-    for within in loops {
-        if let Some(parent) = within.parent
-            && parent < loops.len()
-            && heads.contains(&loops[parent].head)
-            && !heads.contains(&within.head)
-        {
-            lacks |= put_place(alloc, function, meter, within.head, within.holds.as_slice());
+    let loops = bounds.loops.as_slice();
+    let mut is_behind = false;
+    for (number, within) in loops.iter().enumerate() {
+        let head = within.head;
+        // a loop stands behind those before it
+        is_behind |= bounds.at(number).is_none();
+        if !heads.contains(&head) {
+            match within.parent {
+                None if is_behind => {
+                    memory.push(heads, head);
+                    put_place(memory, blocks, meter, head, &[]);
+                }
+                Some(parent) if parent < loops.len() && heads.contains(&loops[parent].head) => {
+                    put_place(memory, blocks, meter, head, within.holds.as_slice());
+                }
+                _ => {}
+            }
         }
     }
-    lacks | put_start(alloc, function, meter)
 }
 
 /// Meters, put into one function after the other.
 #[derive(Drop)]
 pub struct Metering {
-    alloc: Global,
     /// Of each function that was looked at; none where it needs none.
     pub meters: Vec<Option<Meter>>,
     /// Whether one lacks the register, or the word, that it would need.
     pub is_refused: bool,
-    /// Whether memory was refused.
-    pub lacks: bool,
+    pub memory: Memory,
 }
 
 impl Metering {
-    /// No function was looked at.
-    pub fn new(alloc: Global) -> Metering {
-        Metering {
-            alloc,
-            meters: Vec::new(alloc),
-            is_refused: false,
-            lacks: false,
-        }
-    }
-
     /// Gives the next function a meter of so many turns: one place for each block that control goes back to but those
-    /// of loops with bounds, of which some have one all the same. None of a function that has no other loops.
+    /// of loops with bounds, of which some have one all the same. None of a function that has no other loops. What the
+    /// meter begins with is set where the function begins.
     pub fn insert(&mut self, function: &mut Function, turns: u64, bounds: &Bounds) {
-        let alloc = self.alloc;
-        let mut heads = Vec::new(alloc);
-        self.lacks |= add_heads(alloc, function, bounds, &mut heads);
+        let memory = &mut self.memory;
+        let mut heads = unbounded_heads(memory, function, bounds);
         let mut meter = None;
         if !heads.is_empty() {
             meter = meter_for(function, turns);
-            let (loops, heads) = (bounds.loops.as_slice(), heads.as_slice());
-            match &meter {
-                Some(meter) => self.lacks |= put_meter(alloc, function, meter, loops, heads),
-                None => self.is_refused = true,
+            self.is_refused = meter.is_none();
+        }
+        if let Some(meter) = &meter {
+            put_places(memory, &mut function.blocks, meter, bounds, &mut heads);
+            let [high, low] = number_in(meter.register, meter.count);
+            for instr in &[word_move(meter, true), low, high] {
+                if let Some(instr) = *instr {
+                    insert_instr(memory, &mut function.blocks, (0, 0), instr, NO_LINE);
+                }
             }
         }
-        self.lacks |= self.meters.push(meter).is_err();
+        memory.push(&mut self.meters, meter);
     }
 }

@@ -1,6 +1,5 @@
 //! Puts a meter in turns into a function: a register that has no other use, or a word of the frame, and places that
 //! count it down.
-mod heads;
 mod inserting;
 mod registers;
 

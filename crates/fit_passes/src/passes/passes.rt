@@ -1,13 +1,13 @@
 //! From compiler-made assembly to an annotated source.
 use crate::metering::Metering;
 use crate::placing::{fill, place};
-use fit_code::{Block, Fault, Function, NO_LINE, Program, Reason};
+use fit_code::{Block, Fault, Function, Memory, NO_LINE, Program, Reason};
 use fit_fuel::{bounds_of, declare, refused};
 use fit_ranges::Ranges;
 use fit_tests::{Options, Test, add_tests};
 use fit_text::source_of;
 use sbx_domain::State;
-use std::alloc::{AllocError, Global};
+use std::alloc::Global;
 
 /// A loop of main has no place of the meter where a counter bounds it by so many rounds: they are paid for where it
 /// begins.
@@ -73,8 +73,7 @@ fn insert_meters(
     metering: &mut Metering,
     state: &mut State,
 ) {
-    let mut shares = Vec::new(alloc);
-    metering.lacks |= shares.resize(program.functions.len(), plan.turns).is_err();
+    let mut shares = metering.memory.repeat(plan.turns, program.functions.len());
     let shares = shares.as_mut_slice();
     for number in 0..shares.len() {
         let most = match (plan.has_bounds, number) {
@@ -91,48 +90,33 @@ fn insert_meters(
                 metering.insert(function, turns, &bounds);
             }
             Ok(_) => {}
-            Err(_error) => metering.lacks = true,
+            Err(_error) => metering.memory.is_refused = true,
         }
     }
 }
 
-/// Want of memory for meters, or the fault of the function that was refused one, which is the last that was looked at.
-fn check_meters(program: &Program, metering: &Metering) -> Result<(), Fault> {
-    if metering.lacks {
-        return Err(Fault::from(AllocError));
-    }
-    let last = metering.meters.len().saturating_sub(1);
-    if metering.is_refused && last < program.functions.len() {
-        let function = &program.functions[last];
-        let what = "no register is left to count its turns in";
-        return Err(refused(function, function.line, what));
-    }
-    Ok(())
-}
-
 /// Places the blocks of each function.
-fn place_all(alloc: Global, program: &mut Program) -> Result<(), AllocError> {
-    let mut lacks = false;
+fn place_all(memory: &mut Memory, program: &mut Program) {
     for function in program.functions.iter_mut() {
-        lacks |= place(alloc, function);
+        place(memory, function);
     }
-    if lacks { Err(AllocError) } else { Ok(()) }
 }
 
 /// Places blocks, and adds the tests that are asked for then, until none is; the ranges are found anew. Tests know
 /// blocks by their numbers, so each placing begins with none. None goes again: ranges that are found from nothing may
 /// be wider than those that came about step by step, and such a test would come and go without an end.
 fn settle_places(
-    alloc: Global,
+    memory: &mut Memory,
     program: &mut Program,
     options: Options,
     ranges: &mut Ranges,
     state: &mut State,
 ) -> Result<(), Fault> {
     for _ in 0..PLACINGS {
-        place_all(alloc, program)?;
-        *ranges = Ranges::of(alloc, program, state)?;
-        if add_tests(alloc, options, program, ranges, state)?.is_empty() {
+        place_all(memory, program);
+        memory.told(())?;
+        *ranges = Ranges::of(memory.alloc, program, state)?;
+        if add_tests(memory.alloc, options, program, ranges, state)?.is_empty() {
             return Ok(());
         }
     }
@@ -147,7 +131,7 @@ fn settle_places(
 
 /// Puts tests and meters into a program, of which these are the ranges, and its blocks into their places, fills their
 /// slots, and writes its annotated source. What a step leaves known in its place it leaves known in a slot, so that the
-/// ranges stay.
+/// ranges stay. A function that was refused a meter is the last one that was looked at.
 fn write_source(
     alloc: Global,
     made: &mut Made,
@@ -163,10 +147,17 @@ fn write_source(
     let program = &mut made.program;
     made.tests = add_tests(alloc, options, program, ranges, state)?;
     insert_meters(alloc, program, plan, ranges, metering, state);
-    check_meters(program, metering)?;
+    metering.memory.told(())?;
+    let last = metering.meters.len().saturating_sub(1);
+    if metering.is_refused && last < program.functions.len() {
+        let function = &program.functions[last];
+        let what = "no register is left to count its turns in";
+        return Err(refused(function, function.line, what));
+    }
     options.drops = false;
-    settle_places(alloc, program, options, ranges, state)?;
-    fill(program, ranges).and(ranges.store(program))?;
+    settle_places(&mut metering.memory, program, options, ranges, state)?;
+    fill(&mut metering.memory, program, ranges);
+    metering.memory.told(()).and(ranges.store(program))?;
     let notes = declare(alloc, program, ranges, metering.meters.as_slice(), state)?;
     if let Some(first) = notes.functions.first() {
         made.budget = first.budget;
@@ -180,11 +171,16 @@ fn write_source(
     }
 }
 
-/// The same, from the program's ranges on.
-fn fit(alloc: Global, made: &mut Made, plan: Plan, state: &mut State) -> Result<(), Fault> {
-    let mut ranges = Ranges::of(alloc, &made.program, state)?;
-    let mut metering = Metering::new(alloc);
-    write_source(alloc, made, plan, &mut ranges, &mut metering, state)
+/// The same, from the program alone on.
+fn fit(alloc: Global, made: &mut Made, plan: Plan) -> Result<(), Fault> {
+    let mut state = State::new(alloc)?;
+    let mut ranges = Ranges::of(alloc, &made.program, &mut state)?;
+    let mut metering = Metering {
+        meters: Vec::new(alloc),
+        is_refused: false,
+        memory: Memory::new(alloc),
+    };
+    write_source(alloc, made, plan, &mut ranges, &mut metering, &mut state)
 }
 
 /// Makes an annotated source of a program.
@@ -195,11 +191,7 @@ pub fn make(alloc: Global, program: Program, plan: Plan) -> Result<Made, Fault> 
         text: String::new(alloc),
         budget: 0,
     };
-    let fitted = match State::new(alloc) {
-        Ok(mut state) => fit(alloc, &mut made, plan, &mut state),
-        Err(error) => Err(Fault::from(error)),
-    };
-    match fitted {
+    match fit(alloc, &mut made, plan) {
         Ok(()) => Ok(made),
         Err(fault) => Err(fault),
     }

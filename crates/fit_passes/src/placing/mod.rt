@@ -1,6 +1,5 @@
 //! Where blocks stand in a function, and what stands in delay slots.
 mod filling;
-mod kinds;
 mod placing;
 
 pub use filling::fill;

@@ -1,13 +1,14 @@
 //! The ranges of one function: what is known where its blocks begin, found by going along all ways until nothing new
 //! comes.
-use crate::flow::known::{Known, take_over, touched_in};
+use crate::flow::known::{Known, replace, take_over, touched_in};
 use fit_code::{Block, End, Function, Memory, Program, hull};
 use fit_graph::{
-    Growth, Locations, Means, Order, Shape, Thresholds, enter, go_along, join, return_from,
-    run_step, run_to_call, successors_in, thresholds_of,
+    Growth, Locations, Means, Shape, Thresholds, enter, go_along, join, return_from, run_step,
+    run_to_call, successors_in, thresholds_of,
 };
 use sbx_domain::{LOCATIONS, State};
 use sbx_range::{Cell, Range, all};
+use std::alloc::Global;
 use std::mem;
 
 /// A loop's head is widened to thresholds from the third change of its cells on, and any block at once to all words
@@ -46,27 +47,14 @@ struct Pending {
 }
 
 impl Pending {
-    /// A block is to be visited.
-    fn mark(&mut self, order: &Order, block: usize) {
-        self.mark_within(order, block, (0, usize::MAX));
-    }
-
-    /// A block is to be visited, if it stands from one place of the order on and before another one.
-    fn mark_within(&mut self, order: &Order, block: usize, (from, end): (usize, usize)) {
+    /// The block at a place is to be visited, if there is one.
+    fn mark(&mut self, place: Option<usize>) {
         let places = self.places.as_mut_slice();
-        if let Some(place) = order.place(block)
-            && from <= place
-            && place < places.len().min(end)
+        if let Some(place) = place
+            && place < places.len()
         {
             places[place] = true;
             self.first = self.first.min(place);
-        }
-    }
-
-    /// The blocks from which ways lead to a block are to be visited.
-    fn mark_sources(&mut self, shape: &Shape, block: usize) {
-        for way in at(shape.sources.as_slice(), block) {
-            self.mark(&shape.order, *way / 2);
         }
     }
 }
@@ -82,65 +70,56 @@ pub struct Flow {
     pending: Pending,
     /// Calls to which control comes.
     pub calls: Vec<Call>,
-    /// What returns leave in %o0, %o1, ..: any words where none is reached.
-    pub returned: [Range; 6],
-    has_returned: bool,
+    /// What returns leave in %o0, %o1, ..; nothing where none is reached.
+    pub returned: Option<[Range; 6]>,
 }
 
 /// What %o0 to %o5 hold.
 fn outs(state: &State) -> [Option<Range>; 6] {
-    [
-        state.range(8),
-        state.range(9),
-        state.range(10),
-        state.range(11),
-        state.range(12),
-        state.range(13),
-    ]
+    let mut outs = [None; 6];
+    for place in 0..6u16 {
+        outs[usize::from(place)] = state.range(8 + place);
+    }
+    outs
 }
 
 /// Leaves in each place the least range that holds the words of it and of what stands there in others, where an
-/// undefined one stands for a range; the first time these themselves.
-pub fn add_outs(
-    ranges: &mut [Range; 6],
-    outs: &[Option<Range>; 6],
-    undefined: Range,
-    is_first: bool,
-) {
+/// undefined one stands for a range; these themselves where nothing was found before.
+pub fn add_outs(found: &mut Option<[Range; 6]>, outs: &[Option<Range>; 6], undefined: Range) {
+    let mut ranges = [undefined; 6];
     for place in 0..6 {
         let out = outs[place].unwrap_or(undefined);
-        ranges[place] = if is_first {
-            out
-        } else {
-            hull(ranges[place], out)
+        ranges[place] = match found {
+            Some(before) => hull(before[place], out),
+            None => out,
         };
     }
+    *found = Some(ranges);
 }
 
 /// Whether a block calls a function, or returns.
 fn is_asked(code: &Block) -> bool {
+    let mut is_asked = matches!(code.end, End::Return(_));
     for step in code.steps.as_slice() {
-        if step.callee.is_some() {
-            return true;
-        }
+        is_asked |= step.callee.is_some();
     }
-    matches!(code.end, End::Return(_))
+    is_asked
 }
 
 /// The list at a place of others; an empty one where there is none.
 pub fn at<T>(lists: &[Vec<T>], place: usize) -> &[T] {
-    match lists.get(place) {
-        Some(list) => list.as_slice(),
-        None => &[],
+    if place < lists.len() {
+        lists[place].as_slice()
+    } else {
+        &[]
     }
 }
 
 impl Flow {
-    /// Nothing is known of a function's blocks, all of which are to be visited.
-    pub fn new(memory: &mut Memory, function: &Function, live: &[Locations]) -> Flow {
-        let alloc = memory.alloc;
-        let mut flow = Flow {
-            shape: Shape::of(memory, function, live),
+    /// Nothing is known, and of no function.
+    pub fn nothing(alloc: Global) -> Flow {
+        Flow {
+            shape: Shape::none(alloc),
             blocks: Vec::new(alloc),
             params: Vec::new(alloc),
             pending: Pending {
@@ -150,62 +129,36 @@ impl Flow {
                 end: 0,
             },
             calls: Vec::new(alloc),
-            returned: [all(0); 6],
-            has_returned: false,
-        };
-        flow.extend(memory, function);
-        flow.mark(0);
-        flow
-    }
-
-    /// Makes room for a function's blocks, none of which is to be visited.
-    fn extend(&mut self, memory: &mut Memory, function: &Function) {
-        self.pending.places = memory.repeat(false, self.shape.order.blocks.len());
-        for _ in self.blocks.len()..function.blocks.len() {
-            memory.push(&mut self.blocks, Known::nothing());
+            returned: None,
         }
     }
 
-    /// A block is to be visited again: with the loops around it, and what stands behind these as far as what comes
-    /// there changes.
-    pub fn mark(&mut self, block: usize) {
-        self.pending.mark(&self.shape.order, block);
-    }
-
-    /// The first block of the stretch that is to be visited.
-    fn next(&mut self) -> Option<usize> {
-        let places = self.pending.places.as_mut_slice();
-        for place in self.pending.first..self.pending.end {
-            if place < places.len() && places[place] {
-                places[place] = false;
-                self.pending.first = place;
-                return self.shape.order.blocks.get(place).copied();
-            }
-        }
-        self.pending.first = self.pending.end;
-        None
-    }
-
-    /// The blocks that call a function are to be visited again.
+    /// The blocks that call a function are to be visited again: with the loops around them, and what stands behind
+    /// these as far as what comes there changes.
     pub fn mark_calls(&mut self, callee: usize) {
         for call in self.calls.as_slice() {
             if call.callee == callee {
-                self.pending.mark(&self.shape.order, call.block);
+                self.pending.mark(self.shape.order.place(call.block));
             }
         }
     }
 
-    /// The blocks to which other ways lead than in another shape, and those from which ways lead to where other
-    /// locations are live.
-    fn mark_reshaped(&mut self, before: &Shape) {
-        let shape = &self.shape;
-        let (live, live_before) = (shape.live.as_slice(), before.live.as_slice());
+    /// The blocks of the function of a number are to be visited that are among `changed`, those that are new or to
+    /// which other ways lead than in another shape, and those from which ways lead to where other locations are live.
+    fn mark_reshaped(&mut self, before: &Shape, number: usize, changed: &[(usize, usize)]) {
+        let order = &self.shape.order;
+        let (live, live_before) = (self.shape.live.as_slice(), before.live.as_slice());
         for block in 0..live.len() {
-            if at(shape.sources.as_slice(), block) != at(before.sources.as_slice(), block) {
-                self.pending.mark(&shape.order, block);
+            let is_new = block >= live_before.len();
+            let sources = at(self.shape.sources.as_slice(), block);
+            let is_led_to = sources != at(before.sources.as_slice(), block);
+            if is_new | is_led_to | changed.contains(&(number, block)) {
+                self.pending.mark(order.place(block));
             }
-            if block >= live_before.len() || live[block] != live_before[block] {
-                self.pending.mark_sources(shape, block);
+            if is_new || live[block] != live_before[block] {
+                for way in sources {
+                    self.pending.mark(order.place(*way / 2));
+                }
             }
         }
     }
@@ -221,22 +174,21 @@ impl Flow {
     ) {
         let shape = Shape::of(memory, function, live);
         let before = mem::replace(&mut self.shape, shape);
-        self.extend(memory, function);
-        self.mark_reshaped(&before);
-        for (other, block) in changed {
-            if *other == number {
-                self.mark(*block);
-            }
+        self.pending.places = memory.repeat(false, self.shape.order.blocks.len());
+        for _ in self.blocks.len()..function.blocks.len() {
+            memory.push(&mut self.blocks, Known::nothing());
         }
+        self.mark_reshaped(&before, number, changed);
     }
 
     /// What is known where a block begins.
     pub fn cells(&self, block: usize) -> Option<&[Cell]> {
-        let known = self.blocks.get(block)?;
-        match &known.cells {
-            Some(cells) => Some(cells.as_slice()),
-            None => None,
+        if block < self.blocks.len()
+            && let Some(cells) = &self.blocks[block].cells
+        {
+            return Some(cells.as_slice());
         }
+        None
     }
 
     /// Begins a block; says whether control can come there.
@@ -263,35 +215,40 @@ impl Flow {
         (block, way): (usize, usize),
         state: &mut State,
     ) -> bool {
-        let Some(code) = function.blocks.get(block) else {
-            return false;
-        };
-        if !self.begin(function, block, state) {
+        if block >= function.blocks.len() || !self.begin(function, block, state) {
             return false;
         }
+        let code = &function.blocks[block];
         for step in code.steps.as_slice() {
             run_step(function.frame, results, step, state);
         }
         go_along(function.frame, code, way, state)
     }
 
-    /// What is known where a way of a block ends, of what is live there; nothing where it can't be gone.
+    /// What is known where a way of a block ends, of what is live there; nothing where it can't be gone. Where the
+    /// block only passes on what it doesn't touch, that is what was known there before, and that as it is where the
+    /// block begins.
     fn found_along(
         &self,
         setting: &Setting,
         memory: &mut Memory,
-        (block, way, to): (usize, usize, usize),
+        (block, passes): (usize, bool),
+        (way, to): (usize, usize),
         state: &mut State,
     ) -> Option<Vec<Cell>> {
+        if passes & (block < self.blocks.len()) {
+            return self.blocks.as_slice()[block].passed_on(memory, way);
+        }
         if !self.run(setting.function, setting.results, (block, way), state) {
             return None;
         }
         let mut cells = Vec::new(memory.alloc);
-        if let Some(live) = self.shape.live.get(to) {
+        let live = self.shape.live.as_slice();
+        if to < live.len() {
             let mut from = 1;
             // Each turn goes on behind the last location.
             for _ in 0..LOCATIONS {
-                let Some(location) = live.next(from) else {
+                let Some(location) = live[to].next(from) else {
                     break;
                 };
                 if let Some(range) = state.range(location) {
@@ -303,31 +260,6 @@ impl Flow {
         Some(cells)
     }
 
-    /// Goes on from a block whose cells were replaced: along each of its ways, or only with what it doesn't touch.
-    /// Where what is known at a way's end changes, the block there is to be visited, if it stands in the stretch.
-    fn go_on(
-        &mut self,
-        setting: &Setting,
-        memory: &mut Memory,
-        (block, passes): (usize, bool),
-        state: &mut State,
-    ) {
-        for way in 0..2 {
-            if let Some(to) = successors_in(setting.function, block)[way] {
-                let found = if passes {
-                    None
-                } else {
-                    self.found_along(setting, memory, (block, way, to), state)
-                };
-                let blocks = self.blocks.as_mut_slice();
-                if block < blocks.len() && blocks[block].put_end(way, passes, found) {
-                    let end = self.pending.end;
-                    self.pending.mark_within(&self.shape.order, to, (0, end));
-                }
-            }
-        }
-    }
-
     /// What the ways have in common that lead to a block from blocks before a place of the order; nothing where none of
     /// them can be gone.
     fn common(&self, memory: &mut Memory, block: usize, before: usize) -> Option<Vec<Cell>> {
@@ -336,7 +268,7 @@ impl Flow {
         for way in at(self.shape.sources.as_slice(), block) {
             let from = *way / 2;
             let is_before = matches!(self.shape.order.place(from), Some(it) if it < before);
-            if is_before && from < blocks.len() {
+            if is_before & (from < blocks.len()) {
                 let known = &blocks[from];
                 if let Some(cells) = &known.ways[*way % 2] {
                     match &mut found {
@@ -359,28 +291,28 @@ impl Flow {
         cells: &mut Vec<Cell>,
     ) {
         let blocks = self.blocks.as_slice();
-        if block >= blocks.len() {
-            return;
+        if block < blocks.len()
+            && let Some(old) = &blocks[block].cells
+        {
+            let changes = blocks[block].changes;
+            let mut raised = memory.copy(old.as_slice());
+            let (growth, place) = match self.shape.place_of_head(block) {
+                _ if changes >= PATIENCE => (Growth::ToAll, 0),
+                Some(place) if changes > 2 => (Growth::ToThresholds(thresholds), place),
+                _ => (Growth::Least, 0),
+            };
+            if let Some(entering) = self.common(memory, block, place) {
+                join(Growth::Least, &mut raised, entering.as_slice());
+            }
+            join(growth, &mut raised, cells.as_slice());
+            *cells = raised;
         }
-        let known = &blocks[block];
-        let Some(old) = &known.cells else {
-            return;
-        };
-        let mut raised = memory.copy(old.as_slice());
-        let (growth, place) = match self.shape.place_of_head(block) {
-            _ if known.changes >= PATIENCE => (Growth::ToAll, 0),
-            Some(place) if known.changes > 2 => (Growth::ToThresholds(thresholds), place),
-            _ => (Growth::Least, 0),
-        };
-        if let Some(entering) = self.common(memory, block, place) {
-            join(Growth::Least, &mut raised, entering.as_slice());
-        }
-        join(growth, &mut raised, cells.as_slice());
-        mem::swap(cells, &mut raised);
     }
 
     /// Visits a block: with thresholds its cells grow, without any they get narrower. Those that are said have the
-    /// ranges that are said.
+    /// ranges that are said. Where its cells are others then, it goes on along each of its ways, or only with what it
+    /// doesn't touch; the blocks where something else is known at a way's end are to be visited, if they stand in the
+    /// stretch.
     fn visit(
         &mut self,
         setting: &Setting,
@@ -396,17 +328,27 @@ impl Flow {
             if let Some(thresholds) = thresholds {
                 self.raise(memory, thresholds, block, cells);
             }
-            take_over(cells, at(setting.said, block), &Locations::none());
+            let said = at(setting.said, block);
+            take_over(cells.as_mut_slice(), said, &Locations::none());
         }
         let known = &mut self.blocks.as_mut_slice()[block];
-        let passes = block > 0 && known.passes_on(&cells);
+        let passes = (block > 0) & known.passes_on(&cells);
         let is_run = known.take(cells, block == 0, thresholds.is_some());
-        if is_run {
-            self.go_on(setting, memory, (block, passes), state);
+        for way in 0..2 {
+            if is_run && let Some(to) = successors_in(setting.function, block)[way] {
+                let found = self.found_along(setting, memory, (block, passes), (way, to), state);
+                let (blocks, place) = (self.blocks.as_mut_slice(), self.shape.order.place(to));
+                if block < blocks.len() {
+                    let known = &mut blocks[block];
+                    if replace(&mut known.ways[way], found) & (place < Some(self.pending.end)) {
+                        self.pending.mark(place);
+                    }
+                }
+            }
         }
     }
 
-    /// Visits what is to be visited, until nothing is.
+    /// Visits what is to be visited of the stretch, the first one first, until nothing is.
     fn visit_all(
         &mut self,
         setting: &Setting,
@@ -415,69 +357,56 @@ impl Flow {
         state: &mut State,
     ) {
         let most = self.pending.end.saturating_add(1).saturating_mul(2_000);
-        for _ in 0..most {
-            if means.are_used_up() {
+        let mut visits: usize = 0;
+        // Each turn visits a block or goes on to the next place.
+        for _ in 0..usize::MAX {
+            let (place, order) = (self.pending.first, self.shape.order.blocks.as_slice());
+            let places = self.pending.places.as_mut_slice();
+            let is_over = (place >= self.pending.end) | means.are_used_up();
+            if is_over || place >= places.len() || place >= order.len() {
                 return;
             }
-            let Some(block) = self.next() else {
-                return;
-            };
-            self.visit(setting, &mut means.memory, (thresholds, block), state);
-        }
-        let what = "visits of blocks whose ranges are looked for";
-        means.spend(setting.function.line, what, most as u64);
-    }
-
-    /// Each block of the stretch is to be visited.
-    fn mark_stretch(&mut self) {
-        let places = self.pending.places.as_mut_slice();
-        for place in self.pending.start..self.pending.end {
-            if place < places.len() {
-                places[place] = true;
+            let block = order[place];
+            if places[place] {
+                places[place] = false;
+                self.visit(setting, &mut means.memory, (thresholds, block), state);
+                visits = visits.saturating_add(1);
+                if visits == most {
+                    let what = "visits of blocks whose ranges are looked for";
+                    means.spend(setting.function.line, what, most as u64);
+                }
+            } else {
+                self.pending.first = place.saturating_add(1);
             }
-        }
-        self.pending.first = self.pending.start;
-    }
-
-    /// Looks for the calls of a block, from its beginning on, and adds what a return leaves, where it ends in one.
-    fn find_calls(
-        &mut self,
-        setting: &Setting,
-        memory: &mut Memory,
-        (block, code): (usize, &Block),
-        state: &mut State,
-    ) {
-        for step in code.steps.as_slice() {
-            run_to_call(setting.function.frame, step, state);
-            if let Some(callee) = step.callee {
-                let call = Call {
-                    block,
-                    callee,
-                    given: outs(state),
-                };
-                memory.push(&mut self.calls, call);
-                return_from(setting.results, callee, state);
-            }
-        }
-        if let End::Return(fields) = code.end {
-            if setting.function.framed {
-                state.restore(&fields);
-            }
-            let is_first = !self.has_returned;
-            add_outs(&mut self.returned, &outs(state), all(0), is_first);
-            self.has_returned = true;
         }
     }
 
-    /// Looks for what callees are given, and what returns leave.
+    /// Looks for what callees are given, and what returns leave, in each block that calls a function or returns.
     fn summarize(&mut self, setting: &Setting, memory: &mut Memory, state: &mut State) {
+        let (function, results) = (setting.function, setting.results);
         self.calls.clear();
-        self.returned = [all(0); 6];
-        self.has_returned = false;
-        let blocks = setting.function.blocks.as_slice();
-        for (block, code) in blocks.iter().enumerate() {
-            if is_asked(code) && self.begin(setting.function, block, state) {
-                self.find_calls(setting, memory, (block, code), state);
+        self.returned = None;
+        for (block, code) in function.blocks.as_slice().iter().enumerate() {
+            if !is_asked(code) || !self.begin(function, block, state) {
+                continue;
+            }
+            for step in code.steps.as_slice() {
+                run_to_call(function.frame, step, state);
+                if let Some(callee) = step.callee {
+                    let call = Call {
+                        block,
+                        callee,
+                        given: outs(state),
+                    };
+                    memory.push(&mut self.calls, call);
+                    return_from(results, callee, state);
+                }
+            }
+            if let End::Return(fields) = code.end {
+                if function.framed {
+                    state.restore(&fields);
+                }
+                add_outs(&mut self.returned, &outs(state), all(0));
             }
         }
     }
@@ -492,7 +421,7 @@ impl Flow {
         for place in self.pending.start..self.pending.end {
             if place < order.len() {
                 let block = order[place];
-                if block < codes.len() && block < blocks.len() {
+                if (block < codes.len()) & (block < blocks.len()) {
                     blocks[block].forget(touched_in(function, &codes[block]));
                 }
             }
@@ -510,9 +439,9 @@ impl Flow {
                 if block < blocks.len()
                     && blocks[block].is_changed(way % 2)
                     && let Some(to) = successors_in(function, block)[way % 2]
+                    && order.place(to) >= Some(self.pending.end)
                 {
-                    let end = self.pending.end;
-                    self.pending.mark_within(order, to, (end, usize::MAX));
+                    self.pending.mark(order.place(to));
                 }
             }
         }
@@ -529,15 +458,21 @@ impl Flow {
         state: &mut State,
     ) {
         self.forget_stretch(setting.function);
+        let (start, end) = (self.pending.start, self.pending.end);
         for thresholds in &[Some(thresholds), None, Some(thresholds)] {
-            self.mark_stretch();
+            let places = self.pending.places.as_mut_slice();
+            if let Some(stretch) = places.get_mut(start..end) {
+                stretch.fill(true);
+            }
+            self.pending.first = start;
             self.visit_all(setting, means, *thresholds, state);
         }
         self.mark_behind(setting.function);
     }
 
     /// Finds the ranges, by what is to be visited, of a function that is called with these params: it is looked at from
-    /// its first block on, where these are new.
+    /// its first block on, where these are new. A stretch of the order begins where no way leads back behind it, so
+    /// that what stands before it is looked at once.
     pub fn settle(
         &mut self,
         params: Vec<Range>,
@@ -548,7 +483,7 @@ impl Flow {
         let are_new = self.params != params;
         self.params = params;
         if are_new {
-            self.mark(0);
+            self.pending.mark(self.shape.order.place(0));
         }
         if !self.pending.places.as_slice().contains(&true) {
             return;
@@ -559,14 +494,21 @@ impl Flow {
             setting.function,
             self.params.as_slice(),
         );
-        let mut end = 0;
-        for start in 0..self.pending.places.len() {
-            if start == end {
-                end = self.shape.end_of_stretch(start);
-                if matches!(self.pending.places.get(start..end), Some(it) if it.contains(&true)) {
-                    self.pending.start = start;
-                    self.pending.first = start;
-                    self.pending.end = end;
+        let mut is_asked = false;
+        self.pending.end = 0;
+        for place in 0..self.pending.places.len() {
+            let order = self.shape.order.blocks.as_slice();
+            let places = self.pending.places.as_slice();
+            if (place < places.len()) & (place < order.len()) {
+                let (is_pending, block) = (places[place], order[place]);
+                if place == self.pending.end {
+                    self.pending.start = place;
+                    is_asked = false;
+                }
+                is_asked |= is_pending;
+                let behind = self.shape.end_of(block).max(place.saturating_add(1));
+                self.pending.end = self.pending.end.max(behind);
+                if is_asked & (self.pending.end == place.saturating_add(1)) {
                     self.settle_stretch(setting, means, &thresholds, state);
                 }
             }

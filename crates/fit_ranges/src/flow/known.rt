@@ -1,6 +1,6 @@
 //! What is known of a function's blocks so far.
-use fit_code::{Block, Function};
-use fit_graph::{Effects, Locations, are_same, effects_in, effects_of, range_in};
+use fit_code::{Block, Function, Memory};
+use fit_graph::{Effects, Locations, effects_in, effects_of, range_in};
 use sbx_range::Cell;
 use std::mem;
 
@@ -25,15 +25,22 @@ pub struct Known {
 
 /// Whether both are the same.
 fn are_equal(a: &Option<Vec<Cell>>, b: &Option<Vec<Cell>>) -> bool {
-    match (a, b) {
-        (Some(a), Some(b)) => are_same(a.as_slice(), b.as_slice()),
-        (None, None) => true,
-        _ => false,
+    let (Some(a), Some(b)) = (a, b) else {
+        return a.is_none() & b.is_none();
+    };
+    let (a, b) = (a.as_slice(), b.as_slice());
+    let mut are_equal = a.len() == b.len();
+    for place in 0..a.len() {
+        if place < b.len() {
+            let (one, other) = (&a[place], &b[place]);
+            are_equal &= (one.location == other.location) & (one.range == other.range);
+        }
     }
+    are_equal
 }
 
 /// Puts cells in the place of others, if they aren't the same. Says whether they aren't.
-fn replace(slot: &mut Option<Vec<Cell>>, new: Option<Vec<Cell>>) -> bool {
+pub fn replace(slot: &mut Option<Vec<Cell>>, new: Option<Vec<Cell>>) -> bool {
     let is_new = !are_equal(slot, &new);
     if is_new {
         *slot = new;
@@ -41,10 +48,10 @@ fn replace(slot: &mut Option<Vec<Cell>>, new: Option<Vec<Cell>>) -> bool {
     is_new
 }
 
-/// Adds what is read and written.
+/// Adds what is read and written: one word of the frame at most, which is both at times.
 fn add_effects(touched: &mut Locations, effects: &Effects) {
-    touched.insert(effects.reads | effects.writes, effects.word_read);
-    touched.insert(0, effects.word_written);
+    let word = effects.word_read.or(effects.word_written);
+    touched.insert(effects.reads | effects.writes, word);
 }
 
 /// The locations that a block reads or writes. What its branch is taken by is among them, since a compare reads it.
@@ -62,20 +69,15 @@ pub fn touched_in(function: &Function, block: &Block) -> Locations {
     touched
 }
 
-/// Gives cells the ranges that their locations have among others, but for some locations. Says whether some had other
-/// ones.
-pub fn take_over(cells: &mut Vec<Cell>, others: &[Cell], but: &Locations) -> bool {
-    let mut is_new = false;
-    for cell in cells.as_mut_slice() {
+/// Gives cells the ranges that their locations have among others, but for some locations.
+pub fn take_over(cells: &mut [Cell], others: &[Cell], but: &Locations) {
+    for cell in cells {
         if !but.has(cell.location)
             && let Some(range) = range_in(others, cell.location)
-            && cell.range != range
         {
             cell.range = range;
-            is_new = true;
         }
     }
-    is_new
 }
 
 impl Known {
@@ -109,15 +111,16 @@ impl Known {
     /// Takes over cells that grew or got narrower; says whether the block has to be run for them. A function's first
     /// block, which has none, is run once where it grows, and not where it gets narrower.
     pub fn take(&mut self, cells: Option<Vec<Cell>>, is_entry: bool, grow: bool) -> bool {
+        let is_taken = if grow { cells.is_some() } else { !is_entry };
+        let is_new = is_taken && replace(&mut self.cells, cells);
         if grow {
-            let is_new = cells.is_some() && replace(&mut self.cells, cells);
             let is_run = is_new | (is_entry & (self.changes == 0));
             self.changes = self.changes.saturating_add(u32::from(is_run));
-            return is_run;
+            is_run
+        } else {
+            self.narrowings = self.narrowings.saturating_add(u32::from(is_new));
+            is_new & (self.narrowings <= NARROWINGS)
         }
-        let is_new = !is_entry && replace(&mut self.cells, cells);
-        self.narrowings = self.narrowings.saturating_add(u32::from(is_new));
-        is_new & (self.narrowings <= NARROWINGS)
     }
 
     /// Whether the block needn't be run for its new cells: the same locations are known, and those that it reads or
@@ -128,29 +131,25 @@ impl Known {
             return false;
         };
         let (old, new) = (old.as_slice(), new.as_slice());
-        for (place, before) in old.iter().enumerate() {
-            if place >= new.len() {
-                return false;
-            }
-            let after = new[place];
-            let is_same = (before.range == after.range) | !self.touched.has(after.location);
-            if (before.location != after.location) | !is_same {
-                return false;
+        let mut passes = (old.len() == new.len()) & (self.narrowings <= NARROWINGS);
+        for place in 0..old.len() {
+            if place < new.len() {
+                let (before, after) = (&old[place], &new[place]);
+                let is_same = (before.range == after.range) | !self.touched.has(after.location);
+                passes &= (before.location == after.location) & is_same;
             }
         }
-        (old.len() == new.len()) & (self.narrowings <= NARROWINGS)
+        passes
     }
 
-    /// Puts down what is known where a way ends, if that is new: these cells, or where the block only passes on what it
-    /// doesn't touch, that as it is where the block begins, if the way can be gone. Says whether it is new.
-    pub fn put_end(&mut self, way: usize, passes: bool, cells: Option<Vec<Cell>>) -> bool {
-        let end = &mut self.ways[way % 2];
-        if !passes {
-            return replace(end, cells);
-        }
-        match (&self.cells, end) {
-            (Some(cells), Some(end)) => take_over(end, cells.as_slice(), &self.touched),
-            _ => false,
-        }
+    /// What is known where a way ends, if it can be gone, with the ranges that what the block doesn't touch has where
+    /// it begins.
+    pub fn passed_on(&self, memory: &mut Memory, way: usize) -> Option<Vec<Cell>> {
+        let (Some(cells), Some(end)) = (&self.cells, &self.ways[way % 2]) else {
+            return None;
+        };
+        let mut passed = memory.copy(end.as_slice());
+        take_over(passed.as_mut_slice(), cells.as_slice(), &self.touched);
+        Some(passed)
     }
 }

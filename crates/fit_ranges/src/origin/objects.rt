@@ -26,41 +26,29 @@ pub fn end_of(object: &Object) -> i64 {
     i64::from(object.start).saturating_add(object.bytes.len().min(0x7fff_ffff) as i64)
 }
 
-/// The object that an address belongs to: in which it lies, or a little before which.
-pub fn object_at(objects: &[Object], address: i64) -> Option<usize> {
-    let above = objects.partition_point(|object| i64::from(object.start) <= address);
-    let below = above.wrapping_sub(1);
-    if let Some(object) = objects.get(below)
-        && address < end_of(object)
-    {
-        return Some(below);
-    }
-    match objects.get(above) {
-        Some(object) if i64::from(object.start).saturating_sub(address) <= BEFORE => Some(above),
-        _ => None,
-    }
-}
-
-/// Whether an address lies in the data.
-fn is_in_data(regions: &[Region], address: i64) -> bool {
-    for region in regions {
+/// The object that an address of the data belongs to: in which it lies, or a little before which.
+fn object_at(program: &Program, address: i64) -> Option<usize> {
+    let mut is_in_data = false;
+    for region in program.regions.as_slice() {
         let start = i64::from(region.start);
-        if start <= address && address < start.saturating_add(i64::from(region.length)) {
-            return true;
+        let end = start.saturating_add(i64::from(region.length));
+        is_in_data |= (start <= address) & (address < end);
+    }
+    let mut found = None;
+    for (number, object) in program.objects.as_slice().iter().enumerate() {
+        let is_behind = address.saturating_add(BEFORE) < i64::from(object.start);
+        if is_in_data & found.is_none() & !is_behind & (address < end_of(object)) {
+            found = Some(number);
         }
     }
-    false
+    found
 }
 
 /// The object that an origin's constant names.
 pub fn named_object(program: &Program, origin: &Origin) -> Option<usize> {
-    if origin.object.is_some() {
-        return origin.object;
-    }
-    if is_in_data(program.regions.as_slice(), origin.constant) {
-        object_at(program.objects.as_slice(), origin.constant)
-    } else {
-        None
+    match origin.object {
+        Some(object) => Some(object),
+        None => object_at(program, origin.constant),
     }
 }
 
@@ -74,19 +62,10 @@ fn address_with(origin: &Origin, word: i32) -> i64 {
 /// The object that the least address of an origin lies in, where no other one begins up to the greatest one: else the
 /// register may as well point into that.
 fn least_object(program: &Program, origin: &Origin) -> Option<usize> {
-    let Some(range) = origin.range else {
-        return None;
-    };
-    let least = address_with(origin, range.lo);
-    let greatest = address_with(origin, range.hi);
-    if !is_in_data(program.regions.as_slice(), least) {
-        return None;
-    }
-    let Some(number) = object_at(program.objects.as_slice(), least) else {
-        return None;
-    };
+    let range = origin.range?;
+    let number = object_at(program, address_with(origin, range.lo))?;
     match program.objects.get(number.saturating_add(1)) {
-        Some(next) if i64::from(next.start) <= greatest => None,
+        Some(next) if i64::from(next.start) <= address_with(origin, range.hi) => None,
         _ => Some(number),
     }
 }
@@ -105,11 +84,6 @@ fn window(region: Option<&Region>, constant: i64) -> (i64, i64) {
     }
 }
 
-/// A quotient, rounded down, of a divisor above 0.
-fn floor(number: i64, divisor: i64) -> i64 {
-    number.checked_div_euclid(divisor).unwrap_or(0)
-}
-
 /// The bounds of an origin's word with which an access of so many bytes lies between two addresses.
 fn bounds_between(
     origin: &Origin,
@@ -117,11 +91,13 @@ fn bounds_between(
     (from, to): (i64, i64),
     object: Option<usize>,
 ) -> Bounds {
-    let least = from.saturating_sub(origin.constant);
+    let least = from.saturating_sub(origin.constant).saturating_neg();
     let greatest = to.saturating_sub(size).saturating_sub(origin.constant);
+    // `times` is above 0, so that each quotient is rounded down
+    let below = least.checked_div_euclid(origin.times).unwrap_or(0);
     Bounds {
-        lo: floor(least.saturating_neg(), origin.times).saturating_neg(),
-        hi: floor(greatest, origin.times),
+        lo: below.saturating_neg(),
+        hi: greatest.checked_div_euclid(origin.times).unwrap_or(0),
         object,
     }
 }

@@ -3,7 +3,7 @@ use crate::origin::trace::{Operands, Trace, operands_of};
 use fit_code::{Block, Step};
 use fit_graph::effects_in;
 use sbx_range::{Range, is_single};
-use v8_formats::{Operand, Reg};
+use v8_formats::Operand;
 use v8_meaning::{Op, Operation, operation_of};
 
 /// An address as a constant and a multiple of one register's word, where that stands at a place of the block.
@@ -56,40 +56,28 @@ impl Sum {
         }
     }
 
-    fn add_constant(&mut self, number: i64) {
-        let sum = self.constant.saturating_add(number);
-        self.is_lost |= sum.saturating_abs() > GREAT;
-        self.constant = sum;
-    }
-
-    /// Adds a register's word so many times.
-    fn add_register(&mut self, register: Reg, times: i64, range: Option<Range>) {
-        let number = register.number();
-        if number == 0 {
-            return;
-        }
+    /// Adds a word of which this is known so many times: of a number, or of a register of which a number is known, that
+    /// number.
+    fn add(&mut self, operand: Operand, times: i64, range: Option<Range>) {
+        let number = match operand {
+            Operand::Register(register) => register.number(),
+            Operand::Immediate(_) => 0,
+        };
         if let Some(range) = range
             && is_single(range)
         {
-            self.add_constant(times.saturating_mul(i64::from(range.lo)));
+            let more = times.saturating_mul(i64::from(range.lo));
+            self.constant = self.constant.saturating_add(more);
+            self.is_lost |= self.constant.saturating_abs() > GREAT;
             self.folded |= 1 << number;
-            return;
-        }
-        let before = self.times[usize::from(number)];
-        let sum = before.saturating_add(times);
-        let count = self.count.saturating_add(u32::from(before == 0));
-        self.count = count.saturating_sub(u32::from(sum == 0));
-        self.is_lost |= (self.count > 3) | (sum.saturating_abs() > GREAT);
-        self.times[usize::from(number)] = sum;
-        self.ranges[usize::from(number)] = range;
-    }
-
-    fn add_operand(&mut self, operand: Operand, times: i64, range: Option<Range>) {
-        match operand {
-            Operand::Register(register) => self.add_register(register, times, range),
-            Operand::Immediate(word) => {
-                self.add_constant(times.saturating_mul(i64::from(word.cast_signed())));
-            }
+        } else if number > 0 {
+            let before = self.times[usize::from(number)];
+            let sum = before.saturating_add(times);
+            let count = self.count.saturating_add(u32::from(before == 0));
+            self.count = count.saturating_sub(u32::from(sum == 0));
+            self.is_lost |= (self.count > 3) | (sum.saturating_abs() > GREAT);
+            self.times[usize::from(number)] = sum;
+            self.ranges[usize::from(number)] = range;
         }
     }
 
@@ -97,7 +85,7 @@ impl Sum {
     fn take(&mut self, registers: u32) -> Option<i64> {
         let mut taken = None;
         for number in 1..32 {
-            if registers >> number & 1 == 1 && self.times[number] != 0 {
+            if (registers >> number & 1 == 1) & (self.times[number] != 0) {
                 taken = Some(self.times[number]);
                 self.times[number] = 0;
                 self.count = self.count.saturating_sub(1);
@@ -108,7 +96,7 @@ impl Sum {
 
     /// As an origin whose word stands before the step of a place, if it is that of one register alone.
     fn origin(&self, last: usize) -> Option<Origin> {
-        if self.is_lost || self.count != 1 {
+        if self.is_lost | (self.count != 1) {
             return None;
         }
         for register in 1..32u8 {
@@ -145,9 +133,10 @@ impl Sum {
             },
             _ => return false,
         };
-        self.add_register(fields.rs1, times.saturating_mul(first), operands[0]);
+        let rs1 = Operand::Register(fields.rs1);
+        self.add(rs1, times.saturating_mul(first), operands[0]);
         if second != 0 {
-            self.add_operand(fields.operand2, times.saturating_mul(second), operands[1]);
+            self.add(fields.operand2, times.saturating_mul(second), operands[1]);
         }
         self.object = self.object.or(step.object);
         !self.is_lost
@@ -173,8 +162,8 @@ pub fn origin_of(frame: u32, block: &Block, trace: &Trace, place: usize) -> Opti
     };
     let operands = trace.at(place);
     let mut sum = Sum::nothing(steps[place].object);
-    sum.add_register(first, 1, operands[0]);
-    sum.add_operand(second, 1, operands[1]);
+    sum.add(Operand::Register(first), 1, operands[0]);
+    sum.add(second, 1, operands[1]);
     let mut found = sum.origin(place);
     for earlier in (0..place).rev() {
         let step = &steps[earlier];

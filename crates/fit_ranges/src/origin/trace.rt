@@ -33,19 +33,13 @@ pub fn operands_of(frame: u32, instr: &Instr) -> Option<(Reg, Operand)> {
     }
 }
 
-/// The range of a register's word; nothing where it is undefined.
-pub fn register_range(register: Reg, state: &State) -> Option<Range> {
-    if register == Reg::G0 {
-        Some(known(0))
-    } else {
-        state.range(u16::from(register.number()))
-    }
-}
-
 /// The range of an operand; nothing where it is undefined.
-pub fn operand_range(operand: Operand, state: &State) -> Option<Range> {
+fn range_of(operand: Operand, state: &State) -> Option<Range> {
     match operand {
-        Operand::Register(register) => register_range(register, state),
+        Operand::Register(register) => match register.number() {
+            0 => Some(known(0)),
+            number => state.range(u16::from(number)),
+        },
         Operand::Immediate(word) => Some(known(word)),
     }
 }
@@ -62,7 +56,10 @@ pub fn trace_of(
     let mut operands = Vec::new(alloc);
     for step in block.steps.as_slice() {
         let known = match operands_of(frame, &step.instr) {
-            Some((first, second)) => [register_range(first, state), operand_range(second, state)],
+            Some((first, second)) => [
+                range_of(Operand::Register(first), state),
+                range_of(second, state),
+            ],
             None => [None, None],
         };
         memory.push(&mut operands, known);
@@ -74,6 +71,10 @@ pub fn trace_of(
 impl Trace {
     /// The operands of a step, by its place in the block.
     pub fn at(&self, place: usize) -> Operands {
-        self.operands.get(place).copied().unwrap_or([None, None])
+        if place < self.operands.len() {
+            self.operands[place]
+        } else {
+            [None, None]
+        }
     }
 }

@@ -29,9 +29,15 @@ pub struct Ranges {
     said: Vec<Vec<Vec<Cell>>>,
 }
 
-/// The ranges that are said, and behind them the others, so many at least.
-fn with_said(memory: &mut Memory, said: &[Range], found: &[Range; 6], count: u8) -> Vec<Range> {
+/// The ranges that are said, and behind them those that were found, so many at least: any words where none were.
+fn with_said(
+    memory: &mut Memory,
+    said: &[Range],
+    found: &Option<[Range; 6]>,
+    count: u8,
+) -> Vec<Range> {
     let mut ranges = memory.copy(said);
+    let found = found.unwrap_or([all(0); 6]);
     if let Some(others) = found.get(said.len()..usize::from(count)) {
         memory.is_refused |= ranges.extend_from_slice(others).is_err();
     }
@@ -40,13 +46,13 @@ fn with_said(memory: &mut Memory, said: &[Range], found: &[Range; 6], count: u8)
 
 /// Whether each range lies within the one at its place.
 fn lie_within(found: &[Range], wanted: &[Range]) -> bool {
-    for (place, range) in found.iter().enumerate() {
-        match wanted.get(place) {
-            Some(other) if is_within(*range, *other) => {}
-            _ => return false,
+    let mut lie_within = found.len() == wanted.len();
+    for place in 0..found.len() {
+        if place < wanted.len() {
+            lie_within &= is_within(found[place], wanted[place]);
         }
     }
-    found.len() == wanted.len()
+    lie_within
 }
 
 /// The range of 0 alone.
@@ -55,16 +61,6 @@ const ZERO: Range = Range {
     hi: 0,
     alignment: 3,
 };
-
-/// Whether a block of a function is among some.
-fn has_block(blocks: &[(usize, usize)], function: usize) -> bool {
-    for (other, _) in blocks {
-        if *other == function {
-            return true;
-        }
-    }
-    false
-}
 
 impl Ranges {
     /// Finds the ranges of a program.
@@ -80,60 +76,35 @@ impl Ranges {
         said: Vec<Vec<Vec<Cell>>>,
         state: &mut State,
     ) -> Result<Ranges, Fault> {
-        let mut means = Means {
-            memory: Memory::new(alloc),
-            spent: None,
-        };
         let mut ranges = Ranges {
-            liveness: Liveness::of(&mut means, program),
-            means,
+            means: Means {
+                memory: Memory::new(alloc),
+                spent: None,
+            },
+            liveness: Liveness::none(alloc),
             flows: Vec::new(alloc),
             results: Vec::new(alloc),
             said,
         };
-        ranges.begin(program);
-        ranges.settle(program, state)?;
+        ranges.renew(program, &[], state)?;
         Ok(ranges)
     }
 
-    /// Nothing is known of a program's functions.
-    fn begin(&mut self, program: &Program) {
-        let memory = &mut self.means.memory;
-        self.flows.clear();
-        self.results.clear();
-        for (number, function) in program.functions.as_slice().iter().enumerate() {
-            let flow = Flow::new(memory, function, self.liveness.of_function(number));
-            memory.push(&mut self.flows, flow);
-            let count = self.liveness.asked.of(number).results;
-            let results = memory.repeat(all(0), usize::from(count));
-            memory.push(&mut self.results, results);
-        }
-    }
-
-    /// What all calls give a function, where an undefined word is 0; any words where none is reached.
-    fn given(&self, callee: usize) -> [Range; 6] {
-        let mut ranges = [all(0); 6];
-        let mut is_first = true;
-        for flow in self.flows.as_slice() {
-            for call in flow.calls.as_slice() {
-                if call.callee == callee {
-                    add_outs(&mut ranges, &call.given, ZERO, is_first);
-                    is_first = false;
-                }
-            }
-        }
-        ranges
-    }
-
-    /// Finds a function's ranges by what all calls give it.
+    /// Finds a function's ranges by what all calls give it, where an undefined word is 0.
     fn settle_function(
         &mut self,
         program: &Program,
         (number, function): (usize, &Function),
         state: &mut State,
     ) {
-        let given = self.given(number);
-        let count = self.liveness.asked.of(number).params;
+        let mut given = None;
+        for flow in self.flows.as_slice() {
+            for call in flow.calls.as_slice() {
+                if call.callee == number {
+                    add_outs(&mut given, &call.given, ZERO);
+                }
+            }
+        }
         let means = &mut self.means;
         let setting = Setting {
             program,
@@ -143,6 +114,7 @@ impl Ranges {
         };
         let flows = self.flows.as_mut_slice();
         if number < flows.len() {
+            let count = self.liveness.asked.of(number).params;
             let said = function.params.as_slice();
             let params = with_said(&mut means.memory, said, &given, count);
             flows[number].settle(params, &setting, means, state);
@@ -154,60 +126,55 @@ impl Ranges {
     fn take_results(&mut self, number: usize, function: &Function, round: u32) -> bool {
         let flows = self.flows.as_mut_slice();
         let results = self.results.as_mut_slice();
-        if number >= flows.len() || number >= results.len() {
-            return false;
-        }
-        let known = &mut results[number];
-        let mut found = with_said(
-            &mut self.means.memory,
-            function.results.as_slice(),
-            &flows[number].returned,
-            self.liveness.asked.of(number).results,
-        );
-        let is_new = if round < NARROWINGS {
-            *known != found
-        } else {
-            !lie_within(found.as_slice(), known.as_slice())
-        };
-        if is_new {
-            mem::swap(known, &mut found);
-            for flow in flows {
-                flow.mark_calls(number);
+        let mut is_new = false;
+        if (number < flows.len()) & (number < results.len()) {
+            let known = &mut results[number];
+            let mut found = with_said(
+                &mut self.means.memory,
+                function.results.as_slice(),
+                &flows[number].returned,
+                self.liveness.asked.of(number).results,
+            );
+            is_new = if round < NARROWINGS {
+                *known != found
+            } else {
+                !lie_within(found.as_slice(), known.as_slice())
+            };
+            if is_new {
+                mem::swap(known, &mut found);
+                for flow in flows {
+                    flow.mark_calls(number);
+                }
             }
         }
         is_new
     }
 
-    /// Goes over the program once. Says whether something is to be looked at again.
-    fn pass(&mut self, program: &Program, round: u32, state: &mut State) -> bool {
-        for (number, function) in program.functions.as_slice().iter().enumerate() {
-            self.settle_function(program, (number, function), state);
-        }
-        let mut is_new = false;
-        for (number, function) in program.functions.as_slice().iter().enumerate() {
-            is_new |= self.take_results(number, function, round);
-        }
-        is_new & !self.means.are_used_up()
-    }
-
     /// Goes over the program until nothing is to be looked at again, or something lacks, which is told.
     fn settle(&mut self, program: &Program, state: &mut State) -> Result<(), Fault> {
+        let functions = program.functions.as_slice();
+        let mut is_new = true;
         for round in 0..ROUNDS {
-            if !self.pass(program, round, state) {
-                return self.means.told();
+            if is_new {
+                for number in 0..functions.len() {
+                    self.settle_function(program, (number, &functions[number]), state);
+                }
+                is_new = false;
+                for number in 0..functions.len() {
+                    is_new |= self.take_results(number, &functions[number], round);
+                }
+                is_new &= !self.means.are_used_up();
             }
         }
-        Err(Fault::new(
-            NO_LINE,
-            Reason::TooMany {
-                what: "rounds over what functions give back",
-                most: u64::from(ROUNDS),
-            },
-        ))
+        if is_new {
+            let what = "rounds over what functions give back";
+            self.means.spend(NO_LINE, what, u64::from(ROUNDS));
+        }
+        self.means.told()
     }
 
     /// Finds the ranges again, where some blocks of the program, each by its function and its own number, are others
-    /// than before. What can't be reached from them is not looked at.
+    /// than before. What can't be reached from them is not looked at, unless functions have other params or results.
     pub fn renew(
         &mut self,
         program: &Program,
@@ -215,37 +182,38 @@ impl Ranges {
         state: &mut State,
     ) -> Result<(), Fault> {
         let liveness = Liveness::of(&mut self.means, program);
-        let before = mem::replace(&mut self.liveness, liveness);
-        if self.liveness.asked.counts == before.asked.counts {
-            self.renew_functions(program, &before, changed);
-        } else {
-            self.begin(program);
+        let are_new = self.liveness.asked.counts != liveness.asked.counts;
+        self.liveness = liveness;
+        if are_new {
+            self.flows.clear();
+            self.results.clear();
+        }
+        let memory = &mut self.means.memory;
+        let functions = program.functions.as_slice();
+        for number in 0..functions.len() {
+            if are_new {
+                let flow = Flow::nothing(memory.alloc);
+                memory.push(&mut self.flows, flow);
+                let count = self.liveness.asked.of(number).results;
+                let results = memory.repeat(all(0), usize::from(count));
+                memory.push(&mut self.results, results);
+            }
+            let (flows, live) = (self.flows.as_mut_slice(), self.liveness.of_function(number));
+            if number < flows.len() {
+                let named = (number, &functions[number]);
+                flows[number].renew(memory, named, live, changed);
+            }
         }
         self.settle(program, state)
     }
 
-    /// Takes over each function of a program in which this was live before, if something of it is others than then.
-    fn renew_functions(
-        &mut self,
-        program: &Program,
-        before: &Liveness,
-        changed: &[(usize, usize)],
-    ) {
-        for (number, function) in program.functions.as_slice().iter().enumerate() {
-            let live = self.liveness.of_function(number);
-            let is_same = before.of_function(number) == live;
-            let flows = self.flows.as_mut_slice();
-            if number < flows.len() && (!is_same || has_block(changed, number)) {
-                flows[number].renew(&mut self.means.memory, (number, function), live, changed);
-            }
-        }
-    }
-
     /// What a function is called with.
     pub fn params(&self, function: usize) -> &[Range] {
-        match self.flows.get(function) {
-            Some(flow) => flow.params.as_slice(),
-            None => &[],
+        let flows = self.flows.as_slice();
+        if function < flows.len() {
+            flows[function].params.as_slice()
+        } else {
+            &[]
         }
     }
 
@@ -257,26 +225,28 @@ impl Ranges {
     /// What is known where a block begins, by location, of what is live there. Nothing of a block to which control
     /// doesn't come, and of a function's first block, which begins with the function's params.
     pub fn cells(&self, function: usize, block: usize) -> Option<&[Cell]> {
-        match self.flows.get(function) {
-            Some(flow) => flow.cells(block),
-            None => None,
+        let flows = self.flows.as_slice();
+        if function < flows.len() {
+            flows[function].cells(block)
+        } else {
+            None
         }
     }
 
     /// Whether control comes to a block.
     pub fn reaches(&self, function: usize, block: usize) -> bool {
-        block == 0 || self.cells(function, block).is_some()
+        (block == 0) | self.cells(function, block).is_some()
     }
 
     /// Which ways of a block can be gone.
     pub fn open_ways(&self, function: usize, block: usize) -> (bool, bool) {
-        match self.flows.get(function) {
-            Some(flow) if block < flow.blocks.len() => {
-                let [first, second] = &flow.blocks[block].ways;
-                (first.is_some(), second.is_some())
-            }
-            _ => (false, false),
+        let flows = self.flows.as_slice();
+        if function < flows.len() && block < flows[function].blocks.len() {
+            let known = &flows[function].blocks.as_slice()[block];
+            let [first, second] = &known.ways;
+            return (first.is_some(), second.is_some());
         }
+        (false, false)
     }
 
     /// What is live where each block of a function begins.
@@ -294,7 +264,7 @@ impl Ranges {
         state: &mut State,
     ) -> bool {
         let (flows, functions) = (self.flows.as_slice(), program.functions.as_slice());
-        if function < flows.len() && function < functions.len() {
+        if (function < flows.len()) & (function < functions.len()) {
             return flows[function].begin(&functions[function], block, state);
         }
         false
@@ -312,7 +282,7 @@ impl Ranges {
         state: &mut State,
     ) -> bool {
         let (flows, functions) = (self.flows.as_slice(), program.functions.as_slice());
-        if function < flows.len() && function < functions.len() {
+        if (function < flows.len()) & (function < functions.len()) {
             let results = self.results.as_slice();
             return flows[function].run(&functions[function], results, (block, way), state);
         }

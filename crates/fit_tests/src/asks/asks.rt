@@ -1,5 +1,5 @@
 //! What isn't shown of a function's steps.
-use fit_code::{Block, End, Function, Line, Memory, Program, Step};
+use fit_code::{Block, Function, Line, Memory, Program, Step};
 use fit_graph::{effects_of, read_at_end, return_from, run_to_call};
 use fit_ranges::{Origin, Ranges, Trace, end_of, named_object, origin_of, trace_of};
 use sbx_domain::State;
@@ -38,6 +38,9 @@ pub enum Lack {
 /// What isn't shown of a step, by its place in its block; the end of the block stands behind the last step.
 #[derive(Clone, Copy)]
 pub struct Ask {
+    pub function: usize,
+    /// How many bytes the function's frame has.
+    pub frame: u32,
     pub block: usize,
     pub place: usize,
     pub line: Line,
@@ -57,25 +60,24 @@ pub struct Asking<'a> {
 /// %sp, %fp and the addresses of calls, which are never asked for, each of which has a bit.
 const RESERVED: u32 = 0xc000_c000;
 
-/// The first register that is read and isn't defined.
-fn undefined_register(reads: u32, state: &State) -> Option<u16> {
-    let asked = reads & !RESERVED;
+/// The first register that isn't defined of some that are read, or that are given to a callee; each has a bit.
+fn lack_of_registers(registers: u32, is_given: bool, state: &State) -> Option<Lack> {
+    let asked = registers & !RESERVED;
     for register in 1..32u16 {
         if asked >> register & 1 == 1 && state.range(register).is_none() {
-            return Some(register);
+            return Some(if is_given {
+                Lack::Given(register)
+            } else {
+                Lack::Defined(register)
+            });
         }
     }
     None
 }
 
-/// How many low bits of an address of so many bytes are 0.
+/// How many low bits of an address of so many bytes, a power of 2 up to 8, are 0.
 pub fn needed_alignment(size: u32) -> u8 {
-    match size {
-        8 => 3,
-        4 => 2,
-        2 => 1,
-        _ => 0,
-    }
+    size.trailing_zeros().min(3) as u8
 }
 
 impl Asking<'_> {
@@ -119,51 +121,8 @@ impl Asking<'_> {
         }))
     }
 
-    /// The first param of a callee that isn't defined.
-    fn lack_of_call(&self, callee: usize, state: &State) -> Option<Lack> {
-        let params = self.ranges.params(callee).len().min(6) as u16;
-        for location in 8..8 + params {
-            if state.range(location).is_none() {
-                return Some(Lack::Given(location));
-            }
-        }
-        None
-    }
-
-    /// What isn't shown of a step at a place of a block, which is no call.
-    fn lack_of(
-        &self,
-        frame: u32,
-        block: &Block,
-        trace: &Trace,
-        (place, instr): (usize, &Instr),
-        state: &State,
-    ) -> Option<Lack> {
-        let effects = effects_of(frame, instr);
-        // a frame word before registers
-        let undefined = match effects.word_read {
-            Some(word) if state.range(word).is_none() => Some(word),
-            _ => undefined_register(effects.reads, state),
-        };
-        if let Some(location) = undefined {
-            return Some(Lack::Defined(location));
-        }
-        let [first, second] = trace.at(place);
-        match (operation_of(instr), first, second) {
-            (Operation::Divide(_, fields), _, Some(range)) if !excludes_zero(range) => {
-                Some(Lack::Divisible(fields.operand2, range))
-            }
-            (Operation::Transfer(transfer, fields), Some(first), Some(second)) => {
-                let range = range_of_address(first, second);
-                let origin = origin_of(frame, block, trace, place);
-                self.lack_of_access(transfer, (fields.rs1, fields.operand2), range, origin)
-            }
-            _ => None,
-        }
-    }
-
     /// What isn't shown of the step at a place of a block; the state is then that behind the step. Of a call its slot
-    /// is run before it is asked.
+    /// is run before it is asked, for the params of its callee.
     fn lack_at(
         &self,
         frame: u32,
@@ -172,75 +131,76 @@ impl Asking<'_> {
         (place, step): (usize, &Step),
         state: &mut State,
     ) -> Option<Lack> {
-        match step.callee {
-            Some(callee) => {
-                run_to_call(frame, step, state);
-                let lack = self.lack_of_call(callee, state);
-                return_from(self.ranges.results(), callee, state);
-                lack
-            }
-            None => {
-                let lack = self.lack_of(frame, block, trace, (place, &step.instr), state);
-                state.transfer(frame, &step.instr);
-                lack
-            }
+        if let Some(callee) = step.callee {
+            run_to_call(frame, step, state);
+            let params = self.ranges.params(callee).len().min(6) as u32;
+            // of %o0 to %o5 the first ones
+            let lack = lack_of_registers(0x3f >> (6 - params) << 8, true, state);
+            return_from(self.ranges.results(), callee, state);
+            return lack;
         }
-    }
-
-    /// The first register that the end of a function's block reads and that isn't defined.
-    fn lack_at_end(
-        &self,
-        function: usize,
-        code: &Function,
-        end: &End,
-        state: &State,
-    ) -> Option<u16> {
-        let results = self.ranges.results();
-        let left = if function < results.len() {
-            results[function].len().min(6) as u8
-        } else {
-            0
+        let effects = effects_of(frame, &step.instr);
+        // a frame word before registers
+        let mut lack = match effects.word_read {
+            Some(word) if state.range(word).is_none() => Some(Lack::Defined(word)),
+            _ => lack_of_registers(effects.reads, false, state),
         };
-        undefined_register(read_at_end(code, left, end), state)
+        if lack.is_none() {
+            let [first, second] = trace.at(place);
+            lack = match (operation_of(&step.instr), first, second) {
+                (Operation::Divide(_, fields), _, Some(range)) if !excludes_zero(range) => {
+                    Some(Lack::Divisible(fields.operand2, range))
+                }
+                (Operation::Transfer(transfer, fields), Some(first), Some(second)) => {
+                    let range = range_of_address(first, second);
+                    let origin = origin_of(frame, block, trace, place);
+                    self.lack_of_access(transfer, (fields.rs1, fields.operand2), range, origin)
+                }
+                _ => None,
+            };
+        }
+        state.transfer(frame, &step.instr);
+        lack
     }
 
-    /// Asks a block, from its beginning to its end, if control comes to it.
+    /// Asks a block of a function of so many results, from its beginning to its end, if control comes to it.
     fn ask_block(
         &self,
-        (function, code): (usize, &Function),
+        (function, code, count): (usize, &Function, u8),
         (number, block): (usize, &Block),
         state: &mut State,
         asks: &mut Vec<Ask>,
         memory: &mut Memory,
     ) {
-        let (program, ranges) = (self.program, self.ranges);
+        let (program, ranges, frame) = (self.program, self.ranges, code.frame);
         if !ranges.begin_block(program, function, number, state) {
             return;
         }
-        let trace = match trace_of(self.alloc, code.frame, ranges.results(), block, state) {
-            Ok(trace) => trace,
-            Err(error) => return memory.take(Err(error)),
+        let Ok(trace) = trace_of(self.alloc, frame, ranges.results(), block, state) else {
+            memory.is_refused = true;
+            return;
         };
         ranges.begin_block(program, function, number, state);
-        for (place, step) in block.steps.as_slice().iter().enumerate() {
-            if let Some(lack) = self.lack_at(code.frame, block, &trace, (place, step), state) {
+        let steps = block.steps.as_slice();
+        for place in 0..steps.len().saturating_add(1) {
+            let mut line = block.line;
+            let lack = if place < steps.len() {
+                line = steps[place].line;
+                self.lack_at(frame, block, &trace, (place, &steps[place]), state)
+            } else {
+                lack_of_registers(read_at_end(code, count, &block.end), false, state)
+            };
+            if let Some(lack) = lack {
                 let ask = Ask {
+                    function,
+                    frame,
                     block: number,
                     place,
-                    line: step.line,
+                    line,
                     lack,
                 };
                 memory.push(asks, ask);
             }
-        }
-        if let Some(location) = self.lack_at_end(function, code, &block.end, state) {
-            let ask = Ask {
-                block: number,
-                place: block.steps.len(),
-                line: block.line,
-                lack: Lack::Defined(location),
-            };
-            memory.push(asks, ask);
         }
     }
 }
@@ -253,16 +213,12 @@ pub fn asks_of(
 ) -> Result<Vec<Ask>, AllocError> {
     let mut asks = Vec::new(asking.alloc);
     let mut memory = Memory::new(asking.alloc);
-    if function < asking.program.functions.len() {
-        let code = &asking.program.functions[function];
-        for (number, block) in code.blocks.as_slice().iter().enumerate() {
-            asking.ask_block(
-                (function, code),
-                (number, block),
-                state,
-                &mut asks,
-                &mut memory,
-            );
+    let (functions, results) = (asking.program.functions.as_slice(), asking.ranges.results());
+    if function < functions.len() && function < results.len() {
+        let count = results[function].len().min(6) as u8;
+        let code = (function, &functions[function], count);
+        for block in functions[function].blocks.as_slice().iter().enumerate() {
+            asking.ask_block(code, block, state, &mut asks, &mut memory);
         }
     }
     memory.told(asks)

@@ -1,15 +1,14 @@
 //! Blocks in two.
 use fit_code::{Block, End, Line, Memory, Step};
-use std::alloc::{AllocError, Global};
 use v8_formats::Instr;
 
 /// Puts instructions that call nobody behind steps, those of them that are there.
 pub fn push_instrs(
+    memory: &mut Memory,
     steps: &mut Vec<Step>,
     instrs: &[Option<Instr>],
     line: Line,
-) -> Result<(), AllocError> {
-    let mut lacks = false;
+) {
     for instr in instrs {
         if let Some(instr) = *instr {
             let step = Step {
@@ -19,21 +18,21 @@ pub fn push_instrs(
                 object: None,
                 slot: None,
             };
-            lacks |= steps.push(step).is_err();
+            memory.push(steps, step);
         }
     }
-    if lacks { Err(AllocError) } else { Ok(()) }
 }
 
-/// Puts an instruction that calls nobody before the step at a place of a block, if there is such a place.
+/// Puts an instruction that calls nobody before the step at a place of a block with a number, if there is such a place.
 pub fn insert_instr(
-    block: &mut Block,
-    place: usize,
+    memory: &mut Memory,
+    blocks: &mut Vec<Block>,
+    (number, place): (usize, usize),
     instr: Instr,
     line: Line,
-    memory: &mut Memory,
 ) {
-    if place <= block.steps.len() {
+    let blocks = blocks.as_mut_slice();
+    if number < blocks.len() && place <= blocks[number].steps.len() {
         let step = Step {
             instr,
             line,
@@ -41,48 +40,35 @@ pub fn insert_instr(
             object: None,
             slot: None,
         };
-        if let Err(failed) = block.steps.insert(place, step) {
-            memory.take(Err(AllocError::from(failed)));
-        }
+        memory.is_refused |= blocks[number].steps.insert(place, step).is_err();
     }
 }
 
-/// A new block of instructions that call nobody, behind the others.
+/// A new block of instructions that call nobody, behind the others; its end has one of them in its slot, or nothing.
 pub fn push_block(
-    alloc: Global,
+    memory: &mut Memory,
     blocks: &mut Vec<Block>,
     instrs: &[Option<Instr>],
-    end: End,
+    (end, slot): (End, Option<Instr>),
     line: Line,
-) -> Result<(), AllocError> {
-    let mut steps = Vec::new(alloc);
-    let filled = push_instrs(&mut steps, instrs, line);
+) {
+    let mut steps = Vec::new(memory.alloc);
+    push_instrs(memory, &mut steps, instrs, line);
     let block = Block {
         steps,
         end,
-        slot: None,
+        slot,
         line,
     };
-    match blocks.push(block) {
-        Ok(()) => filled,
-        Err(failed) => Err(AllocError::from(failed)),
-    }
+    memory.push(blocks, block);
 }
 
 /// Puts a copy of a block's steps from a place on, and of its end, behind the other blocks.
-pub fn copy_block(
-    alloc: Global,
-    blocks: &mut Vec<Block>,
-    number: usize,
-    place: usize,
-    memory: &mut Memory,
-) {
+pub fn copy_block(memory: &mut Memory, blocks: &mut Vec<Block>, number: usize, place: usize) {
     if number < blocks.len() {
         let block = &blocks[number];
-        let mut steps = Vec::new(alloc);
-        memory.take(steps.extend_from_slice(block.steps.get(place..).unwrap_or(&[])));
         let copied = Block {
-            steps,
+            steps: memory.copy(block.steps.get(place..).unwrap_or(&[])),
             end: block.end,
             slot: block.slot,
             line: block.line,
@@ -94,14 +80,13 @@ pub fn copy_block(
 /// Cuts a block before the step at a place. What was behind it stands in a new block, whose number this is, and to
 /// which the block goes on.
 pub fn cut_block(
-    alloc: Global,
+    memory: &mut Memory,
     blocks: &mut Vec<Block>,
     number: usize,
     place: usize,
-    memory: &mut Memory,
 ) -> usize {
     let rest = blocks.len();
-    copy_block(alloc, blocks, number, place, memory);
+    copy_block(memory, blocks, number, place);
     if number < blocks.len() {
         let block = &mut blocks[number];
         block.steps.truncate(place);

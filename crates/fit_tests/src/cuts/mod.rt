@@ -5,6 +5,6 @@ mod repeat;
 mod words;
 
 pub use cut::{copy_block, cut_block, insert_instr, push_block, push_instrs};
-pub use place::{InUse, in_use, y_writer};
+pub use place::{CODES, SCRATCH, Y, in_use, use_of, y_writer};
 pub use repeat::{codes_again, drop_compare};
-pub use words::{by_immediate, by_register, clearing, go_by, number_in, register};
+pub use words::{by_immediate, clearing, going_by, number_in, register};

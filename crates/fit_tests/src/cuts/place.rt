@@ -1,98 +1,70 @@
 //! What is in use between two steps of a block.
-use fit_code::{Block, End};
+use fit_code::{Block, End, Step};
 use fit_graph::effects_of;
 use v8_formats::Instr;
-use v8_meaning::{Op, Operation, operation_of};
 
-/// The registers that tests work with, %g5 to %g7, each of which has a bit.
-const SCRATCH: u32 = 0xe0;
+/// The registers, each of which has a bit.
+pub const REGISTERS: u64 = 0xffff_ffff;
 
-/// What a step does with something.
-#[derive(Clone, Copy)]
-pub enum Use {
-    Reads,
-    Writes,
-    Nothing,
-}
+/// Those that tests work with, %g5 to %g7.
+pub const SCRATCH: u64 = 0xe0;
 
-/// What an instruction does with the condition codes.
-pub fn codes_use(instr: &Instr) -> Use {
-    match operation_of(instr) {
-        Operation::Compute(op, _) => match op {
-            Op::Addx | Op::AddxCc | Op::Subx | Op::SubxCc | Op::MulsCc => Use::Reads,
-            Op::AddCc
-            | Op::SubCc
-            | Op::AndCc
-            | Op::AndnCc
-            | Op::OrCc
-            | Op::OrnCc
-            | Op::XorCc
-            | Op::XnorCc
-            | Op::UmulCc
-            | Op::SmulCc
-            | Op::TaddCc
-            | Op::TsubCc => Use::Writes,
-            _ => Use::Nothing,
-        },
-        Operation::TaggedTrap(..) => Use::Writes,
-        Operation::Divide(..) => match instr {
-            Instr::UdivCc(_) | Instr::SdivCc(_) => Use::Writes,
-            _ => Use::Nothing,
-        },
-        _ => Use::Nothing,
+/// The bit of the condition codes.
+pub const CODES: u64 = 1 << 32;
+
+/// The bit of Y.
+pub const Y: u64 = 1 << 33;
+
+/// What a call leaves undefined: globals, outs, codes and Y.
+const LOST: u64 = 0xfffe | CODES | Y;
+
+/// What a step reads and what it writes: registers, codes and Y, each of which has a bit. A call is taken to read
+/// nothing.
+pub fn use_of(frame: u32, step: &Step) -> (u64, u64) {
+    if step.callee.is_some() {
+        return (0, LOST);
     }
+    let (reads, writes) = match &step.instr {
+        Instr::Addx(_) | Instr::Subx(_) => (CODES, 0),
+        Instr::AddxCc(_) | Instr::SubxCc(_) => (CODES, CODES),
+        Instr::MulsCc(_) => (CODES | Y, CODES | Y),
+        Instr::AddCc(_)
+        | Instr::SubCc(_)
+        | Instr::AndCc(_)
+        | Instr::AndnCc(_)
+        | Instr::OrCc(_)
+        | Instr::OrnCc(_)
+        | Instr::XorCc(_)
+        | Instr::XnorCc(_)
+        | Instr::TaddCc(_)
+        | Instr::TsubCc(_)
+        | Instr::TaddCcTv(_)
+        | Instr::TsubCcTv(_) => (0, CODES),
+        Instr::UmulCc(_) | Instr::SmulCc(_) => (0, CODES | Y),
+        Instr::Umul(_) | Instr::Smul(_) | Instr::WriteY(_) => (0, Y),
+        Instr::Udiv(_) | Instr::Sdiv(_) | Instr::ReadY(_) => (Y, 0),
+        Instr::UdivCc(_) | Instr::SdivCc(_) => (Y, CODES),
+        _ => (0, 0),
+    };
+    let effects = effects_of(frame, &step.instr);
+    (
+        u64::from(effects.reads) | reads,
+        u64::from(effects.writes) | writes,
+    )
 }
 
-/// What an instruction does with Y.
-pub fn y_use(instr: &Instr) -> Use {
-    match operation_of(instr) {
-        Operation::Divide(..) | Operation::ReadY(_) => Use::Reads,
-        Operation::Compute(Op::MulsCc, _) => Use::Reads,
-        Operation::Compute(Op::Umul | Op::UmulCc | Op::Smul | Op::SmulCc, _)
-        | Operation::WriteY(_) => Use::Writes,
-        _ => Use::Nothing,
-    }
-}
-
-/// What from before a step is asked for by it or behind it.
-#[derive(Clone, Copy)]
-pub struct InUse {
-    pub codes: bool,
-    pub y: bool,
-    /// One of the registers that tests work with.
-    pub scratch: bool,
-}
-
-impl Use {
-    /// Whether something is in use before a step, by whether it is behind it.
-    fn before(self, behind: bool) -> bool {
-        match self {
-            Use::Reads => true,
-            Use::Writes => false,
-            Use::Nothing => behind,
-        }
-    }
-}
-
-/// What is in use before the step at a place of a block. A call leaves codes, Y and scratch registers undefined.
-pub fn in_use(frame: u32, block: &Block, place: usize) -> InUse {
-    let mut codes = matches!(block.end, End::Branch { .. });
-    let mut y = false;
-    let mut registers = 0;
+/// What is asked for by the step at a place of a block or behind it, and isn't written between: of registers those that
+/// the block's own steps ask for.
+pub fn in_use(frame: u32, block: &Block, place: usize) -> u64 {
+    let mut used = match block.end {
+        End::Branch { .. } => CODES,
+        _ => 0,
+    };
     for at in (place..block.steps.len()).rev() {
-        let step = &block.steps[at];
-        let effects = effects_of(frame, &step.instr);
-        let is_call = step.callee.is_some();
-        codes = !is_call & codes_use(&step.instr).before(codes);
-        y = !is_call & y_use(&step.instr).before(y);
-        let written = if is_call { SCRATCH } else { effects.writes };
-        registers = effects.reads | registers & !written;
+        let (reads, writes) = use_of(frame, &block.steps[at]);
+        used = reads | used & !writes;
     }
-    InUse {
-        codes,
-        y,
-        scratch: registers & SCRATCH != 0,
-    }
+    used
 }
 
 /// The place of the WRY whose word a division at a place of the block finds in Y, where nothing else reads that word
@@ -101,16 +73,16 @@ pub fn y_writer(frame: u32, block: &Block, division: usize) -> Option<(usize, bo
     let mut written = 0;
     for place in (0..division.min(block.steps.len())).rev() {
         let step = &block.steps[place];
-        let effects = effects_of(frame, &step.instr);
-        if step.callee.is_some() | !matches!(y_use(&step.instr), Use::Nothing) {
-            let is_writer = matches!(operation_of(&step.instr), Operation::WriteY(_));
-            return if is_writer & (effects.reads & written == 0) {
-                Some((place, effects.reads == 0))
+        let (reads, writes) = use_of(frame, step);
+        if (reads | writes) & Y != 0 {
+            let is_writer = matches!(step.instr, Instr::WriteY(_));
+            return if is_writer & (reads & written == 0) {
+                Some((place, reads == 0))
             } else {
                 None
             };
         }
-        written |= effects.writes;
+        written |= writes;
     }
     None
 }

@@ -1,49 +1,26 @@
 //! Codes that are in use where a block is to be cut, set again behind.
-use crate::cuts::place::{Use, codes_use, in_use};
+use crate::cuts::place::{CODES, REGISTERS, use_of};
 use crate::cuts::words::by_immediate;
 use fit_code::{Block, End};
-use fit_graph::effects_of;
-use v8_formats::{Cond, Instr, Reg};
+use v8_formats::{Cond, Instr, bits_of, decode, encode};
 
-/// The same instruction with %g0 for its destination, where it is one that is used to compare.
-fn without_result(instr: Instr) -> Option<Instr> {
-    let mut bare = instr;
-    match &mut bare {
-        Instr::AddCc(fields)
-        | Instr::SubCc(fields)
-        | Instr::AndCc(fields)
-        | Instr::AndnCc(fields)
-        | Instr::OrCc(fields)
-        | Instr::OrnCc(fields)
-        | Instr::XorCc(fields)
-        | Instr::XnorCc(fields) => fields.rd = Reg::G0,
-        _ => return None,
-    }
-    Some(bare)
-}
+/// The bits of a word in which its destination stands.
+const DESTINATION: u32 = 0x3e00_0000;
 
-/// The last step that sets the codes.
-fn last_setter(block: &Block) -> Option<usize> {
+/// The place of the last step of a block that sets the codes, and not by what they were; and what the steps behind it
+/// write, and what they find of what stands before them.
+fn last_setter(frame: u32, block: &Block) -> Option<(usize, u64, u64)> {
+    let (mut written, mut used) = (0, 0);
     for place in (0..block.steps.len()).rev() {
-        if matches!(codes_use(&block.steps[place].instr), Use::Writes) {
-            return Some(place);
+        let step = &block.steps[place];
+        let (reads, writes) = use_of(frame, step);
+        if step.callee.is_none() & (writes & !reads & CODES != 0) {
+            return Some((place, written, used));
         }
+        written |= writes;
+        used = reads | used & !writes;
     }
     None
-}
-
-/// Whether a register that has a bit is written from a place of a block on.
-fn is_written(frame: u32, block: &Block, place: usize, registers: u32) -> bool {
-    let mut written = 0;
-    for at in place..block.steps.len() {
-        let step = &block.steps[at];
-        written |= if step.callee.is_some() {
-            0xfffe
-        } else {
-            effects_of(frame, &step.instr).writes
-        };
-    }
-    written & registers != 0
 }
 
 /// An instruction that sets the codes that a block's branch asks for again behind the last step, as far as it asks, so
@@ -52,39 +29,46 @@ pub fn codes_again(frame: u32, block: &Block) -> Option<Instr> {
     let End::Branch { cond, .. } = block.end else {
         return None;
     };
-    let Some(place) = last_setter(block) else {
+    let Some((place, later, _)) = last_setter(frame, block) else {
         return None;
     };
-    let behind = place.saturating_add(1);
-    if behind >= block.steps.len() {
+    if place.saturating_add(1) >= block.steps.len() {
         return None;
     }
-    let setter = &block.steps[place].instr;
-    let effects = effects_of(frame, setter);
-    if !is_written(frame, block, place, effects.reads) {
-        return without_result(*setter);
+    let setter = &block.steps[place];
+    let (reads, writes) = use_of(frame, setter);
+    let (word, result) = (encode(&setter.instr), writes & REGISTERS);
+    if (later | writes) & reads & REGISTERS == 0 {
+        // From 0x10 to 0x17 there are those that are used to compare: ADDcc, SUBcc, and six of logic.
+        return if bits_of(word, 19, 6) & 0x38 == 0x10 {
+            Some(decode(word & !DESTINATION))
+        } else {
+            None
+        };
     }
-    let is_kept = effects.writes != 0 && !is_written(frame, block, behind, effects.writes);
+    let is_kept = (result != 0) & (later & result == 0);
     // These ask for Z and N alone.
     let asks_signs = matches!(
         cond,
         Cond::Equal | Cond::NotEqual | Cond::Negative | Cond::Positive
     );
     if is_kept & asks_signs {
-        let number = effects.writes.trailing_zeros().min(31) as u8;
+        let number = result.trailing_zeros().min(31) as u8;
         Some(Instr::SubCc(by_immediate(0, number, 0)))
     } else {
         None
     }
 }
 
-/// Takes the last compare out of a block, if nothing asks for the codes that it sets.
+/// Takes the last compare out of a block that no branch ends, if nothing asks for the codes that it sets.
 pub fn drop_compare(block: &mut Block) {
-    if let Some(place) = last_setter(block)
+    if let Some((place, _, used)) = last_setter(0, block)
         && place < block.steps.len()
-        && !in_use(0, block, place.saturating_add(1)).codes
-        && effects_of(0, &block.steps[place].instr).writes == 0
+        && used & CODES == 0
     {
-        block.steps.remove(place);
+        let (_, writes) = use_of(0, &block.steps[place]);
+        if writes & REGISTERS == 0 {
+            block.steps.remove(place);
+        }
     }
 }

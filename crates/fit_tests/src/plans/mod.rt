@@ -7,7 +7,7 @@ mod shown;
 mod test;
 
 pub use divide::push_divisor_test;
-pub use insert::{Frame, given_back};
+pub use insert::{Frame, subtracting};
 pub use plan::{Plan, Way, plan_in};
 pub use shown::Shown;
 pub use test::{Kind, Test};

@@ -14,13 +14,6 @@ pub struct Plan {
     pub way: Way,
 }
 
-impl Plan {
-    /// Whether nothing can be said of the word that isn't known.
-    pub fn says_nothing(&self) -> bool {
-        matches!(self.way, Way::Known) & (self.alignment == 0)
-    }
-}
-
 /// How it is seen that a word lies from `lo` to `hi`.
 #[derive(Clone, Copy)]
 pub enum Way {
@@ -34,51 +27,43 @@ pub enum Way {
     Never,
 }
 
-/// How a word of a range is seen to lie in bounds, where its multiples are looked at or not. The numbers that it is
-/// compared with have to be signed words.
-fn way_of(range: Range, bounds: &Bounds, alignment: u8) -> Way {
-    let (lo, hi) = (bounds.lo, bounds.hi);
-    let (least, greatest) = (i64::from(range.lo), i64::from(range.hi));
-    if hi < lo {
-        return Way::Never;
-    }
-    if (lo <= least) & (greatest <= hi) {
-        return Way::Known;
-    }
-    if (lo == 0) | (lo < 0) & (least >= 0) {
-        return match i32::try_from(hi) {
-            Ok(hi) if hi >= 0 => Way::Above(hi),
-            _ => Way::Never,
-        };
-    }
-    let first = if bounds.object.is_none() | (alignment > 0) {
-        // A multiple of 8 that isn't below.
-        lo.saturating_add(7) & -8
-    } else {
-        lo
-    };
-    match (
-        i32::try_from(first),
-        i32::try_from(hi.saturating_sub(first)),
-    ) {
-        (Ok(lo), Ok(length)) if length >= 0 => Way::Within { lo, length },
-        _ => Way::Never,
-    }
-}
-
 /// How an access is tested by the register that its address is worked out from, whose word has to lie in bounds, where
-/// the address has to be a multiple of 2 to the power `needed`.
+/// the address has to be a multiple of 2 to the power `needed`. The numbers that the word is compared with have to be
+/// signed words.
 pub fn plan_in(origin: &Origin, bounds: Bounds, needed: u8) -> Plan {
     let range = origin.range.unwrap_or(all(0));
     // So many low bits are 0 in each multiple of the factor.
     let trailing = origin.times.trailing_zeros().min(3) as u8;
     let needed = needed.saturating_sub(trailing);
     let alignment = if range.alignment < needed { needed } else { 0 };
+    let Bounds { lo, hi, object } = bounds;
+    let (least, greatest) = (i64::from(range.lo), i64::from(range.hi));
+    let is_from_0 = (lo == 0) | (lo < 0) & (least >= 0);
+    let first = if is_from_0 {
+        0
+    } else if object.is_none() | (alignment > 0) {
+        // A multiple of 8 that isn't below.
+        lo.saturating_add(7) & -8
+    } else {
+        lo
+    };
+    let length = hi.saturating_sub(first);
+    let way = if hi < lo {
+        Way::Never
+    } else if (lo <= least) & (greatest <= hi) {
+        Way::Known
+    } else {
+        match (i32::try_from(first), i32::try_from(length)) {
+            (Ok(_), Ok(hi)) if is_from_0 & (hi >= 0) => Way::Above(hi),
+            (Ok(lo), Ok(length)) if length >= 0 => Way::Within { lo, length },
+            _ => Way::Never,
+        }
+    };
     Plan {
         register: origin.register,
         range,
         bounds,
         alignment,
-        way: way_of(range, &bounds, alignment),
+        way,
     }
 }

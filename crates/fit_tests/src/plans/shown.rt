@@ -20,6 +20,14 @@ impl Test {
     }
 }
 
+/// What a note ends with, by the power of 2 of which a multiple is asked for.
+const ENDS: [&str; 4] = [
+    ": a test was added",
+    ", and no multiple of 2: a test was added",
+    ", and no multiple of 4: a test was added",
+    ", and no multiple of 8: a test was added",
+];
+
 impl Display for Shown<'_> {
     fn fmt<W: Write>(&self, f: &mut Formatter<W>) -> Result<(), Error> {
         let (test, program) = (&self.test, self.program);
@@ -27,22 +35,18 @@ impl Display for Shown<'_> {
             Some(file) if test.line.number > 0 => write!(f, "{file}:{}: ", test.line.number),
             _ => Ok(()),
         };
-        let object = match test.bounds.object {
-            Some(number) => program.objects.get(number),
-            None => None,
-        };
-        let subject = match (test.kind, object) {
-            (Kind::Divisor, _) => f.write_str("note: the divisor may be 0: it may be "),
-            (_, Some(object)) => {
-                let (name, bytes) = (&object.name, object.bytes.len());
-                write!(f, "note: the index into {name} ({bytes} bytes) may be ")
-            }
-            (_, None) => f.write_str("note: the address may be "),
-        };
-        // What is tested may be an index with a number added, or an address.
-        let first = match test.kind {
-            Kind::Index => test.bounds.lo,
-            Kind::Pointer | Kind::Divisor => 0,
+        let objects = program.objects.as_slice();
+        // What is tested may be an index with a number added.
+        let mut first = 0;
+        let number = test.bounds.object.unwrap_or(objects.len());
+        let subject = if number < objects.len() {
+            first = test.bounds.lo;
+            let (name, bytes) = (&objects[number].name, objects[number].bytes.len());
+            write!(f, "note: the index into {name} ({bytes} bytes) may be ")
+        } else if matches!(test.kind, Kind::Divisor) {
+            f.write_str("note: the divisor may be 0: it may be ")
+        } else {
+            f.write_str("note: the address may be ")
         };
         let range = test.range;
         let lo = i64::from(range.lo).saturating_sub(first);
@@ -54,12 +58,7 @@ impl Display for Shown<'_> {
         } else {
             write!(f, "{lo} to {hi}")
         };
-        let multiple = 1u32 << (self.test.alignment % 4);
-        let end = if self.test.alignment == 0 {
-            f.write_str(": a test was added")
-        } else {
-            write!(f, ", and no multiple of {multiple}: a test was added")
-        };
+        let end = f.write_str(ENDS[usize::from(test.alignment % 4)]);
         place.and(subject).and(numbers).and(end)
     }
 }

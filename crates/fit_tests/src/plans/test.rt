@@ -7,21 +7,17 @@ use sbx_range::Range;
 #[derive(Clone, Copy)]
 pub enum Kind {
     /// That an index lies in an object.
-    Index,
+    Index = 1,
     /// That an address lies in the data.
-    Pointer,
+    Pointer = 2,
     /// That a divisor isn't 0.
-    Divisor,
+    Divisor = 3,
 }
 
 impl Kind {
-    /// 1 for an index, 2 for a pointer, 3 for a divisor.
-    pub fn number(self) -> i32 {
-        match self {
-            Kind::Index => 1,
-            Kind::Pointer => 2,
-            Kind::Divisor => 3,
-        }
+    /// The exit word of a run that ends where a test in a line fails.
+    pub fn exit_word(self, line: Line) -> i32 {
+        self as i32 * 65_536 + line.number.min(0xffff) as i32
     }
 }
 
@@ -33,6 +29,8 @@ pub struct Test {
     /// What was known of the index, the address or the divisor.
     pub range: Range,
     pub function: usize,
+    /// Where the run ends if it fails.
+    pub exit: usize,
     /// The first block of the test, and the one to which control goes where the test isn't needed.
     pub head: usize,
     pub rest: usize,

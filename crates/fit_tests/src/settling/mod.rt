@@ -3,6 +3,5 @@
 mod answers;
 mod settle;
 
-pub use crate::plans::{Kind, Shown, Test};
 pub use answers::Options;
 pub use settle::add_tests;

@@ -2,14 +2,13 @@
 use crate::asks::{Access, Ask, Asking, Lack, asks_of, needed_alignment, shorten_block};
 use crate::cuts::{clearing, drop_compare, insert_instr};
 use crate::plans::{Kind, Test, Way, plan_in};
-use crate::settling::answers::{Answer, Options, Planned, Refused, SUM, Tests};
-use fit_code::{End, Fault, Function, Memory, NO_LINE, Program, Reason};
+use crate::settling::answers::{Options, Planned, SUM, Tests, join_address};
+use fit_code::{Block, End, Fault, Memory, NO_LINE, Program, Reason};
 use fit_graph::range_in;
 use fit_ranges::{Origin, Ranges, bounds_in_constants, bounds_of};
 use sbx_domain::State;
 use sbx_range::excludes_zero;
 use std::alloc::Global;
-use std::mem;
 use v8_formats::Operand;
 
 /// As many rounds as settling may take, and in so many of them tests that aren't needed go.
@@ -17,17 +16,21 @@ const ROUNDS: u32 = 1_000;
 
 const DROPS: u32 = 4;
 
+/// Why an access isn't tested of whose address nothing can be said that isn't known.
+const WRAPS: &str = "an address that can't be tested: a constant is stored to, or it wraps";
+
 /// An origin with its plans. A load that doesn't lie in the data that may be written may lie among the constants.
 fn with_plan(program: &Program, access: &Access, origin: Origin) -> Planned {
     let needed = needed_alignment(access.size);
     let size = i64::from(access.size);
     let plan = plan_in(&origin, bounds_of(program, &origin, size), needed);
+    let is_known = matches!(plan.way, Way::Known);
     let mut planned = Planned {
         origin,
         plan,
         constants: None,
+        says_nothing: is_known & (plan.alignment == 0),
     };
-    let is_known = matches!(plan.way, Way::Known);
     if !(access.writes | plan.bounds.object.is_some() | is_known)
         && let Some(bounds) = bounds_in_constants(program, &origin, size)
     {
@@ -45,7 +48,7 @@ fn planned(program: &Program, ask: &Ask) -> Option<Planned> {
     let mut object = None;
     if let Some(origin) = access.origin {
         let planned = with_plan(program, access, origin);
-        if !planned.plan.says_nothing() {
+        if !planned.says_nothing {
             return Some(planned);
         }
         object = origin.object;
@@ -83,41 +86,46 @@ fn is_needless(test: &Test, ranges: &Ranges) -> bool {
 }
 
 impl Tests {
-    /// Answers one ask of a function, unless its block is changed already, or its register and object are among the
-    /// keys, to which they are added.
-    fn answer(&mut self, program: &mut Program, function: usize, ask: &Ask) -> Answer {
+    /// Answers one ask, unless its block is changed already, or its register and object are among those of which the
+    /// function has a test in this round, to which they are added.
+    fn answer(&mut self, program: &mut Program, ask: &Ask, keys: &mut Vec<(u8, Option<usize>)>) {
         let planned = planned(program, ask);
-        if function >= program.functions.len() {
-            return None;
+        if ask.function >= program.functions.len() {
+            return;
         }
-        let code = &mut program.functions[function];
+        let blocks = &mut program.functions[ask.function].blocks;
         if let Lack::Defined(location) = ask.lack {
-            return self.clear_at_entry(code, function, location, ask.line);
+            return self.clear_at_entry(blocks, ask, location);
         }
-        if self.changed.contains(&(function, ask.block)) {
-            return None;
+        let at = (ask.function, ask.block);
+        if self.changed.contains(&at) {
+            return;
         }
         if let Some(planned) = &planned {
             let key = (planned.origin.register, planned.plan.bounds.object);
-            if self.keys.contains(&key) {
-                return None;
+            if keys.contains(&key) {
+                return;
             }
-            self.memory.push(&mut self.keys, key);
+            self.memory.push(keys, key);
         }
-        self.memory.push(&mut self.changed, (function, ask.block));
-        match &ask.lack {
-            Lack::Given(location) if ask.block < code.blocks.len() => {
-                let (block, clear) = (&mut code.blocks[ask.block], clearing(*location));
-                insert_instr(block, ask.place, clear, ask.line, &mut self.memory);
-                None
+        self.memory.push(&mut self.changed, at);
+        match (&ask.lack, &planned) {
+            (Lack::Placed(access), None) => {
+                self.refused = join_address(&mut self.memory, blocks, ask, access);
             }
-            Lack::Placed(access) => self.test_access(code, function, ask, access, &planned),
-            Lack::Divisible(Operand::Register(register), range) => {
-                self.test_divisor(code, function, ask, register.number(), *range)
+            (Lack::Placed(_), Some(planned)) if planned.says_nothing => self.refused = Some(WRAPS),
+            (Lack::Placed(access), Some(planned)) => self.test_access(blocks, ask, access, planned),
+            (Lack::Divisible(Operand::Register(register), range), _) => {
+                self.test_divisor(blocks, ask, register.number(), *range);
             }
-            Lack::Divisible(Operand::Immediate(_), _) => Some("a division by 0"),
-            // what a location is defined for was answered at the entry
-            Lack::Given(_) | Lack::Defined(_) => None,
+            (Lack::Divisible(Operand::Immediate(_), _), _) => {
+                self.refused = Some("a division by 0");
+            }
+            // one that a step reads was answered at the entry
+            (Lack::Given(location) | Lack::Defined(location), _) => {
+                let (place, clear) = ((ask.block, ask.place), clearing(*location));
+                insert_instr(&mut self.memory, blocks, place, clear, ask.line);
+            }
         }
     }
 
@@ -131,27 +139,20 @@ impl Tests {
         state: &mut State,
     ) {
         let asking = Asking {
-            alloc: self.alloc,
+            alloc: self.memory.alloc,
             program,
             ranges,
-            by_object: self.options.by_object,
+            by_object: self.by_object,
         };
-        let asks = match asks_of(&asking, function, state) {
-            Ok(asks) => asks,
-            Err(error) => return self.memory.take(Err(error)),
+        let Ok(asks) = asks_of(&asking, function, state) else {
+            self.memory.is_refused = true;
+            return;
         };
-        self.keys.clear();
+        let mut keys = Vec::new(self.memory.alloc);
         for ask in asks.as_slice() {
-            if self.refused.is_none()
-                && let Some(what) = self.answer(program, function, ask)
-            {
-                let is_by_zero = matches!(ask.lack, Lack::Divisible(Operand::Immediate(_), _));
-                self.refused = Some(Refused {
-                    function,
-                    line: ask.line,
-                    what,
-                    is_by_zero,
-                });
+            if self.refused.is_none() {
+                self.asked = Some(*ask);
+                self.answer(program, ask, &mut keys);
             }
         }
     }
@@ -175,18 +176,17 @@ impl Tests {
 
     /// Takes out the tests that aren't needed: control goes by them.
     fn drop_needless(&mut self, program: &mut Program, ranges: &Ranges) {
-        let list = mem::replace(&mut self.list, Vec::new(self.alloc));
         let functions = program.functions.as_mut_slice();
-        for test in list.as_slice() {
-            if !is_needless(test, ranges) {
-                self.memory.push(&mut self.list, *test);
-            } else if test.function < functions.len() {
-                let code = &mut functions[test.function];
-                let blocks = code.blocks.as_mut_slice();
-                if test.head < blocks.len() {
-                    let block = &mut blocks[test.head];
-                    block.steps.clear();
-                    block.end = End::Jump(test.rest);
+        for place in (0..self.list.len()).rev() {
+            // fewer tests are left than there were
+            if place < self.list.len() && is_needless(&self.list[place], ranges) {
+                let test = self.list.remove(place);
+                if test.function < functions.len() {
+                    let blocks = functions[test.function].blocks.as_mut_slice();
+                    if test.head < blocks.len() {
+                        blocks[test.head].steps.clear();
+                        blocks[test.head].end = End::Jump(test.rest);
+                    }
                 }
                 self.memory
                     .push(&mut self.changed, (test.function, test.head));
@@ -195,8 +195,9 @@ impl Tests {
     }
 
     /// Makes the branches of a function's blocks of which one way can't be gone go the other one alone.
-    fn close_ways(&mut self, code: &mut Function, ranges: &Ranges, function: usize) {
-        for (number, block) in code.blocks.iter_mut().enumerate() {
+    fn close_ways(&mut self, blocks: &mut [Block], ranges: &Ranges, function: usize) {
+        for number in 0..blocks.len() {
+            let block = &mut blocks[number];
             let (first, second) = ranges.open_ways(function, number);
             if let End::Branch { taken, next, .. } = block.end
                 && first != second
@@ -213,28 +214,31 @@ impl Tests {
     fn round(&mut self, program: &mut Program, ranges: &Ranges, is_shown: bool, state: &mut State) {
         for function in 0..program.functions.len() {
             if is_shown && function < program.functions.len() {
-                self.close_ways(&mut program.functions[function], ranges, function);
+                let blocks = program.functions[function].blocks.as_mut_slice();
+                self.close_ways(blocks, ranges, function);
             } else if self.refused.is_none() {
                 self.answer_function(program, ranges, function, state);
             }
         }
     }
 
-    /// What came of the tests of a program with these ranges: want of memory, the fault of what can't be tested, or
-    /// that of more than an image may say.
+    /// What came of the tests of a program with these ranges: want of memory, what can't be tested, where a division by
+    /// 0 is one of any function, or more of something than there may be.
     fn outcome(&self, program: &Program, ranges: &Ranges) -> Result<(), Fault> {
         self.memory.told(())?;
-        let Some(refused) = &self.refused else {
+        if let (Some(ask), Some(what)) = (&self.asked, self.refused) {
+            let is_by_zero = matches!(ask.lack, Lack::Divisible(Operand::Immediate(_), _));
+            if is_by_zero || ask.function >= program.functions.len() {
+                return Err(Fault::new(ask.line, Reason::Unreadable(what)));
+            }
+            let function = program.functions[ask.function].name.clone()?;
+            return Err(Fault::new(ask.line, Reason::Form { function, what }));
+        }
+        if self.changed.is_empty() {
             return ranges.check_limits(program);
-        };
-        let (line, what) = (refused.line, refused.what);
-        if refused.is_by_zero || refused.function >= program.functions.len() {
-            return Err(Fault::new(line, Reason::Unreadable(what)));
         }
-        match program.functions[refused.function].name.clone() {
-            Ok(function) => Err(Fault::new(line, Reason::Form { function, what })),
-            Err(error) => Err(Fault::from(error)),
-        }
+        let (what, most) = ("rounds of tests", u64::from(ROUNDS));
+        Err(Fault::new(NO_LINE, Reason::TooMany { what, most }))
     }
 
     /// Puts tests into a program, of which these are the ranges, until nothing is left that isn't shown.
@@ -250,23 +254,16 @@ impl Tests {
                 self.changed.clear();
             }
             self.round(program, ranges, false, state);
-            if self.changed.is_empty() && self.options.drops && self.drops < DROPS {
-                self.drops = self.drops.saturating_add(1);
+            if self.changed.is_empty() && self.drops > 0 {
+                self.drops -= 1;
                 self.drop_needless(program, ranges);
                 self.round(program, ranges, true, state);
             }
-            let is_over = self.refused.is_some() | self.memory.is_refused;
-            if is_over | self.changed.is_empty() {
-                return self.outcome(program, ranges);
+            if self.refused.is_some() | self.memory.is_refused | self.changed.is_empty() {
+                break;
             }
         }
-        Err(Fault::new(
-            NO_LINE,
-            Reason::TooMany {
-                what: "rounds of tests",
-                most: u64::from(ROUNDS),
-            },
-        ))
+        self.outcome(program, ranges)
     }
 }
 
@@ -280,15 +277,13 @@ pub fn add_tests(
     state: &mut State,
 ) -> Result<Vec<Test>, Fault> {
     let mut tests = Tests {
-        alloc,
-        options,
+        by_object: options.by_object,
+        drops: if options.drops { DROPS } else { 0 },
         list: Vec::new(alloc),
-        exits: Vec::new(alloc),
-        keys: Vec::new(alloc),
         cleared: Vec::new(alloc),
-        drops: 0,
         changed: Vec::new(alloc),
         memory: Memory::new(alloc),
+        asked: None,
         refused: None,
     };
     for function in 0..program.functions.len() {

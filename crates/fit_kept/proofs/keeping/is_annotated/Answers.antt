@@ -1,5 +1,4 @@
 use Rattle.std.proofs.Common.{rules}
-use Rattle.std.proofs.lemmas.Bool.{eqb-true}
 use Rattle.sbx_asm.specs.Items.{lines_of}
 use Rattle.fit_kept.proofs.ByLines.{goes_on, nothing_left}
 use Rattle.fit_kept.proofs.keeping.is_annotated.Goals as goal

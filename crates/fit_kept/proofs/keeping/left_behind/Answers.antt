@@ -1,4 +1,4 @@
-use Rattle.std.proofs.Common.{◌≡◌, inl, inr, rules}
+use Rattle.std.proofs.Common.{inl, inr, rules}
 use Rattle.sbx_asm.specs.Items.{lines_of}
 use Rattle.fit_kept.proofs.ByLines.{takes_kept}
 use Rattle.fit_kept.proofs.keeping.left_behind.Goals.{then-eq-via-then-eq, then-eq-via-else-eq+then-fills}
