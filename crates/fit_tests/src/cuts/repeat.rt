@@ -7,14 +7,14 @@ use v8_formats::{Cond, Instr, bits_of, decode, encode};
 /// The bits of a word in which its destination stands.
 const DESTINATION: u32 = 0x3e00_0000;
 
-/// The place of the last step of a block that sets the codes, and not by what they were; and what the steps behind it
-/// write, and what they find of what stands before them.
+/// The place of the last step of a block that sets the codes; and what the steps behind it write, and what they find of
+/// what stands before them.
 fn last_setter(frame: u32, block: &Block) -> Option<(usize, u64, u64)> {
     let (mut written, mut used) = (0, 0);
     for place in (0..block.steps.len()).rev() {
         let step = &block.steps[place];
         let (reads, writes) = use_of(frame, step);
-        if step.callee.is_none() & (writes & !reads & CODES != 0) {
+        if step.callee.is_none() & (writes & CODES != 0) {
             return Some((place, written, used));
         }
         written |= writes;
@@ -24,7 +24,8 @@ fn last_setter(frame: u32, block: &Block) -> Option<(usize, u64, u64)> {
 }
 
 /// An instruction that sets the codes that a block's branch asks for again behind the last step, as far as it asks, so
-/// that they aren't in use before. None where that step sets them, and where no instruction does.
+/// that they aren't in use before. None where that step sets them, and where no instruction does: not where they are
+/// those of two words, of which the second one's are worked out from the first one's.
 pub fn codes_again(frame: u32, block: &Block) -> Option<Instr> {
     let End::Branch { cond, .. } = block.end else {
         return None;
@@ -38,16 +39,13 @@ pub fn codes_again(frame: u32, block: &Block) -> Option<Instr> {
     let setter = &block.steps[place];
     let (reads, writes) = use_of(frame, setter);
     let (word, result) = (encode(&setter.instr), writes & REGISTERS);
-    if (later | writes) & reads & REGISTERS == 0 {
-        // From 0x10 to 0x17 there are those that are used to compare: ADDcc, SUBcc, and six of logic.
-        return if bits_of(word, 19, 6) & 0x38 == 0x10 {
-            Some(decode(word & !DESTINATION))
-        } else {
-            None
-        };
+    // From 0x10 to 0x17 there are those that are used to compare: ADDcc, SUBcc, and six of logic.
+    let is_compare = bits_of(word, 19, 6) & 0x38 == 0x10;
+    if is_compare & ((later | writes) & reads & REGISTERS == 0) {
+        return Some(decode(word & !DESTINATION));
     }
     let is_kept = (result != 0) & (later & result == 0);
-    // These ask for Z and N alone.
+    // These ask for Z and N alone, which are those of the result.
     let asks_signs = matches!(
         cond,
         Cond::Equal | Cond::NotEqual | Cond::Negative | Cond::Positive
