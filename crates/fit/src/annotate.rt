@@ -1,7 +1,8 @@
 //! `fit annotate`: a source in the project's own language gets the annotations that it hasn't got.
-use crate::files::{NoSource, bytes_of, refused, tell, write_source};
+use crate::files::{NO_MEMORY, REFUSED, bytes_of, refused, write_source};
 use crate::words::Words;
-use fit_annotate::{Annotated, Refusal, annotate};
+use fit_annotate::{Note, find};
+use fit_kept::{Refusal, annotate};
 use sbx_asm::{AsmFault, Cause};
 use std::slice::from_ref;
 use v8_syntax::SyntaxFault;
@@ -24,44 +25,47 @@ fn meaning(cause: Cause) -> &'static str {
     }
 }
 
-/// Tells why a source without annotations to give is refused: a fault of its own, or of what would be made of it.
-fn tell_refusal(rt: &HostRuntime, path: &str, refusal: Refusal) -> NoSource {
-    let (made, AsmFault { line, cause }) = match refusal {
+/// Tells why a source without annotations to give is refused, a fault of its own or of what would be made of it, and
+/// gives the exit status.
+fn tell_refusal(rt: &HostRuntime, path: &str, refusal: &Refusal) -> u8 {
+    let (made, fault) = match refusal {
         Refusal::Source(fault) => ("", fault),
         Refusal::Made(fault) => (" with its annotations", fault),
         Refusal::Program(fault) => {
             return match String::from_str(rt.alloc(), path) {
-                Ok(file) => refused(rt, &fault, from_ref(&file)),
-                Err(_error) => NoSource::Memory,
+                Ok(file) => refused(rt, fault, from_ref(&file)),
+                Err(_error) => NO_MEMORY,
             };
         }
     };
+    let AsmFault { line, cause } = *fault;
     if matches!(cause, Cause::Memory(_)) {
-        return NoSource::Memory;
+        return NO_MEMORY;
     }
     let meaning = meaning(cause);
     let _ = eprintln!(rt; "{path}{made}:{line}: refused: {cause}, {meaning}");
-    NoSource::Refused
+    REFUSED
 }
 
-/// Tells each note, and writes the source.
-fn finish(
-    rt: &HostRuntime,
-    words: &Words<'_>,
-    path: &str,
-    made: &Annotated,
-) -> Result<u8, NoSource> {
-    for note in made.notes.as_slice() {
-        tell(rt, &note.shown(path));
-    }
-    write_source(rt, words, !made.notes.is_empty(), made.text.as_slice())
-}
-
-/// Gives the source at a path its annotations, and gives the exit status.
-pub fn perform(rt: &HostRuntime, words: &Words<'_>, path: &str) -> Result<u8, NoSource> {
-    let bytes = bytes_of(rt, path)?;
-    match annotate(rt.alloc(), path, bytes.as_slice()) {
-        Ok(made) => finish(rt, words, path, &made),
-        Err(refusal) => Err(tell_refusal(rt, path, refusal)),
+/// Gives the source at a path its annotations, tells each note, and gives the exit status.
+pub fn perform(rt: &HostRuntime, words: &Words<'_>, path: &str) -> u8 {
+    let bytes = match bytes_of(rt, path) {
+        Ok(bytes) => bytes,
+        Err(status) => return status,
+    };
+    let (alloc, source) = (rt.alloc(), bytes.as_slice());
+    let found = match find(alloc, source) {
+        Ok(found) => found,
+        Err(refusal) => return tell_refusal(rt, path, &refusal),
+    };
+    let (additions, totals) = (found.additions.as_slice(), found.totals.as_slice());
+    match annotate(alloc, source, additions, totals) {
+        Ok(made) => {
+            for Note { line, asked } in found.notes.as_slice() {
+                let _ = eprintln!(rt; "{path}:{line}: note: {asked}");
+            }
+            write_source(rt, words, !found.notes.is_empty(), made.as_slice())
+        }
+        Err(refusal) => tell_refusal(rt, path, &refusal),
     }
 }

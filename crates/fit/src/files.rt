@@ -3,7 +3,6 @@ use crate::words::Words;
 use fit_passes::{Fault, Reason};
 use fit_text::FaultLine;
 use sbx_put::put_through;
-use std::fmt::Display;
 use std::fs::File;
 use std::io::{ErrorKind, Read};
 use std::{fs, io};
@@ -11,42 +10,35 @@ use std::{fs, io};
 /// The most bytes that a file may have.
 const MOST: u64 = 64_000_000;
 
-/// Why there is no source.
-#[derive(Drop)]
-pub enum NoSource {
-    /// The program is refused, or a file is too long, which was told.
-    Refused,
-    /// A file can't be read or written, which was told.
-    File,
-    /// Memory was refused.
-    Memory,
-}
+/// The exit status where the program is refused, or a file is too long, which was told.
+pub const REFUSED: u8 = 2;
 
-/// Tells one line.
-pub fn tell<D: Display>(rt: &HostRuntime, line: &D) {
-    let _ = eprintln!(rt; "{line}");
-}
+/// The exit status where a file can't be read or written, which was told.
+const NO_FILE: u8 = 4;
 
-/// Tells a fault of a program whose lines name these files.
-pub fn refused(rt: &HostRuntime, fault: &Fault, files: &[String]) -> NoSource {
+/// The exit status where memory was refused, which is told at the end.
+pub const NO_MEMORY: u8 = 5;
+
+/// Tells a fault of a program whose lines name these files, and gives the exit status.
+pub fn refused(rt: &HostRuntime, fault: &Fault, files: &[String]) -> u8 {
     if matches!(fault.reason, Reason::Memory(_)) {
-        return NoSource::Memory;
+        return NO_MEMORY;
     }
-    tell(rt, &FaultLine { fault, files });
-    NoSource::Refused
+    let _ = rt.eprintln(&FaultLine { fault, files });
+    REFUSED
 }
 
-/// Tells that the file at a path can't be read or written; want of memory is told later.
-pub fn failed(rt: &HostRuntime, path: &str, error: &io::Error) -> NoSource {
+/// Tells that the file at a path can't be read or written, and gives the exit status.
+pub fn failed(rt: &HostRuntime, path: &str, error: &io::Error) -> u8 {
     if matches!(error.kind(), ErrorKind::OutOfMemory) {
-        return NoSource::Memory;
+        return NO_MEMORY;
     }
     let _ = eprintln!(rt; "{path}: can't be read or written");
-    NoSource::File
+    NO_FILE
 }
 
-/// All bytes of the file at a path; what is wrong with it is told.
-pub fn bytes_of(rt: &HostRuntime, path: &str) -> Result<Vec<u8>, NoSource> {
+/// All bytes of the file at a path. What is wrong with it is told: the exit status of that.
+pub fn bytes_of(rt: &HostRuntime, path: &str) -> Result<Vec<u8>, u8> {
     let file: File = match fs::open(rt, path) {
         Ok(file) => file,
         Err(error) => return Err(failed(rt, path, &error)),
@@ -55,7 +47,7 @@ pub fn bytes_of(rt: &HostRuntime, path: &str) -> Result<Vec<u8>, NoSource> {
     match file.take(MOST).read_to_end(&mut bytes) {
         Ok(_count) if bytes.len() as u64 == MOST => {
             let _ = eprintln!(rt; "{path}: refused: {MOST} bytes and more");
-            Err(NoSource::Refused)
+            Err(REFUSED)
         }
         Ok(_count) => Ok(bytes),
         Err(error) => Err(failed(rt, path, &error)),
@@ -65,14 +57,9 @@ pub fn bytes_of(rt: &HostRuntime, path: &str) -> Result<Vec<u8>, NoSource> {
 /// Writes a source to the file that words name, or to standard output where they name none or `-`, and gives the exit
 /// status; what is wrong with the file is told. Where something isn't shown, and the words say that this is an error,
 /// none is written.
-pub fn write_source(
-    rt: &HostRuntime,
-    words: &Words<'_>,
-    has_lacks: bool,
-    text: &[u8],
-) -> Result<u8, NoSource> {
+pub fn write_source(rt: &HostRuntime, words: &Words<'_>, has_lacks: bool, text: &[u8]) -> u8 {
     if words.is_strict && has_lacks {
-        return Ok(1);
+        return 1;
     }
     let written = match words.out {
         None | Some("-") => put_through(&mut rt.stdout(), text),
@@ -85,7 +72,7 @@ pub fn write_source(
         },
     };
     match written {
-        Ok(()) => Ok(0),
-        Err(error) => Err(failed(rt, words.out.unwrap_or("standard output"), &error)),
+        Ok(()) => 0,
+        Err(error) => failed(rt, words.out.unwrap_or("standard output"), &error),
     }
 }

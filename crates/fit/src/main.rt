@@ -5,7 +5,7 @@ mod annotate;
 mod files;
 mod words;
 
-use files::{NoSource, bytes_of, failed, refused, tell, write_source};
+use files::{NO_MEMORY, bytes_of, failed, refused, write_source};
 use fit_gas::Source;
 use fit_legal::program_of;
 use fit_passes::{Fault, Made, Plan, Reason, make};
@@ -14,8 +14,8 @@ use std::alloc::Global;
 use std::process::ExitCode;
 use words::{TURNS, USAGE, Words};
 
-/// Reads the sources that words name.
-fn read_sources(rt: &HostRuntime, words: &Words<'_>, source: &mut Source) -> Result<(), NoSource> {
+/// Reads the sources that words name. What is wrong with one is told: the exit status of that.
+fn read_sources(rt: &HostRuntime, words: &Words<'_>, source: &mut Source) -> Result<(), u8> {
     for path in words.sources.as_slice() {
         let bytes = bytes_of(rt, path)?;
         if let Err(fault) = source.read(path, bytes.as_slice()) {
@@ -53,62 +53,61 @@ fn make_source(alloc: Global, source: &Source, words: &Words<'_>) -> Result<Made
     attempt(alloc, source, Plan { has_bounds, ..plan })
 }
 
-/// Tells each test, and writes the source.
-fn finish(rt: &HostRuntime, words: &Words<'_>, made: &Made) -> Result<u8, NoSource> {
+/// Tells each test, and writes the source; gives the exit status.
+fn finish(rt: &HostRuntime, words: &Words<'_>, made: &Made) -> u8 {
     for test in made.tests.as_slice() {
-        tell(rt, &test.shown(&made.program));
+        let _ = rt.eprintln(&test.shown(&made.program));
     }
     write_source(rt, words, !made.tests.is_empty(), made.text.as_bytes())
 }
 
 /// Makes one source of assembly, and gives the exit status.
-fn perform(rt: &HostRuntime, words: &Words<'_>) -> Result<u8, NoSource> {
+fn perform(rt: &HostRuntime, words: &Words<'_>) -> u8 {
     let mut source = Source::new(rt.alloc());
-    read_sources(rt, words, &mut source)?;
-    match make_source(rt.alloc(), &source, words) {
-        Ok(made) => finish(rt, words, &made),
-        Err(fault) => Err(refused(rt, &fault, source.files.as_slice())),
+    match read_sources(rt, words, &mut source) {
+        Ok(()) => match &make_source(rt.alloc(), &source, words) {
+            Ok(made) => finish(rt, words, made),
+            Err(fault) => refused(rt, fault, source.files.as_slice()),
+        },
+        Err(status) => status,
     }
 }
 
 /// Does what the words ask for, and gives the exit status: 3 where they ask for nothing, and are told what they may be.
-fn answer(rt: &HostRuntime, all: &[String]) -> Result<u8, NoSource> {
+fn answer(rt: &HostRuntime, all: &[String]) -> u8 {
     let (is_annotate, all) = match all {
         [first, others @ ..] if first.as_str() == "annotate" => (true, others),
         _ => (false, all),
     };
     let mut words = Words {
         sources: Vec::new(rt.alloc()),
+        lacks: false,
         out: None,
         turns: None,
         is_strict: false,
         by_region: false,
     };
-    let is_taken = words.take(all)?;
+    let is_taken = words.take(all);
     match words.sources.as_slice() {
+        _ if words.lacks => NO_MEMORY,
         [source] if is_taken & is_annotate && words.turns.is_none() && !words.by_region => {
             annotate::perform(rt, &words, *source)
         }
         [_, ..] if is_taken & !is_annotate && words.out.is_some() => perform(rt, &words),
         _ => {
-            let _ = eprint!(rt; "{USAGE}");
-            Ok(3)
+            let _ = rt.eprint(USAGE);
+            3
         }
     }
 }
 
 fn main(rt: HostRuntime) -> ExitCode {
-    let done = match command_words(&rt) {
+    let status = match command_words(&rt) {
         Ok(words) => answer(&rt, words.as_slice()),
-        Err(error) => Err(failed(&rt, "the command line", &error)),
+        Err(error) => failed(&rt, "the command line", &error),
     };
-    ExitCode::from(match done {
-        Ok(status) => status,
-        Err(NoSource::Refused) => 2,
-        Err(NoSource::File) => 4,
-        Err(NoSource::Memory) => {
-            tell(&rt, &"memory");
-            5
-        }
-    })
+    if status == NO_MEMORY {
+        let _ = rt.eprintln("memory");
+    }
+    ExitCode::from(status)
 }

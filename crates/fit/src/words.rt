@@ -1,5 +1,4 @@
 //! What the words of a command line ask for.
-use crate::files::NoSource;
 
 /// The turns that a program's loops may take where the words say nothing.
 pub const TURNS: u64 = 1_000_000_000;
@@ -33,6 +32,8 @@ Status 0: made. 1: a test would be added, or something isn't shown, and --strict
 #[derive(Drop)]
 pub struct Words<'a> {
     pub sources: Vec<&'a str>,
+    /// Whether memory was refused, so that a source lacks.
+    pub lacks: bool,
     pub out: Option<&'a str>,
     pub turns: Option<u64>,
     pub is_strict: bool,
@@ -40,47 +41,43 @@ pub struct Words<'a> {
 }
 
 /// What the next word is.
-#[derive(Drop)]
+#[derive(Clone, Copy)]
 enum Next {
     Any,
     Out,
     Turns,
+    /// Nothing, as a word before it has no place.
+    Nothing,
 }
 
 impl<'a> Words<'a> {
-    /// Takes a word, and says what the one after it is; nothing where it has no place.
-    fn take_word(&mut self, next: Next, word: &'a str) -> Result<Option<Next>, NoSource> {
-        match (next, word) {
-            (Next::Out, out) if self.out.is_none() => self.out = Some(out),
-            (Next::Turns, turns) => match turns.parse::<u64>() {
-                Ok(turns) if 0 < turns && turns <= MOST && self.turns.is_none() => {
-                    self.turns = Some(turns);
-                }
-                _ => return Ok(None),
+    /// Takes a word, and says what the one after it is.
+    fn take_word(&mut self, next: Next, word: &'a str) -> Next {
+        match next {
+            Next::Any => match word {
+                "-o" => return Next::Out,
+                "--turns" => return Next::Turns,
+                "--strict" => self.is_strict = true,
+                "--region" => self.by_region = true,
+                _ if matches!(word.as_bytes(), [b'-', ..]) => return Next::Nothing,
+                source => self.lacks |= self.sources.push(source).is_err(),
             },
-            (Next::Any, "-o") => return Ok(Some(Next::Out)),
-            (Next::Any, "--turns") => return Ok(Some(Next::Turns)),
-            (Next::Any, "--strict") => self.is_strict = true,
-            (Next::Any, "--region") => self.by_region = true,
-            (Next::Any, source) if !matches!(source.as_bytes(), [b'-', ..]) => {
-                if self.sources.push(source).is_err() {
-                    return Err(NoSource::Memory);
-                }
-            }
-            _ => return Ok(None),
+            Next::Out if self.out.is_none() => self.out = Some(word),
+            Next::Turns if self.turns.is_none() => match word.parse::<u64>() {
+                Ok(turns) if 0 < turns && turns <= MOST => self.turns = Some(turns),
+                _ => return Next::Nothing,
+            },
+            _ => return Next::Nothing,
         }
-        Ok(Some(Next::Any))
+        Next::Any
     }
 
     /// Takes the words after the program's name, or those after `annotate`; says whether each has a place.
-    pub fn take(&mut self, words: &'a [String]) -> Result<bool, NoSource> {
+    pub fn take(&mut self, words: &'a [String]) -> bool {
         let mut next = Next::Any;
         for word in words {
-            match self.take_word(next, word.as_str())? {
-                Some(found) => next = found,
-                None => return Ok(false),
-            }
+            next = self.take_word(next, word.as_str());
         }
-        Ok(matches!(next, Next::Any))
+        matches!(next, Next::Any)
     }
 }

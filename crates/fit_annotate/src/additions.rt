@@ -1,9 +1,9 @@
 //! The annotations that a source hasn't got yet, and where they stand; and what isn't shown of it.
-use crate::annotation::{Addition, Annotation, Total, Value};
 use crate::lines::{CellLine, Head};
 use crate::notes::{Asked, Note};
 use fit_code::Memory;
 use fit_fuel::Total as Taken;
+use fit_kept::{Addition, Annotation, Total, Value};
 use fit_ranges::Ranges;
 use fit_text::BlockNotes;
 use sbx_image::{Cell, Function, Range};
@@ -28,7 +28,8 @@ pub struct Known<'k> {
 
 /// What is put into a source, and what its author is told.
 #[derive(Drop)]
-pub struct Added {
+pub struct Found {
+    /// Both ascend by line, and so do the notes.
     pub additions: Vec<Addition>,
     pub totals: Vec<Total>,
     pub notes: Vec<Note>,
@@ -36,17 +37,19 @@ pub struct Added {
     pub memory: Memory,
 }
 
-/// The line before which the cell of a location stands in a block that has these; none where the source has it.
+/// The line before which the cell of a location stands in a block, beside those of the source, or none where the source
+/// has it.
 fn place_of_cell(head: &Head, cells: &[CellLine], location: u16) -> Option<u32> {
-    for said in cells {
-        if said.location >= location {
+    for place in head.first_cell..head.next_cell {
+        if place < cells.len() && cells[place].location >= location {
+            let said = cells[place];
             return (said.location > location).then_some(said.line);
         }
     }
     Some(head.last_cell.saturating_add(1))
 }
 
-impl Added {
+impl Found {
     /// Notes what isn't shown at a line.
     pub fn note(&mut self, line: u32, asked: Asked) {
         self.memory.push(&mut self.notes, Note { line, asked });
@@ -77,9 +80,8 @@ impl Added {
         self.memory.push(&mut self.additions, addition);
     }
 
-    /// Adds the cells of a block that the source hasn't got.
+    /// Adds the cells of a block that the source hasn't got, whose own stand here.
     fn add_cells(&mut self, said: &[CellLine], head: &Head, cells: &[Cell]) {
-        let said = said.get(head.first_cell..head.next_cell).unwrap_or(&[]);
         for cell in cells {
             if let Some(before) = place_of_cell(head, said, cell.location) {
                 let value = Value::Range(cell.range);
@@ -100,7 +102,7 @@ impl Added {
 
     /// Adds params or results behind a line, of which the source says so many already.
     fn add_ranges(&mut self, line: u32, name: &'static str, said: usize, ranges: &[Range]) {
-        for range in ranges.get(said..).unwrap_or(&[]) {
+        for range in &ranges[said.min(ranges.len())..] {
             self.push(line.saturating_add(1), name, None, Value::Range(*range));
         }
     }
@@ -109,13 +111,7 @@ impl Added {
     /// tells depths and not this one; what it takes for granted and gives back, as far as the source hasn't got it; and
     /// what it hasn't got of each block. What stands before one line stands in the order in which it is added.
     pub fn add_function(&mut self, known: &Known<'_>) {
-        let Known {
-            said,
-            taken,
-            ranges,
-            number,
-            ..
-        } = *known;
+        let (said, taken, ranges) = (known.said, known.taken, known.ranges);
         if let [head, ..] = known.heads {
             let (line, room, budget) = (head.line as usize, taken.room, taken.budget.unwrap_or(0));
             if (said.budget != budget) | (u64::from(said.stack_room) != room) {
@@ -126,17 +122,17 @@ impl Added {
                 let depth = Value::Number(i64::try_from(taken.depth).unwrap_or(i64::MAX));
                 self.push(head.line.saturating_add(1), ".depth ", None, depth);
             }
-            let params = ranges.params(number);
+            let params = ranges.params(known.number);
             self.add_ranges(head.last_param, ".param ", said.params.len(), params);
             let results = ranges.results();
-            if number < results.len() {
-                let results = results[number].as_slice();
+            if known.number < results.len() {
+                let results = results[known.number].as_slice();
                 self.add_ranges(head.last_result, ".result ", said.results.len(), results);
             }
         }
         for (block, head) in known.heads.iter().enumerate() {
             if block > 0
-                && let Some(cells) = ranges.cells(number, block)
+                && let Some(cells) = ranges.cells(known.number, block)
             {
                 self.add_cells(known.cells, head, cells);
             }

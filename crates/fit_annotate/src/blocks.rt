@@ -1,29 +1,66 @@
 //! The steps of a block, and what ends it.
-use crate::lines::Read;
+use crate::program::Read;
 use fit_code::{Block, End, Line, Step};
-use sbx_image::{Image, Kind};
+use sbx_image::{Function, Image, Kind};
 use std::mem::replace;
 use v8_formats::{Branch, Cond, Instr, Operand, Reg, Three, Trap, decode};
 use v8_map::CODE_START;
 use v8_meaning::{Operation, is_admitted, is_ret, operation_of, target};
 
-/// A function of an image that is read, and a word of it.
-#[derive(Drop)]
+/// A block of an image that is read.
+#[derive(Clone, Copy)]
 struct Reading<'r> {
-    /// Where it is put down.
-    read: &'r mut Read,
     image: &'r Image,
-    function: &'r sbx_image::Function,
+    function: &'r Function,
+    /// Of each word of the code its line.
+    lines: &'r [u32],
     /// The numbers of the function and of the block.
     own: usize,
     number: usize,
-    /// The address of the word, and that behind the block.
-    address: u32,
+    /// The address behind the block.
     stop: u32,
-    /// What the block's end has in its slot, on each way.
-    slot: Option<Instr>,
-    /// How many turns the block weighs less than its steps and its end.
-    spared: u64,
+}
+
+/// What has no place in a program.
+#[derive(Clone, Copy)]
+pub enum What {
+    NoSlot,
+    Slot,
+    Branch,
+    Return,
+    Call,
+    First,
+    Instruction,
+    Past,
+    Block,
+}
+
+/// What is told of each `What`, in their order.
+pub static TOLD: [&str; 9] = [
+    "its delay slot is another block's, or there is none: a block begins behind it",
+    "an instruction that a delay slot may not have",
+    "a branch goes where no `.block` of its function begins",
+    "a framed function returns by `ret` and `restore`, a leaf by `retl`",
+    "a call goes to no function that stands behind its own",
+    "a framed function has a frame and begins with `save`, a leaf has none",
+    "an instruction that sandboxed code may not have here",
+    "control goes past the function's last word",
+    "a block begins here: write a `.block`",
+];
+
+/// The address of what has no place in a program, and what it is. What would be read from there on is of no use.
+#[derive(Clone, Copy)]
+struct Wrong(u32, What);
+
+/// What a word of a block is.
+#[derive(Clone, Copy)]
+enum Word {
+    /// The SAVE of a function.
+    Save,
+    Step(Step),
+    /// How the block ends, what its end has in its slot, and whether that is for the way alone on which a branch is
+    /// taken.
+    End(End, Option<Instr>, bool),
 }
 
 /// `%g0,%g0,%g0`, which a leaf's return has.
@@ -53,16 +90,8 @@ impl Reading<'_> {
     /// The line of the word at an address.
     fn line(&self, address: u32) -> Line {
         let place = address.wrapping_sub(CODE_START) / 4;
-        let number = self.read.words.get(place as usize).copied().unwrap_or(0);
+        let number = self.lines.get(place as usize).copied().unwrap_or(0);
         Line { file: 0, number }
-    }
-
-    /// Notes what has no place in a program, by its address, of which the first is told. What is read from there on is
-    /// of no use.
-    fn refuse(&mut self, address: u32, what: &'static str) {
-        if self.read.wrong.is_none() {
-            self.read.wrong = Some((self.line(address), what));
-        }
     }
 
     /// The instruction at an address of the block.
@@ -76,241 +105,244 @@ impl Reading<'_> {
         }
     }
 
-    /// Adds a step: an instruction at an address or, of a callee, a call with this in its slot.
-    fn push_step(
-        &mut self,
-        address: u32,
-        instr: Instr,
-        callee: Option<usize>,
-        slot: Option<Instr>,
-    ) {
-        let step = Step {
-            instr,
-            line: self.line(address),
-            callee,
-            object: None,
-            slot,
-        };
-        let read = &mut *self.read;
-        read.memory.push(&mut read.steps, step);
+    /// The instruction in the slot of a transfer at an address; none where it does nothing. That of a return may be
+    /// any.
+    fn slot(&self, address: u32, returns: bool) -> Result<Option<Instr>, Wrong> {
+        let behind = address.saturating_add(4);
+        match self.instr(behind) {
+            Some(Instr::Sethi(fields)) if fields.rd == Reg::G0 => Ok(None),
+            Some(instr) if returns | is_plain(&instr) => Ok(Some(instr)),
+            Some(_) => Err(Wrong(behind, What::Slot)),
+            None => Err(Wrong(address, What::NoSlot)),
+        }
     }
 
-    /// The instruction in the slot of a transfer; none where it does nothing.
-    fn slot(&mut self) -> Option<Instr> {
-        match self.instr(self.address.saturating_add(4)) {
-            Some(Instr::Sethi(fields)) if fields.rd == Reg::G0 => None,
-            Some(instr) => Some(instr),
-            None => {
-                let what =
-                    "its delay slot is another block's, or there is none: a block begins behind it";
-                self.refuse(self.address, what);
-                None
+    /// A branch at an address. A jump to the next block is the way on, which has no words of its own, so one that is
+    /// always taken has two ways there.
+    fn branch(&self, address: u32, branch: Branch) -> Result<Word, Wrong> {
+        let (to, blocks) = (
+            target(address, branch.displacement),
+            self.function.blocks.as_slice(),
+        );
+        let mut taken = 0;
+        for (number, block) in blocks.iter().enumerate() {
+            if block.address == to {
+                taken = number;
             }
         }
-    }
-
-    /// The same, where it is no transfer.
-    fn plain_slot(&mut self) -> Option<Instr> {
-        let slot = self.slot();
-        if let Some(instr) = &slot
-            && !is_plain(instr)
-        {
-            let what = "an instruction that a delay slot may not have";
-            self.refuse(self.address.saturating_add(4), what);
-        }
-        slot
-    }
-
-    /// The block that begins at an address; the first one, where no branch goes, where none does.
-    fn block_at(&self, address: u32) -> usize {
-        for (number, block) in self.function.blocks.as_slice().iter().enumerate() {
-            if block.address == address {
-                return number;
-            }
-        }
-        0
-    }
-
-    /// A branch. A jump to the next block is the way on, which has no words of its own, so one that is always taken has
-    /// two ways there. A slot that is annulled where the branch isn't taken becomes a block of its own.
-    fn branch(&mut self, branch: Branch) -> End {
-        let Branch { cond, annul, .. } = branch;
-        let mut taken = self.block_at(target(self.address, branch.displacement));
         if taken == 0 {
-            let what = "a branch goes where no `.block` of its function begins";
-            self.refuse(self.address, what);
+            // no branch goes to the first one
+            return Err(Wrong(address, What::Branch));
         }
-        let slot = self.plain_slot();
-        let next = self.number.saturating_add(1);
+        let mut slot = self.slot(address, false)?;
+        let Branch { cond, annul, .. } = branch;
         let is_jump = cond == Cond::Always;
-        if !annul {
-            self.slot = slot;
-        } else if !is_jump & slot.is_some() {
-            let line = self.line(self.address);
-            let read = &mut *self.read;
-            let block = Block {
-                steps: Vec::new(read.memory.alloc),
-                end: End::Jump(taken),
-                slot,
-                line,
-            };
-            taken = self.function.blocks.len().saturating_add(read.slots.len());
-            read.memory.push(&mut read.slots, block);
+        if is_jump & annul {
+            slot = None;
         }
+        let next = self.number.saturating_add(1);
         if is_jump & (taken != next) {
-            End::Jump(taken)
-        } else {
-            End::Branch { cond, taken, next }
+            return Ok(Word::End(End::Jump(taken), slot, false));
         }
+        if next >= blocks.len() {
+            return Err(Wrong(address, What::Past));
+        }
+        Ok(Word::End(End::Branch { cond, taken, next }, slot, annul))
     }
 
-    /// A return.
-    fn returned(&mut self, framed: bool) -> End {
+    /// A return at an address.
+    fn returned(&self, address: u32, framed: bool) -> Result<Word, Wrong> {
         let is_framed = self.function.frame > 0;
-        let slot = self.slot();
-        if framed & is_framed
-            && let Some(Instr::Restore(fields)) = slot
-        {
-            return End::Return(fields);
-        }
+        let slot = self.slot(address, true)?;
         let mut is_wrong = framed | is_framed;
-        if let Some(instr) = slot {
-            is_wrong |= !is_plain(&instr);
-            self.push_step(self.address.saturating_add(4), instr, None, None);
-            self.spared = 1;
+        if let Some(instr) = &slot {
+            if framed & is_framed
+                && let Instr::Restore(fields) = instr
+            {
+                return Ok(Word::End(End::Return(*fields), None, false));
+            }
+            is_wrong |= !is_plain(instr);
         }
         if is_wrong {
-            let what = "a framed function returns by `ret` and `restore`, a leaf by `retl`";
-            self.refuse(self.address, what);
+            return Err(Wrong(address, What::Return));
         }
-        End::Return(NO_FIELDS)
+        Ok(Word::End(End::Return(NO_FIELDS), slot, false))
     }
 
-    /// A call with its slot.
-    fn call(&mut self, displacement: u32) {
-        let address = target(self.address, displacement);
+    /// A call at an address, with its slot.
+    fn call(&self, address: u32, displacement: u32) -> Result<Word, Wrong> {
+        let to = target(address, displacement);
         let mut callee = 0;
         for (number, function) in self.image.functions().iter().enumerate() {
-            if function.entry == address {
+            if function.entry == to {
                 callee = number;
             }
         }
         if callee <= self.own {
-            let what = "a call goes to no function that stands behind its own";
-            self.refuse(self.address, what);
+            return Err(Wrong(address, What::Call));
         }
-        let slot = self.plain_slot();
-        self.push_step(self.address, Instr::Call(0), Some(callee), slot);
-        self.address = self.address.saturating_add(4);
+        Ok(Word::Step(Step {
+            instr: Instr::Call(0),
+            line: self.line(address),
+            callee: Some(callee),
+            object: None,
+            slot: self.slot(address, false)?,
+        }))
     }
 
-    /// Takes over an instruction of the block, and gives the block's end, if it is one. The function's first word has
-    /// to be what its kind asks for: SAVE of a framed one, which has a frame with it.
-    fn word(&mut self, instr: Instr) -> Option<End> {
-        let (address, function) = (self.address, self.function);
+    /// An instruction at an address. The function's first word has to be what its kind asks for: SAVE of a framed one,
+    /// which has a frame with it.
+    fn word(&self, address: u32, instr: Instr) -> Result<Word, Wrong> {
+        let function = self.function;
         let operation = operation_of(&instr);
         let saves = matches!(operation, Operation::Save(_));
         let is_first = address == function.entry;
         let framed = function.kind == Kind::Framed;
-        let is_elsewhere = matches!(operation, Operation::Restore(_)) | (saves & !is_first);
         if is_first & ((framed != saves) | (framed != (function.frame > 0))) {
-            let what = "a framed function has a frame and begins with `save`, a leaf has none";
-            self.refuse(address, what);
-        } else if !is_admitted(&operation) | is_elsewhere {
-            let what = "an instruction that sandboxed code may not have here";
-            self.refuse(address, what);
+            return Err(Wrong(address, What::First));
+        }
+        let is_elsewhere = matches!(operation, Operation::Restore(_)) | (saves & !is_first);
+        if !is_admitted(&operation) | is_elsewhere {
+            return Err(Wrong(address, What::Instruction));
         }
         match operation {
-            Operation::BranchOnCondition(branch) => return Some(self.branch(branch)),
-            Operation::JumpAndLink(fields) => return Some(self.returned(is_ret(&fields))),
+            Operation::BranchOnCondition(branch) => self.branch(address, branch),
+            Operation::JumpAndLink(fields) => self.returned(address, is_ret(&fields)),
             Operation::TrapOnCondition(
                 Trap {
                     operand2: Operand::Immediate(0),
                     ..
                 },
-            ) => return Some(End::Exit),
-            Operation::Call(displacement) => self.call(displacement),
-            Operation::Save(_) => {}
-            _ => self.push_step(address, instr, None, None),
+            ) => Ok(Word::End(End::Exit, None, false)),
+            Operation::Call(displacement) => self.call(address, displacement),
+            Operation::Save(_) => Ok(Word::Save),
+            _ => Ok(Word::Step(self.step(address, instr))),
         }
-        None
     }
 
-    /// Reads a block. Where its end goes on there has to be a next one, and where its end has words, another block has
-    /// to begin behind them.
-    fn read_block(&mut self) {
-        let mut found = None;
-        for _ in 0..self.stop.saturating_sub(self.address) / 4 {
-            if let Some(instr) = self.instr(self.address) {
-                found = self.word(instr);
-            }
-            if found.is_some() {
-                break;
-            }
-            self.address = self.address.saturating_add(4);
+    /// A step that is no call.
+    fn step(&self, address: u32, instr: Instr) -> Step {
+        Step {
+            instr,
+            line: self.line(address),
+            callee: None,
+            object: None,
+            slot: None,
         }
-        let (end, width) = match found {
-            Some(End::Exit) => (End::Exit, 4),
-            Some(end) => (end, 8),
-            None => {
-                // it goes on behind its last word
-                self.address = self.stop.saturating_sub(4);
-                (End::Jump(self.number.saturating_add(1)), 4)
+    }
+
+    /// Ends a block by the word at an address: adds it, without its slot where that isn't one of each way.
+    fn end_block(
+        &self,
+        address: u32,
+        (mut end, mut slot, is_apart): (End, Option<Instr>, bool),
+        read: &mut Read,
+    ) {
+        let (alloc, line) = (read.memory.alloc, self.line(address));
+        let mut spared = 0;
+        match (end, slot) {
+            (End::Branch { cond, taken, next }, Some(_)) if is_apart => {
+                // what is done on one way alone is a block of its own
+                let block = Block {
+                    steps: Vec::new(alloc),
+                    end: End::Jump(taken),
+                    slot: replace(&mut slot, None),
+                    line,
+                };
+                let taken = self.function.blocks.len().saturating_add(read.slots.len());
+                end = End::Branch { cond, taken, next };
+                read.memory.push(&mut read.slots, block);
             }
-        };
-        let behind = self.address.saturating_add(width);
-        if let End::Jump(next) | End::Branch { next, .. } = end
-            && next >= self.function.blocks.len()
-        {
-            self.refuse(self.address, "control goes past the function's last word");
-        } else if behind < self.stop {
-            self.refuse(behind, "a block begins here: write a `.block`");
+            (End::Return(_), Some(instr)) => {
+                slot = None;
+                spared = 1;
+                let step = self.step(address.saturating_add(4), instr);
+                read.memory.push(&mut read.steps, step);
+            }
+            _ => {}
         }
-        let (slot, line) = (self.slot, self.line(self.address));
-        let read = &mut *self.read;
         let block = Block {
-            steps: replace(&mut read.steps, Vec::new(read.memory.alloc)),
+            steps: replace(&mut read.steps, Vec::new(alloc)),
             end,
             slot,
             line,
         };
         read.memory.push(&mut read.blocks, block);
-        read.memory.push(&mut read.weights, self.spared);
+        read.memory.push(&mut read.weights, spared);
+    }
+
+    /// Reads a block from its first word on, at an address. Where control goes on there has to be a next one, and where
+    /// its end has words, another block has to begin behind them.
+    fn read_block(&self, first: u32, read: &mut Read) -> Result<(), Wrong> {
+        let mut address = first;
+        for _ in 0..self.stop.saturating_sub(first) / 4 {
+            let Some(instr) = self.instr(address) else {
+                break;
+            };
+            match self.word(address, instr)? {
+                Word::Save => {}
+                Word::Step(step) => {
+                    read.memory.push(&mut read.steps, step);
+                    if step.callee.is_some() {
+                        // its slot
+                        address = address.saturating_add(4);
+                    }
+                }
+                Word::End(end, slot, is_apart) => {
+                    let width = if matches!(end, End::Exit) { 4 } else { 8 };
+                    let behind = address.saturating_add(width);
+                    if behind < self.stop {
+                        return Err(Wrong(behind, What::Block));
+                    }
+                    self.end_block(address, (end, slot, is_apart), read);
+                    return Ok(());
+                }
+            }
+            address = address.saturating_add(4);
+        }
+        // it goes on behind its last word
+        let (next, last) = (self.number.saturating_add(1), self.stop.saturating_sub(4));
+        if next >= self.function.blocks.len() {
+            return Err(Wrong(last, What::Past));
+        }
+        self.end_block(last, (End::Jump(next), None, false), read);
+        Ok(())
     }
 }
 
-/// Reads the function of a number. Behind its own blocks come those that are slots: such a slot counts at both places,
-/// so that blocks weigh less.
-pub fn read_function(read: &mut Read, image: &Image, own: usize, function: &sbx_image::Function) {
+/// Reads the blocks of a function, which has a number. Those that are slots come apart: such a slot counts at both
+/// places, so that blocks weigh less. Gives the first word that has no place in a program, by its line.
+pub fn read_function(
+    read: &mut Read,
+    lines: &[u32],
+    image: &Image,
+    (own, function): (usize, &Function),
+) -> Option<(Line, What)> {
     let (functions, next) = (image.functions(), own.saturating_add(1));
     let behind = if next < functions.len() {
         functions[next].entry
     } else {
         CODE_START.saturating_add(image.word_count().saturating_mul(4))
     };
-    let mut reading = Reading {
-        read,
-        image,
-        function,
-        own,
-        number: 0,
-        address: 0,
-        stop: 0,
-        slot: None,
-        spared: 0,
-    };
     let blocks = function.blocks.as_slice();
     for (number, block) in blocks.iter().enumerate() {
         let next = number.saturating_add(1);
-        (reading.slot, reading.spared) = (None, 0);
-        reading.number = number;
-        reading.address = block.address;
-        reading.stop = if next < blocks.len() {
+        let stop = if next < blocks.len() {
             blocks[next].address
         } else {
             behind
         };
-        reading.read_block();
+        let reading = Reading {
+            image,
+            function,
+            lines,
+            own,
+            number,
+            stop,
+        };
+        if let Err(Wrong(address, what)) = reading.read_block(block.address, read) {
+            return Some((reading.line(address), what));
+        }
     }
-    reading.read.end_function(own, function);
+    None
 }

@@ -1,11 +1,5 @@
 //! What is found of a source's program beside what the source says of it.
-ghost use Rattle.std.specs.Prelude.{IfOk};
-ghost use Rattle.sbx_asm.specs.Items.{lines_of};
-ghost use Rattle.fit_kept.specs.Lines.{IsAnnotated};
-
-use crate::additions::{Added, Known};
-use crate::annotating::Annotated;
-use crate::inserting::insert;
+use crate::additions::{Found, Known};
 use crate::lines::{CellLine, Head};
 use crate::notes::{Asked, NO_CALLEE, NO_WAY};
 use fit_code::{Fault, Program, Reason};
@@ -15,14 +9,11 @@ use fit_tests::{Asking, asks_of};
 use fit_text::BlockNotes;
 use sbx_domain::State;
 use sbx_image::{Function, Image};
-use std::alloc::Global;
-use std::mem::replace;
 
 /// A source's program, and what is known of it. Its functions are looked at from the last one on, since each calls
 /// those behind it alone.
 #[derive(Drop)]
 pub struct Finding<'i, 'p, 's> {
-    pub alloc: Global,
     pub image: &'i Image,
     pub program: &'p mut Program,
     pub state: &'s mut State,
@@ -31,8 +22,6 @@ pub struct Finding<'i, 'p, 's> {
     pub spared: Vec<Vec<u64>>,
     /// What each function declares that was looked at; calls are paid for by its budget, where it is known.
     pub totals: Vec<Option<Total>>,
-    /// What the source hasn't got, and what isn't shown.
-    pub added: Added,
 }
 
 /// Whether a function of a program calls one whose budget isn't known.
@@ -42,8 +31,7 @@ fn is_waiting(program: &Program, number: usize, totals: &[Option<Total>]) -> boo
             for step in block.steps.as_slice() {
                 if let Some(callee) = step.callee
                     && callee < totals.len()
-                    && let Some(total) = totals[callee]
-                    && total.budget.is_none()
+                    && let Some(Total { budget: None, .. }) = totals[callee]
                 {
                     return true;
                 }
@@ -55,9 +43,9 @@ fn is_waiting(program: &Program, number: usize, totals: &[Option<Total>]) -> boo
 
 impl Finding<'_, '_, '_> {
     /// Notes what isn't shown of a function's steps.
-    fn note_asks(&mut self, number: usize) {
+    fn note_asks(&mut self, number: usize, found: &mut Found) {
         let asking = Asking {
-            alloc: self.alloc,
+            alloc: found.memory.alloc,
             program: self.program,
             ranges: &self.ranges,
             by_object: false,
@@ -65,17 +53,18 @@ impl Finding<'_, '_, '_> {
         match asks_of(&asking, number, self.state) {
             Ok(asks) => {
                 for ask in asks.as_slice() {
-                    self.added.note(ask.line.number, Asked::Shown(ask.lack));
+                    found.note(ask.line.number, Asked::Shown(ask.lack));
                 }
             }
-            Err(_refused) => self.added.memory.is_refused = true,
+            Err(_refused) => found.memory.is_refused = true,
         }
     }
 
     /// Notes the loops of a function, whose blocks begin here, that no counter bounds; says whether there are some.
-    fn note_loops(&mut self, number: usize, heads: &[Head]) -> bool {
-        let before = self.added.notes.len();
-        match bounds_of(self.alloc, self.program, &self.ranges, number, self.state) {
+    fn note_loops(&mut self, number: usize, heads: &[Head], found: &mut Found) -> bool {
+        let before = found.notes.len();
+        let alloc = found.memory.alloc;
+        match bounds_of(alloc, self.program, &self.ranges, number, self.state) {
             Ok(bounds) => {
                 for (place, within) in bounds.loops.iter().enumerate() {
                     if bounds.at(place).is_none() {
@@ -84,13 +73,13 @@ impl Finding<'_, '_, '_> {
                         } else {
                             0
                         };
-                        self.added.note(line, Asked::Counter);
+                        found.note(line, Asked::Counter);
                     }
                 }
             }
-            Err(_refused) => self.added.memory.is_refused = true,
+            Err(_refused) => found.memory.is_refused = true,
         }
-        self.added.notes.len() > before
+        found.notes.len() > before
     }
 
     /// Finds the fuel of a function, whose blocks begin here, of which the source says no block's, and gives the
@@ -102,16 +91,17 @@ impl Finding<'_, '_, '_> {
         line: u32,
         heads: &[Head],
         blocks: &mut Vec<BlockNotes>,
+        found: &mut Found,
     ) -> Option<u64> {
         if is_waiting(self.program, number, self.totals.as_slice()) {
-            self.added.note(line, Asked::Told(NO_CALLEE));
+            found.note(line, Asked::Told(NO_CALLEE));
             return None;
         }
         if number >= self.spared.len() {
             return None;
         }
         let task = Task {
-            alloc: self.alloc,
+            alloc: found.memory.alloc,
             ranges: &self.ranges,
             number,
             meter: None,
@@ -119,14 +109,14 @@ impl Finding<'_, '_, '_> {
             spared: self.spared[number].as_slice(),
         };
         match declare_function(self.program, &task, self.state) {
-            Ok(found) => {
-                *blocks = found.blocks;
-                Some(found.budget)
+            Ok(notes) => {
+                *blocks = notes.blocks;
+                Some(notes.budget)
             }
             Err(fault) => {
-                self.added.memory.is_refused |= matches!(fault.reason, Reason::Memory(_));
-                if !self.note_loops(number, heads) {
-                    self.added.note(line, Asked::Fuel(fault));
+                found.memory.is_refused |= matches!(fault.reason, Reason::Memory(_));
+                if !self.note_loops(number, heads, found) {
+                    found.note(line, Asked::Fuel(fault));
                 }
                 None
             }
@@ -134,7 +124,14 @@ impl Finding<'_, '_, '_> {
     }
 
     /// Takes over what is found of a function beside what the image says of it, and notes what that says too little of.
-    fn settle(&mut self, number: usize, line: u32, said: &Function, budget: Option<u64>) -> Total {
+    fn settle(
+        &mut self,
+        number: usize,
+        line: u32,
+        said: &Function,
+        budget: Option<u64>,
+        found: &mut Found,
+    ) -> Total {
         let mut total = Total {
             budget,
             room: 0,
@@ -144,20 +141,19 @@ impl Finding<'_, '_, '_> {
         if number < functions.len() {
             total = total_of(&functions[number], budget, self.totals.as_slice());
         }
-        let added = &mut self.added;
         let what = "the budget, where 0 is filled in,";
-        let least = added.taken(line, what, said.budget, budget.unwrap_or(0));
+        let least = found.taken(line, what, said.budget, budget.unwrap_or(0));
         if said.budget > 0 {
             total.budget = Some(least);
         }
         let what = "the stack room, where 0 is filled in,";
-        total.room = added.taken(line, what, u64::from(said.stack_room), total.room);
-        total.depth = added.taken(line, "the depth", u64::from(said.depth), total.depth);
+        total.room = found.taken(line, what, u64::from(said.stack_room), total.room);
+        total.depth = found.taken(line, "the depth", u64::from(said.depth), total.depth);
         if number == 0 {
             // the first frame's save area lies there, too
             let least = total.room.saturating_add(64 + 4095) / 4096;
             let pages = u64::from(self.image.stack_pages());
-            added.taken(line, "the number of `.stack`", pages, least);
+            found.taken(line, "the number of `.stack`", pages, least);
         }
         let totals = self.totals.as_mut_slice();
         if number < totals.len() {
@@ -168,7 +164,14 @@ impl Finding<'_, '_, '_> {
 
     /// Looks at a function of which the image says this, whose blocks begin here, and adds what the source hasn't got
     /// of it. What the source says of a block's fuel is taken for all of it.
-    fn look_at(&mut self, number: usize, said: &Function, heads: &[Head], cells: &[CellLine]) {
+    fn look_at(
+        &mut self,
+        number: usize,
+        said: &Function,
+        heads: &[Head],
+        cells: &[CellLine],
+        found: &mut Found,
+    ) {
         let line = match heads {
             [first, ..] => first.line,
             [] => 0,
@@ -176,17 +179,17 @@ impl Finding<'_, '_, '_> {
         let mut says_fuel = false;
         for (block, head) in heads.iter().enumerate() {
             if !self.ranges.reaches(number, block) {
-                self.added.note(head.line, Asked::Told(NO_WAY));
+                found.note(head.line, Asked::Told(NO_WAY));
             }
             says_fuel |= head.says_fuel;
         }
-        self.note_asks(number);
-        let mut blocks = Vec::new(self.alloc);
+        self.note_asks(number, found);
+        let mut blocks = Vec::new(found.memory.alloc);
         let budget = match said.blocks.as_slice() {
             [first, ..] if says_fuel => u64::try_from(first.fuel).ok(),
-            _ => self.budget_of(number, line, heads, &mut blocks),
+            _ => self.budget_of(number, line, heads, &mut blocks, found),
         };
-        let taken = self.settle(number, line, said, budget);
+        let taken = self.settle(number, line, said, budget, found);
         let known = Known {
             heads,
             cells,
@@ -197,44 +200,35 @@ impl Finding<'_, '_, '_> {
             taken,
             blocks: blocks.as_slice(),
         };
-        self.added.add_function(&known);
+        found.add_function(&known);
     }
 
-    /// Looks at all functions of a source, whose blocks begin here and whose cells stand here; and gives it with what
-    /// it hasn't got, and the notes by line.
+    /// Looks at all functions of a source, whose blocks begin here and whose cells stand here, and adds what it hasn't
+    /// got.
     ///
     /// # Errors
     /// More cells of a block than an image may say; memory.
-    pub fn annotate(
+    pub fn look(
         &mut self,
-        source: &[u8],
         heads: &[Head],
         cells: &[CellLine],
-    ) -> Result<Annotated, Fault>
-        ensures { IfOk result (λ made. IsAnnotated (lines_of source.now) (lines_of made.text.items)) }
-    {
+        found: &mut Found,
+    ) -> Result<(), Fault> {
         self.ranges.check_limits(self.program)?;
         let (functions, mut heads) = (self.image.functions(), heads);
-        self.added
-            .memory
-            .take(self.totals.resize(functions.len(), None));
         for number in (0..functions.len()).rev() {
             let said = &functions[number];
             let behind = heads.len().saturating_sub(said.blocks.len());
             let (others, own) = heads.split_at(behind);
-            self.look_at(number, said, own, cells);
+            self.look_at(number, said, own, cells, found);
             heads = others;
         }
-        let (alloc, added) = (self.alloc, &mut self.added);
-        let notes = added.notes.as_mut_slice();
+        let notes = found.notes.as_mut_slice();
         notes.sort_unstable_by_key(|note| note.line);
-        added.totals.reverse();
-        let sorted = added.additions.sort_by_key(|addition| addition.before);
-        added.memory.take(sorted);
-        added.memory.told(())?;
-        let (additions, totals) = (added.additions.as_slice(), added.totals.as_slice());
-        let text = insert(alloc, source, additions, totals)?;
-        let notes = replace(&mut added.notes, Vec::new(alloc));
-        Ok(Annotated { text, notes })
+        found.totals.reverse();
+        let sorted = found.additions.sort_by_key(|addition| addition.before);
+        found.memory.take(sorted);
+        found.memory.told(())?;
+        Ok(())
     }
 }

@@ -1,18 +1,15 @@
-//! Annotations for the project's own assembly language: a source with none, or with some, gets the rest. That nothing
-//! else of it changes is looked at by `fit_kept`, and proved.
+//! Annotations for the project's own assembly language: what a source with none, or with some, hasn't got of what is
+//! found of its program. How it is put in stands in `fit_kept`, which doesn't trust what is found.
 #![tactic(auto)]
 
 mod additions;
-mod annotating;
-mod annotation;
 mod blocks;
 mod finding;
-mod inserting;
+mod found;
 mod lines;
 mod notes;
 mod program;
 
-pub use annotating::{Annotated, Refusal, annotate};
-pub use annotation::{Addition, Annotation, Total, Value};
-pub use inserting::insert;
-pub use notes::{Asked, Note, Shown};
+pub use additions::Found;
+pub use found::find;
+pub use notes::{Asked, Note};

@@ -28,20 +28,6 @@ pub struct Note {
     pub asked: Asked,
 }
 
-/// A note as one line, with the name of its file.
-#[derive(Drop)]
-pub struct Shown<'n> {
-    note: &'n Note,
-    file: &'n str,
-}
-
-impl Note {
-    /// The note as one line.
-    pub fn shown<'n>(&'n self, file: &'n str) -> Shown<'n> {
-        Shown { note: self, file }
-    }
-}
-
 /// A range in words.
 #[derive(Clone, Copy)]
 struct Words(Range);
@@ -120,12 +106,5 @@ impl fmt::Display for Asked {
             Asked::Counter => f.write_str(NO_COUNTER),
             Asked::Told(what) => f.write_str(what),
         }
-    }
-}
-
-impl fmt::Display for Shown<'_> {
-    fn fmt<W: Write>(&self, f: &mut Formatter<W>) -> Result<(), Error> {
-        let (file, line, asked) = (self.file, self.note.line, &self.note.asked);
-        write!(f, "{file}:{line}: note: {asked}")
     }
 }

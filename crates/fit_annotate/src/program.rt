@@ -1,13 +1,32 @@
 //! A source's image as a program.
-use crate::blocks::read_function;
-use crate::lines::Read;
-use fit_code::{Fault, Object, Reason, Region};
-use sbx_image::Image;
-use std::alloc::AllocError;
+use crate::blocks::{TOLD, read_function};
+use crate::lines::{Head, Lines};
+use fit_code::{Block, Fault, Function, Line, Memory, Object, Program, Reason, Region, Step};
+use sbx_directives::text_of;
+use sbx_image::{Cell, Image};
 use std::mem::replace;
 
 /// What a block that is a slot weighs less: the branch's own block pays for it.
 const SLOT: u64 = 2;
+
+/// An image that is read.
+#[derive(Drop)]
+pub struct Read {
+    pub memory: Memory,
+    /// Each of its functions has the blocks of the source first, in their order, and behind them such as are delay
+    /// slots.
+    pub program: Program,
+    /// Of each function the turns that its blocks weigh less than their steps and their ends.
+    pub spared: Vec<Vec<u64>>,
+    /// The cells that the source says of each block of each function.
+    pub said: Vec<Vec<Vec<Cell>>>,
+    /// Of the function that is read its blocks, those that are slots, and the turns that the first ones weigh less; of
+    /// the block that is read its steps.
+    pub blocks: Vec<Block>,
+    pub slots: Vec<Block>,
+    pub weights: Vec<u64>,
+    pub steps: Vec<Step>,
+}
 
 impl Read {
     /// Takes over the data of an image, as regions and one object each.
@@ -19,8 +38,6 @@ impl Read {
             let length = u32::try_from(bytes.len()).unwrap_or(u32::MAX);
             let object = Object {
                 name: String::new(self.memory.alloc),
-                readonly,
-                align: 8,
                 bytes,
                 start,
             };
@@ -34,22 +51,29 @@ impl Read {
         }
     }
 
-    /// Ends a function of an image, of whose blocks all are read.
-    pub fn end_function(&mut self, own: usize, function: &sbx_image::Function) {
+    /// Ends a function of an image, which begins here, and of whose blocks all are read.
+    pub fn end_function(&mut self, source: &[u8], head: &Head, function: &sbx_image::Function) {
         let alloc = self.memory.alloc;
+        let mut name = String::new(alloc);
+        self.memory.take(name.push_str(str::from_utf8(text_of(source, head.name)).unwrap_or("")));
+        let mut blocks = replace(&mut self.blocks, Vec::new(alloc));
+        self.memory.take(blocks.append(&mut self.slots));
         let mut weights = replace(&mut self.weights, Vec::new(alloc));
-        let functions = self.program.functions.as_mut_slice();
-        if own < functions.len() {
-            let made = &mut functions[own];
-            made.framed = function.frame > 0;
-            made.frame = function.frame;
-            made.params = self.memory.copy(function.params.as_slice());
-            made.results = self.memory.copy(function.results.as_slice());
-            made.blocks = replace(&mut self.blocks, Vec::new(alloc));
-            self.memory.take(made.blocks.append(&mut self.slots));
-            self.memory.take(weights.resize(made.blocks.len(), SLOT));
-        }
+        self.memory.take(weights.resize(blocks.len(), SLOT));
         self.memory.push(&mut self.spared, weights);
+        let made = Function {
+            name,
+            framed: function.frame > 0,
+            frame: function.frame,
+            blocks,
+            params: self.memory.copy(function.params.as_slice()),
+            results: self.memory.copy(function.results.as_slice()),
+            line: Line {
+                file: 0,
+                number: head.line,
+            },
+        };
+        self.memory.push(&mut self.program.functions, made);
         let mut said = Vec::new(alloc);
         for block in function.blocks.as_slice() {
             let cells = self.memory.copy(block.cells.as_slice());
@@ -58,28 +82,29 @@ impl Read {
         self.memory.push(&mut self.said, said);
     }
 
-    /// Takes over a source in a file of a name, and the image that the assembler makes of it. What its params and its
+    /// Takes over the image that the assembler makes of a source, which has these lines. What its params and its
     /// results are said to be stands in its functions.
     ///
     /// # Errors
     /// The first word that has no place in a program, with its line: of an instruction that sandboxed code may not
     /// have, a transfer that ends no block or goes nowhere, a function that doesn't begin or return as its kind asks
     /// for. Want of memory.
-    pub fn take(&mut self, file: &str, source: &[u8], image: &Image) -> Result<(), Fault> {
-        self.add_lines(source);
+    pub fn take(&mut self, source: &[u8], lines: &Lines, image: &Image) -> Result<(), Fault> {
         self.add_data(image);
-        let mut name = String::new(self.memory.alloc);
-        self.memory.take(name.push_str(file));
-        self.memory.push(&mut self.program.files, name);
-        for (own, function) in image.functions().iter().enumerate() {
-            read_function(self, image, own, function);
+        let (heads, mut first) = (lines.heads.as_slice(), 0usize);
+        for function in image.functions().iter().enumerate() {
+            if let Some((line, what)) = read_function(self, lines.words.as_slice(), image, function)
+                && !self.memory.is_refused
+            {
+                let reason = Reason::Unreadable(TOLD[what as usize]);
+                return Err(Fault::new(line, reason));
+            }
+            if first < heads.len() {
+                self.end_function(source, &heads[first], function.1);
+            }
+            first = first.saturating_add(function.1.blocks.len());
         }
-        if self.memory.is_refused {
-            return Err(Fault::from(AllocError));
-        }
-        match self.wrong {
-            Some((line, what)) => Err(Fault::new(line, Reason::Unreadable(what))),
-            None => Ok(()),
-        }
+        self.memory.told(())?;
+        Ok(())
     }
 }

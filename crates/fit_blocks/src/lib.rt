@@ -11,9 +11,8 @@ mod stops;
 
 pub use blocks::{function_of, result_register};
 pub use codes::{give_one_entry, repeat_compares};
-pub use plain::{put_plainly, step_of};
+pub use plain::{push_plain, step_of};
 pub use points::{
-    Access, Layout, access_of, bit_of, fields_of, layout_of, name_of, next_register, operands_read,
-    read_by, signed, written,
+    Access, Layout, access_of, bit_of, layout_of, name_of, operands_read, registers_of, signed,
 };
 pub use stops::{Stop, Stops};

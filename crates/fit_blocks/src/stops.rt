@@ -1,6 +1,6 @@
 //! What stops the making of a program: it is noted where it is found, and told once.
 use crate::points::name_of;
-use fit_code::{Fault, Line, Memory, Naming, Reason};
+use fit_code::{CALL_THROUGH_POINTER, Fault, JUMP_THROUGH_POINTER, Line, Memory, Naming, Reason};
 use fit_gas::{Source, owned};
 use std::alloc::AllocError;
 
@@ -9,10 +9,8 @@ use std::alloc::AllocError;
 pub enum Stop {
     /// What the function does that is made, and may not.
     Form(&'static str),
-    /// The name of a symbol.
+    /// What was told before a name, and that of a symbol.
     Named(Naming, usize),
-    /// There is no function to begin at.
-    NoEntry,
     /// There are more of something than there may be.
     TooMany(&'static str, u64),
     CallThroughPointer,
@@ -69,10 +67,9 @@ impl Stops {
                     memory.take(name.push_str(name_of(source, symbol)));
                     Reason::Named(naming, name)
                 }
-                Stop::NoEntry => Reason::Named(Naming::NoEntry, owned(&mut memory, before)),
                 Stop::TooMany(what, most) => Reason::TooMany { what, most },
-                Stop::CallThroughPointer => Reason::CallThroughPointer,
-                Stop::JumpThroughPointer => Reason::JumpThroughPointer,
+                Stop::CallThroughPointer => Reason::Unreadable(CALL_THROUGH_POINTER),
+                Stop::JumpThroughPointer => Reason::Unreadable(JUMP_THROUGH_POINTER),
             };
             fault = Some(Fault::new(line, reason));
         }

@@ -82,10 +82,6 @@ pub struct Function {
 #[derive(Drop)]
 pub struct Object {
     pub name: String,
-    /// Whether the program may read them alone.
-    pub readonly: bool,
-    /// A power of 2, at least 8 once the data are laid out.
-    pub align: u32,
     pub bytes: Vec<u8>,
     /// The address of the first byte, once the data are laid out.
     pub start: u32,

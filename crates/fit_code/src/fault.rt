@@ -30,6 +30,12 @@ pub enum Naming {
     NoEntry,
 }
 
+/// What is told of a call through a register.
+pub const CALL_THROUGH_POINTER: &str = "a call through a pointer: name the function, by a switch";
+
+/// What is told of a jump through a register that is no return.
+pub const JUMP_THROUGH_POINTER: &str = "a jump through a register: compile without tables of jumps";
+
 /// Why a program is refused.
 #[derive(Drop)]
 pub enum Reason {
@@ -52,14 +58,10 @@ pub enum Reason {
         turns: u64,
         is_loop: bool,
     },
-    /// A line that can't be read.
+    /// A line that can't be read, or something else that one text tells.
     Unreadable(&'static str),
     /// A name.
     Named(Naming, String),
-    /// A call through a register.
-    CallThroughPointer,
-    /// A jump through a register that is no return.
-    JumpThroughPointer,
     /// Something that a function does and may not, with the function's name.
     Form {
         function: String,

@@ -8,7 +8,7 @@ mod memory;
 mod ways;
 
 pub use code::{Block, End, Function, Line, NO_LINE, Object, Program, Region, Step};
-pub use fault::{Fault, Naming, Reason};
+pub use fault::{CALL_THROUGH_POINTER, Fault, JUMP_THROUGH_POINTER, Naming, Reason};
 pub use memory::Memory;
 pub use sbx_parts::Range;
 pub use ways::{hull, opposite};

@@ -1,5 +1,5 @@
 //! What calls of a function take: turns, stack room and depth, which are sums along the deepest calls.
-use fit_code::Function;
+use fit_code::{Function, Step};
 
 /// What a call takes.
 #[derive(Clone, Copy)]
@@ -8,6 +8,14 @@ pub struct Total {
     pub budget: Option<u64>,
     pub room: u64,
     pub depth: u64,
+}
+
+/// What a call takes that a step makes, where that is known.
+pub(crate) fn called_by(step: &Step, known: &[Option<Total>]) -> Option<Total> {
+    match step.callee {
+        Some(callee) if callee < known.len() => known[callee],
+        _ => None,
+    }
 }
 
 /// What a function of this budget takes, by what is known of those that it calls. A callee counts as one frame at
@@ -20,10 +28,7 @@ pub fn total_of(function: &Function, budget: Option<u64>, known: &[Option<Total>
     };
     for block in function.blocks.as_slice() {
         for step in block.steps.as_slice() {
-            if let Some(callee) = step.callee
-                && callee < known.len()
-                && let Some(total) = known[callee]
-            {
+            if let Some(total) = called_by(step, known) {
                 found.room = found.room.max(total.room);
                 found.depth = found.depth.max(total.depth.saturating_add(1));
             }

@@ -1,5 +1,5 @@
 //! Data: labels, values, strings, room.
-use crate::source::{Cause, Datum, Fix, Source, SymbolPlace};
+use crate::source::{Datum, Fix, Source, SymbolPlace};
 use crate::strings::push_string;
 use crate::text::{expression_of, first_operand, is_name, number_of, word_of};
 use fit_code::Naming;
@@ -17,85 +17,74 @@ impl Source {
     /// just begun.
     pub(crate) fn label_data(&mut self, name: &[u8], readonly: bool) {
         let symbol = self.symbol(name);
-        let number = self.objects.len();
-        if self.in_object
-            && let Some(object) = self.objects.last()
-            && object.bytes.is_empty()
-        {
-            return self.define(name, symbol, SymbolPlace::Object(number.saturating_sub(1)));
-        }
+        let start = self.bytes.len();
+        let has_begun = matches!(self.start, Some(begun) if begun == start);
+        let number = self.objects.len().saturating_sub(usize::from(has_begun));
         self.define(name, symbol, SymbolPlace::Object(number));
-        self.in_object = true;
-        let object = Datum {
-            symbol,
-            readonly,
-            align: mem::replace(&mut self.align, 1),
-            bytes: Vec::new(self.memory.alloc),
-            fixes: Vec::new(self.memory.alloc),
-        };
-        self.memory.push(&mut self.objects, object);
+        if !has_begun {
+            self.start = Some(start);
+            let object = Datum {
+                symbol,
+                readonly,
+                align: mem::replace(&mut self.align, 1),
+                start,
+            };
+            self.memory.push(&mut self.objects, object);
+        }
     }
 
-    /// Adds zeros, and bytes behind them, to the object that is read, which has a label, and aligns them: as many as
+    /// Adds bytes, and zeros behind them, to the object that is read, which has a label, and aligns them: as many as
     /// all may have.
-    pub(crate) fn add(&mut self, zeros: usize, bytes: &[u8]) {
-        let align = mem::replace(&mut self.align, 1) as usize;
-        let count = bytes.len().saturating_add(zeros);
-        self.total = self.total.saturating_add(count);
-        if self.in_object
-            && let Some(object) = self.objects.last_mut()
-        {
-            let length = object.bytes.len();
-            let at = length.checked_next_multiple_of(align).unwrap_or(length);
-            self.total = self.total.saturating_add(at.saturating_sub(length));
-            if self.total <= BYTES {
-                self.memory
-                    .take(object.bytes.resize(at.saturating_add(zeros), 0));
-                self.memory.take(object.bytes.extend_from_slice(bytes));
-                return;
-            }
-        } else if self.total <= BYTES {
-            return self.refuse(Cause::Unreadable("data without a label"));
+    pub(crate) fn add(&mut self, bytes: &[u8], zeros: usize) {
+        let mask = (mem::replace(&mut self.align, 1) as usize).saturating_sub(1);
+        let start = self.start.unwrap_or(self.bytes.len());
+        let length = self.bytes.len().saturating_sub(start);
+        let at = start.saturating_add(length.saturating_add(mask) & !mask);
+        let end = at.saturating_add(bytes.len()).saturating_add(zeros);
+        if end > BYTES {
+            self.refuse("more than 262144 bytes of data");
+        } else if self.start.is_some() {
+            self.memory.take(self.bytes.resize(at, 0));
+            self.memory.take(self.bytes.extend_from_slice(bytes));
+            self.memory.take(self.bytes.resize(end, 0));
+        } else {
+            self.refuse("data without a label");
         }
-        self.refuse(Cause::TooMany("bytes of data", 262_144))
     }
 
     /// One value of so many bytes, the most significant byte first.
     pub(crate) fn value(&mut self, size: usize, text: &[u8]) {
-        let Some((name, number)) = expression_of(text) else {
-            return self.refuse(Cause::Unreadable(
-                "a value that is no number, name or name and number",
-            ));
+        let (name, Some(number)) = expression_of(text) else {
+            return self.refuse("a value that is no number, name or name and number");
         };
         if name.is_empty() {
             let bytes = word_of(number).to_be_bytes();
             let start = 4usize.saturating_sub(size);
-            return self.add(0, bytes_between(&bytes, start, 4));
+            return self.add(bytes_between(&bytes, start, 4), 0);
         }
         if size != 4 {
-            self.refuse(Cause::Unreadable("an address that is no word"));
+            self.refuse("an address that is no word");
         }
         let symbol = self.symbol(name);
-        self.add(4, &[]);
-        let line = self.line();
-        if let Some(object) = self.objects.last_mut() {
-            let fix = Fix {
-                at: object.bytes.len().saturating_sub(4),
-                symbol,
-                offset: number,
-                line,
-            };
-            self.memory.push(&mut object.fixes, fix);
-        }
+        self.add(&[], 4);
+        let length = self.bytes.len().saturating_sub(self.start.unwrap_or(0));
+        let fix = Fix {
+            object: self.objects.len().saturating_sub(1),
+            at: length.saturating_sub(4),
+            symbol,
+            offset: number,
+            line: self.line,
+        };
+        self.memory.push(&mut self.fixes, fix);
     }
 
-    /// One string, with a zero behind it or not.
-    pub(crate) fn string(&mut self, ends: bool, text: &[u8]) {
+    /// One string, with zeros behind it.
+    pub(crate) fn string(&mut self, text: &[u8], zeros: usize) {
         let mut bytes = Vec::new(self.memory.alloc);
-        if push_string(&mut self.memory, text, ends, &mut bytes) {
-            self.add(0, bytes.as_slice())
+        if push_string(&mut self.memory, text, &mut bytes) {
+            self.add(bytes.as_slice(), zeros)
         } else {
-            self.refuse(Cause::Unreadable("a string that can't be read"))
+            self.refuse("a string that can't be read")
         }
     }
 
@@ -105,7 +94,7 @@ impl Source {
         match number_of(first) {
             Some(number) if 0 <= number && number <= i64::from(most) => number as u32,
             _ => {
-                self.refuse(Cause::Unreadable("a number that is none, or too great"));
+                self.refuse("a number that is none, or too great");
                 0
             }
         }
@@ -120,7 +109,7 @@ impl Source {
             number
         };
         if !align.is_power_of_two() || align > PAGE {
-            self.refuse(Cause::Unreadable("an alignment that is no power of 2, or above 4096"));
+            self.refuse("an alignment that is no power of 2, or above 4096");
         }
         self.align = self.align.max(align);
     }
@@ -137,10 +126,10 @@ impl Source {
         if !align.is_empty() {
             self.aligned(align, false);
         }
-        self.in_object = false;
+        self.start = None;
         self.label_data(name, false);
-        self.add(count as usize, &[]);
-        self.in_object = false;
+        self.add(&[], count as usize);
+        self.start = None;
         self.align = before;
     }
 }

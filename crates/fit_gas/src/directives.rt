@@ -1,34 +1,40 @@
 //! Directives.
-use crate::source::{Cause, Section, Source};
+use crate::source::{Section, Source};
 use crate::text::{first_operand, first_word, is_name, number_of, unquoted};
 use fit_code::{Line, Naming};
+use memchr::memrchr;
 use v8_syntax::{beside, bytes_between};
 
 /// What a directive asks for.
 #[derive(Clone, Copy)]
 enum Directive {
-    Section,
-    /// The section of that name.
-    Enter,
+    /// A section, which it names, or that of its own name.
+    Section { is_named: bool },
     Align { is_power: bool },
     Common,
     Mark { is_global: bool },
     File,
     Loc,
-    Values(usize),
-    Strings { ends: bool },
-    Room,
+    Data(Data),
     /// Nothing that matters here.
     Nothing,
+}
+
+/// What a directive adds to the data.
+#[derive(Clone, Copy)]
+enum Data {
+    Values(usize),
+    Strings { zeros: usize },
+    Room,
 }
 
 const WRITABLE: Section = Section::Data { readonly: false };
 
 static DIRECTIVES: [(&str, Directive); 39] = [
-    (".section", Directive::Section),
-    (".text", Directive::Enter),
-    (".data", Directive::Enter),
-    (".bss", Directive::Enter),
+    (".section", Directive::Section { is_named: true }),
+    (".text", Directive::Section { is_named: false }),
+    (".data", Directive::Section { is_named: false }),
+    (".bss", Directive::Section { is_named: false }),
     (".align", Directive::Align { is_power: false }),
     (".balign", Directive::Align { is_power: false }),
     (".p2align", Directive::Align { is_power: true }),
@@ -40,19 +46,19 @@ static DIRECTIVES: [(&str, Directive); 39] = [
     (".type", Directive::Mark { is_global: false }),
     (".file", Directive::File),
     (".loc", Directive::Loc),
-    (".word", Directive::Values(4)),
-    (".long", Directive::Values(4)),
-    (".uaword", Directive::Values(4)),
-    (".half", Directive::Values(2)),
-    (".uahalf", Directive::Values(2)),
-    (".short", Directive::Values(2)),
-    (".byte", Directive::Values(1)),
-    (".ascii", Directive::Strings { ends: false }),
-    (".asciz", Directive::Strings { ends: true }),
-    (".string", Directive::Strings { ends: true }),
-    (".skip", Directive::Room),
-    (".space", Directive::Room),
-    (".zero", Directive::Room),
+    (".word", Directive::Data(Data::Values(4))),
+    (".long", Directive::Data(Data::Values(4))),
+    (".uaword", Directive::Data(Data::Values(4))),
+    (".half", Directive::Data(Data::Values(2))),
+    (".uahalf", Directive::Data(Data::Values(2))),
+    (".short", Directive::Data(Data::Values(2))),
+    (".byte", Directive::Data(Data::Values(1))),
+    (".ascii", Directive::Data(Data::Strings { zeros: 0 })),
+    (".asciz", Directive::Data(Data::Strings { zeros: 1 })),
+    (".string", Directive::Data(Data::Strings { zeros: 1 })),
+    (".skip", Directive::Data(Data::Room)),
+    (".space", Directive::Data(Data::Room)),
+    (".zero", Directive::Data(Data::Room)),
     (".local", Directive::Nothing),
     (".size", Directive::Nothing),
     (".ident", Directive::Nothing),
@@ -89,7 +95,7 @@ impl Source {
         for (start, section) in &SECTIONS {
             if name.starts_with(start.as_bytes()) {
                 self.section = *section;
-                self.in_object = false;
+                self.start = None;
                 self.align = 1;
                 return;
             }
@@ -103,9 +109,10 @@ impl Source {
         let name = if is_global { text } else { first };
         if is_global | kind.ends_with(b"function") {
             let symbol = self.symbol(name);
-            if let Some(found) = self.symbols.get_mut(symbol) {
-                found.is_global |= is_global;
-                found.is_function |= !is_global;
+            let symbols = self.symbols.as_mut_slice();
+            if symbol < symbols.len() {
+                symbols[symbol].is_global |= is_global;
+                symbols[symbol].is_function |= !is_global;
             }
         } else if !is_name(name) {
             self.named(Naming::Label, name)
@@ -123,12 +130,10 @@ impl Source {
         let (second, _) = first_word(behind);
         let path = if second.is_empty() { first } else { second };
         let path = unquoted(path).unwrap_or(path);
-        let mut start: usize = 0;
-        for (place, byte) in path.iter().enumerate() {
-            if *byte == b'/' {
-                start = place.saturating_add(1);
-            }
-        }
+        let start = match memrchr(b'/', path) {
+            Some(place) => place.saturating_add(1),
+            None => 0,
+        };
         let file = self.add_file(bytes_between(path, start, path.len()));
         self.memory.is_refused |= self.numbered.insert(number, file).is_err();
     }
@@ -143,52 +148,58 @@ impl Source {
             && let Some(file) = self.numbered.get(&file)
         {
             let file = *file;
-            self.origin = Some(Line { file, number });
+            self.line = Line { file, number };
         }
     }
 
-    /// Values or strings, with commas between them.
-    fn data_list(&mut self, directive: Directive, text: &[u8]) {
+    /// Values or strings, with commas between them, or room. They have to stand in a section of data.
+    fn data(&mut self, data: Data, text: &[u8]) {
+        match self.section {
+            Section::Ignored => return,
+            Section::Code => return self.refuse("data among instructions"),
+            Section::Data { .. } => {}
+        }
         let mut rest = text;
         for _ in 0..text.len() {
             let (first, others) = first_operand(rest);
-            match directive {
-                Directive::Values(size) => self.value(size, first),
-                Directive::Strings { ends } => self.string(ends, first),
-                _ => {}
+            match data {
+                Data::Values(size) => self.value(size, first),
+                Data::Strings { zeros } => self.string(first, zeros),
+                Data::Room => break,
             }
             rest = others;
             if rest.is_empty() {
-                break;
+                return;
             }
+        }
+        if let Data::Room = data {
+            let count = self.natural(text, 0xffff_ffff);
+            self.add(&[], count as usize);
         }
     }
 
-    /// A directive, and what stands behind it. One of data has to stand in a section of data; one that aligns may stand
-    /// among instructions.
+    /// A directive, and what stands behind it. One that aligns may stand among instructions.
     pub(crate) fn directive(&mut self, name: &[u8], text: &[u8]) {
-        let Some(directive) = beside(name, &DIRECTIVES) else {
-            if !matches!(self.section, Section::Ignored) && !name.starts_with(b".cfi_") {
-                self.named(Naming::Directive, name);
+        match beside(name, &DIRECTIVES) {
+            Some(Directive::Section { is_named }) => {
+                self.section_line(if is_named { text } else { name })
             }
-            return;
-        };
-        match (directive, self.section) {
-            (Directive::Enter, _) => self.section_line(name),
-            (Directive::Section, _) => self.section_line(text),
-            (Directive::Common, _) => self.common(text),
-            (Directive::Mark { is_global }, _) => self.mark(text, is_global),
-            (Directive::File, _) => self.file_line(text),
-            (Directive::Loc, _) => self.loc_line(text),
-            (Directive::Nothing, _) | (_, Section::Ignored) => {}
-            (Directive::Align { .. }, Section::Code) => {}
-            (_, Section::Code) => self.refuse(Cause::Unreadable("data among instructions")),
-            (Directive::Align { is_power }, _) => self.aligned(text, is_power),
-            (Directive::Room, _) => {
-                let bytes = self.natural(text, 0xffff_ffff);
-                self.add(bytes as usize, &[])
+            Some(Directive::Common) => self.common(text),
+            Some(Directive::Mark { is_global }) => self.mark(text, is_global),
+            Some(Directive::File) => self.file_line(text),
+            Some(Directive::Loc) => self.loc_line(text),
+            Some(Directive::Align { is_power }) => {
+                if let Section::Data { .. } = self.section {
+                    self.aligned(text, is_power);
+                }
             }
-            _ => self.data_list(directive, text),
+            Some(Directive::Data(data)) => self.data(data, text),
+            Some(Directive::Nothing) => {}
+            None => {
+                if !matches!(self.section, Section::Ignored) && !name.starts_with(b".cfi_") {
+                    self.named(Naming::Directive, name);
+                }
+            }
         }
     }
 }

@@ -1,7 +1,8 @@
 //! Instructions: the assembler's own spellings over the statements of the source language.
-use crate::source::{Cause, Item, Part, Reference, Source};
+use crate::source::{Item, Part, Reference, Source};
 use crate::text::{expression_of, first_operand, place_of, word_of};
-use fit_code::Naming;
+use arrayvec::ArrayVec;
+use fit_code::{CALL_THROUGH_POINTER, Memory, Naming};
 use sbx_text::{TextFault, tokens};
 use v8_formats::{Instr, encode};
 use v8_syntax::{Symbols, SyntaxFault, beside, bytes_between, is_same, parse_instr};
@@ -36,19 +37,18 @@ pub fn with_part(instr: u32, part: Part, word: u32) -> u32 {
     instr | field
 }
 
-/// Where a part of an address stands among operands.
+/// Operands with a part of an address among them.
 #[derive(Clone, Copy)]
-struct Place {
-    /// Where it begins.
-    at: usize,
-    /// Where what the address is of begins and ends.
-    start: usize,
-    end: usize,
+struct Place<'t> {
+    before: &'t [u8],
+    /// What the address is of.
+    inner: &'t [u8],
+    behind: &'t [u8],
     part: Part,
 }
 
 /// The first part of an address among operands.
-fn part_in(text: &[u8]) -> Option<Place> {
+fn part_in(text: &[u8]) -> Option<Place<'_>> {
     for at in 0..text.len() {
         let rest = bytes_between(text, at, text.len());
         let part = if rest.starts_with(b"%hi(") {
@@ -58,18 +58,17 @@ fn part_in(text: &[u8]) -> Option<Place> {
         } else {
             continue;
         };
-        let start = at.saturating_add(4);
-        let length = place_of(b')', bytes_between(text, start, text.len()));
-        let end = start.saturating_add(length);
-        if end < text.len() {
-            return Some(Place {
-                at,
-                start,
-                end,
-                part,
-            });
+        let inside = bytes_between(rest, 4, rest.len());
+        let length = place_of(b')', inside);
+        if length == inside.len() {
+            break;
         }
-        break;
+        return Some(Place {
+            before: bytes_between(text, 0, at),
+            inner: bytes_between(inside, 0, length),
+            behind: bytes_between(inside, length.saturating_add(1), inside.len()),
+            part,
+        });
     }
     None
 }
@@ -104,38 +103,25 @@ static OTHERS: [(&str, ()); 5] = [
     ("flush", ()),
 ];
 
-impl Source {
-    /// Adds instructions to the function that is read, of a reference whose number is a part of theirs; the last one
-    /// has some bits besides.
-    fn add_instructions(
-        &mut self,
-        instructions: &[Instr],
-        reference: Option<Reference>,
-        bits: u32,
-    ) {
-        let line = self.line();
-        self.count_items(instructions.len());
-        let mut left = instructions.len();
-        for instr in instructions {
-            left = left.saturating_sub(1);
-            let word = encode(instr) | if left == 0 { bits } else { 0 };
-            let item = Item {
-                word,
-                line,
-                reference,
-            };
-            if self.in_code
-                && let Some(code) = self.codes.last_mut()
-            {
-                self.memory.push(&mut code.items, item);
-            } else {
-                self.refuse(Cause::Unreadable("an instruction outside of a function"));
-            }
+/// The instructions of a statement of the source language in pieces, which has no name in it. Where memory is refused,
+/// which is noted, it has no shape.
+fn parsed(memory: &mut Memory, pieces: &[&[u8]]) -> Result<ArrayVec<Instr, 2>, SyntaxFault> {
+    let Ok(line) = pieces.concat(memory.alloc) else {
+        memory.is_refused = true;
+        return Err(SyntaxFault::Shape);
+    };
+    match tokens(memory.alloc, line.as_slice()) {
+        Ok(tokens) => parse_instr(line.as_slice(), tokens.as_slice(), &Nameless),
+        Err(fault) => {
+            memory.is_refused |= matches!(fault, TextFault::Memory(_));
+            Err(SyntaxFault::Shape)
         }
     }
+}
 
-    /// A statement of the source language in pieces, which has no name in it; of a reference its number is a part, and
-    /// some bits are put into it.
+impl Source {
+    /// Adds a statement of the source language in pieces, which has no name in it, to the function that is read. Of a
+    /// reference its number is a part, and some bits are put into the last one of its instructions.
     fn statement(
         &mut self,
         word: &[u8],
@@ -143,46 +129,53 @@ impl Source {
         reference: Option<Reference>,
         bits: u32,
     ) {
-        let Ok(line) = pieces.concat(self.memory.alloc) else {
-            self.memory.is_refused = true;
-            return;
+        let found = match parsed(&mut self.memory, pieces) {
+            Ok(found) => found,
+            Err(SyntaxFault::UnknownMnemonic) => return self.named(Naming::Instruction, word),
+            Err(_) => return self.named(Naming::Operands, word),
         };
-        let found = match tokens(self.memory.alloc, line.as_slice()) {
-            Ok(tokens) => parse_instr(line.as_slice(), tokens.as_slice(), &Nameless),
-            Err(fault) => {
-                self.memory.is_refused |= matches!(fault, TextFault::Memory(_));
-                Err(SyntaxFault::Shape)
+        let mut left = found.len();
+        self.count_items(left);
+        if let Some(at) = self.at
+            && let Some(code) = self.codes.last_mut()
+        {
+            self.at = Some(at.saturating_add(left));
+            for instr in found.as_slice() {
+                left = left.saturating_sub(1);
+                let item = Item {
+                    word: encode(instr) | if left == 0 { bits } else { 0 },
+                    line: self.line,
+                    reference,
+                };
+                self.memory.push(&mut code.items, item);
             }
-        };
-        match found {
-            Ok(found) => self.add_instructions(found.as_slice(), reference, bits),
-            Err(SyntaxFault::UnknownMnemonic) => self.named(Naming::Instruction, word),
-            Err(_) => self.named(Naming::Operands, word),
+        } else {
+            self.refuse("an instruction outside of a function");
         }
     }
 
     /// A statement with a part of an address among its operands: of a target it is a name alone.
-    fn referring(&mut self, word: &[u8], text: &[u8], place: Place) {
-        let part = place.part;
-        let inner = bytes_between(text, place.start, place.end);
-        let (name, offset) = match expression_of(inner.trim_ascii()) {
-            Some((name, offset))
-                if !matches!(part, Part::Target) | (!name.is_empty() & (offset == 0)) => {
-                (name, offset)
-            }
-            _ => return self.named(Naming::Operands, word),
+    fn referring(&mut self, word: &[u8], place: Place<'_>) {
+        let Place {
+            before,
+            inner,
+            behind,
+            part,
+        } = place;
+        let (name, Some(offset)) = expression_of(inner.trim_ascii()) else {
+            return self.named(Naming::Operands, word);
         };
-        let before = bytes_between(text, 0, place.at);
-        let behind = bytes_between(text, place.end.saturating_add(1), text.len());
+        if matches!(part, Part::Target) & (name.is_empty() | (offset != 0)) {
+            return self.named(Naming::Operands, word);
+        }
         let mut reference = None;
         let mut bits = 0;
         if name.is_empty() {
             bits = with_part(0, part, word_of(offset));
         } else {
-            let symbol = self.symbol(name);
             reference = Some(Reference {
                 part,
-                symbol,
+                symbol: self.symbol(name),
                 offset,
             });
         }
@@ -201,22 +194,20 @@ impl Source {
         }
         let is_call = is_same(word, b"call");
         if is_call & text.starts_with(b"%") {
-            return self.refuse(Cause::CallThroughPointer);
+            return self.refuse(CALL_THROUGH_POINTER);
         }
-        let (operands, place) = if is_call | (word.starts_with(b"b") & !is_plain) {
-            let (target, _) = first_operand(text);
+        if is_call | (word.starts_with(b"b") & !is_plain) {
+            let (inner, _) = first_operand(text);
             let place = Place {
-                at: 0,
-                start: 0,
-                end: target.len(),
+                before: &[],
+                inner,
+                behind: &[],
                 part: Part::Target,
             };
-            (target, Some(place))
-        } else {
-            (text, part_in(text))
-        };
-        match place {
-            Some(place) => self.referring(word, operands, place),
+            return self.referring(word, place);
+        }
+        match part_in(text) {
+            Some(place) => self.referring(word, place),
             None => self.statement(word, &[word, b" ", text], None, 0),
         }
     }

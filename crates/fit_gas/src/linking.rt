@@ -14,15 +14,13 @@ pub struct Linked<'l> {
 impl Linked<'_> {
     /// Where a symbol stands: in its own file, else as a global name of another one.
     pub fn place(&self, symbol: usize) -> SymbolPlace {
-        let Some(found) = self.source.symbols.get(symbol) else {
-            return SymbolPlace::Nowhere;
-        };
-        if let SymbolPlace::Nowhere = found.place
-            && let Some(place) = self.globals.get(found.name.as_str())
-        {
-            return *place;
+        match self.source.symbols.get(symbol) {
+            Some(found) if matches!(found.place, SymbolPlace::Nowhere) => {
+                self.global(found.name.as_str())
+            }
+            Some(found) => found.place,
+            None => SymbolPlace::Nowhere,
         }
-        found.place
     }
 
     /// Where a global name stands.

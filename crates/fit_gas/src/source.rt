@@ -1,9 +1,9 @@
 //! What is read of assembly, before its names are resolved.
-use crate::text::{first_label, first_word, is_name, place_among, place_of, shown};
-use fit_code::{Fault, Line, Memory, Naming, Reason};
+use crate::text::{first_label, first_word, is_name, place_of, shown};
+use fit_code::{Fault, Line, Memory, NO_LINE, Naming, Reason};
+use memchr::memchr;
 use std::alloc::{AllocError, Global};
 use std::collections::BTreeMap;
-use std::mem;
 use v8_syntax::bytes_between;
 
 /// How many names there may be.
@@ -51,6 +51,9 @@ pub struct Code {
 /// A word of data that holds an address.
 #[derive(Clone, Copy)]
 pub struct Fix {
+    /// The number of the object.
+    pub object: usize,
+    /// Where it stands in the object.
     pub at: usize,
     pub symbol: usize,
     pub offset: i64,
@@ -58,13 +61,13 @@ pub struct Fix {
 }
 
 /// An object as it stands in the assembly.
-#[derive(Drop)]
+#[derive(Clone, Copy)]
 pub struct Datum {
     pub symbol: usize,
     pub readonly: bool,
     pub align: u32,
-    pub bytes: Vec<u8>,
-    pub fixes: Vec<Fix>,
+    /// Where it begins in the bytes of all objects.
+    pub start: usize,
 }
 
 /// Where a symbol stands.
@@ -108,17 +111,6 @@ pub fn owned(memory: &mut Memory, text: &str) -> String {
     made
 }
 
-/// Why a line can't be read, but for want of memory.
-#[derive(Clone, Copy)]
-pub enum Cause {
-    Unreadable(&'static str),
-    /// There is more of something than there may be.
-    TooMany(&'static str, u64),
-    CallThroughPointer,
-    /// A name, which the source has.
-    Named(Naming),
-}
-
 /// What has been read so far, of one file or of several.
 #[derive(Drop)]
 pub struct Source {
@@ -127,10 +119,12 @@ pub struct Source {
     pub symbols: Vec<Symbol>,
     pub codes: Vec<Code>,
     pub objects: Vec<Datum>,
+    /// The bytes of all objects.
+    pub(crate) bytes: Vec<u8>,
+    /// The addresses in them.
+    pub fixes: Vec<Fix>,
     /// How many labels and instructions all functions have.
     pub items: usize,
-    /// How many bytes all objects have.
-    pub(crate) total: usize,
     /// The symbols of the file that is read.
     names: BTreeMap<String, usize>,
     /// The files of the numbers of `.file`.
@@ -138,17 +132,16 @@ pub struct Source {
     pub(crate) section: Section,
     /// What the next data are aligned to.
     pub(crate) align: u32,
-    /// Whether data are added to the last object.
-    pub(crate) in_object: bool,
-    /// Whether instructions are added to the last function.
-    pub(crate) in_code: bool,
-    /// The line of assembly.
+    /// Where the object begins that data are added to, the last one; none where they would have no label.
+    pub(crate) start: Option<usize>,
+    /// How many instructions the function has that others are added to, the last one; none where they would have none.
+    pub(crate) at: Option<usize>,
+    /// The line of assembly that is read.
     place: Line,
-    /// The line of C, where one is known.
-    pub(crate) origin: Option<Line>,
-    /// The first fault but want of memory, and the name in it: what is read behind it counts for nothing.
-    fault: Option<(Line, Cause)>,
-    name: String,
+    /// What is told of it: the line of C where one is known, else that of assembly.
+    pub(crate) line: Line,
+    /// The first fault but want of memory: what is read behind it counts for nothing.
+    fault: Option<Fault>,
 }
 
 impl Source {
@@ -160,66 +153,50 @@ impl Source {
             symbols: Vec::new(alloc),
             codes: Vec::new(alloc),
             objects: Vec::new(alloc),
+            bytes: Vec::new(alloc),
+            fixes: Vec::new(alloc),
             items: 0,
-            total: 0,
             names: BTreeMap::new(alloc),
             numbered: BTreeMap::new(alloc),
             section: Section::Code,
             align: 1,
-            in_object: false,
-            in_code: false,
-            place: Line { file: 0, number: 0 },
-            origin: None,
+            start: None,
+            at: None,
+            place: NO_LINE,
+            line: NO_LINE,
             fault: None,
-            name: String::new(alloc),
         }
     }
 
-    /// The line that is read: that of C where it is known, else that of assembly.
-    pub(crate) fn line(&self) -> Line {
-        self.origin.unwrap_or(self.place)
+    /// The bytes of an object.
+    pub fn bytes_of(&self, number: usize, object: &Datum) -> &[u8] {
+        let end = match self.objects.get(number.saturating_add(1)) {
+            Some(next) => next.start,
+            None => self.bytes.len(),
+        };
+        bytes_between(self.bytes.as_slice(), object.start, end)
     }
 
     /// Notes a fault at the line that is read, of which the first one is told.
-    pub(crate) fn refuse(&mut self, cause: Cause) {
+    pub(crate) fn refuse(&mut self, what: &'static str) {
         if self.fault.is_none() {
-            self.fault = Some((self.line(), cause));
+            self.fault = Some(Fault::new(self.line, Reason::Unreadable(what)));
         }
     }
 
     /// Notes a fault that names what stands in the line.
     pub(crate) fn named(&mut self, naming: Naming, name: &[u8]) {
         if self.fault.is_none() {
-            self.name = owned(&mut self.memory, shown(name));
+            let name = owned(&mut self.memory, shown(name));
+            self.fault = Some(Fault::new(self.line, Reason::Named(naming, name)));
         }
-        self.refuse(Cause::Named(naming))
-    }
-
-    /// Tells what was noted.
-    fn told(&mut self) -> Result<(), Fault> {
-        if self.memory.is_refused {
-            return Err(Fault::from(AllocError));
-        }
-        let Some((line, cause)) = self.fault else {
-            return Ok(());
-        };
-        let reason = match cause {
-            Cause::Unreadable(what) => Reason::Unreadable(what),
-            Cause::TooMany(what, most) => Reason::TooMany { what, most },
-            Cause::CallThroughPointer => Reason::CallThroughPointer,
-            Cause::Named(naming) => {
-                let none = String::new(self.memory.alloc);
-                Reason::Named(naming, mem::replace(&mut self.name, none))
-            }
-        };
-        Err(Fault::new(line, reason))
     }
 
     /// The number of a file's name, which is new.
     pub(crate) fn add_file(&mut self, name: &[u8]) -> usize {
         let number = self.files.len();
         if number >= NAMES {
-            self.refuse(Cause::TooMany("files", 200_000));
+            self.refuse("more than 200000 files");
         }
         let name = owned(&mut self.memory, shown(name));
         self.memory.push(&mut self.files, name);
@@ -237,7 +214,7 @@ impl Source {
             self.named(Naming::Label, name);
         }
         if number >= NAMES {
-            self.refuse(Cause::TooMany("names", 200_000));
+            self.refuse("more than 200000 names");
         }
         let key = owned(&mut self.memory, text);
         self.memory.is_refused |= self.names.insert(key, number).is_err();
@@ -246,7 +223,7 @@ impl Source {
             is_global: false,
             is_function: false,
             place: SymbolPlace::Nowhere,
-            line: self.line(),
+            line: self.line,
         };
         self.memory.push(&mut self.symbols, symbol);
         number
@@ -254,9 +231,10 @@ impl Source {
 
     /// Says where the symbol of a name stands.
     pub(crate) fn define(&mut self, name: &[u8], symbol: usize, place: SymbolPlace) {
-        if let Some(found) = self.symbols.get_mut(symbol) {
-            if let SymbolPlace::Nowhere = found.place {
-                found.place = place;
+        let symbols = self.symbols.as_mut_slice();
+        if symbol < symbols.len() {
+            if let SymbolPlace::Nowhere = symbols[symbol].place {
+                symbols[symbol].place = place;
             } else {
                 self.named(Naming::DefinedTwice, name);
             }
@@ -267,7 +245,7 @@ impl Source {
     pub(crate) fn count_items(&mut self, count: usize) {
         self.items = self.items.saturating_add(count);
         if self.items > ITEMS {
-            self.refuse(Cause::TooMany("labels and instructions", 400_000));
+            self.refuse("more than 400000 labels and instructions");
         }
     }
 
@@ -275,22 +253,18 @@ impl Source {
     fn label_code(&mut self, name: &[u8]) {
         let symbol = self.symbol(name);
         let number = self.codes.len();
-        if let Some(found) = self.symbols.get(symbol)
-            && found.is_function
-        {
+        let symbols = self.symbols.as_slice();
+        if symbol < symbols.len() && symbols[symbol].is_function {
             self.define(name, symbol, SymbolPlace::Function(number));
-            self.origin = None;
-            self.in_code = true;
+            self.line = self.place;
+            self.at = Some(0);
             let code = Code {
                 symbol,
                 line: self.place,
                 items: Vec::new(self.memory.alloc),
             };
             self.memory.push(&mut self.codes, code);
-        } else if self.in_code
-            && let Some(code) = self.codes.last()
-        {
-            let at = code.items.len();
+        } else if let Some(at) = self.at {
             let code = number.saturating_sub(1);
             self.define(name, symbol, SymbolPlace::Label { code, at });
             self.count_items(1);
@@ -322,7 +296,7 @@ impl Source {
         match self.section {
             _ if word.is_empty() => {}
             Section::Code => self.instruction(word, rest),
-            Section::Data { .. } => self.refuse(Cause::Unreadable("an instruction among data")),
+            Section::Data { .. } => self.refuse("an instruction among data"),
             Section::Ignored => {}
         }
     }
@@ -336,21 +310,31 @@ impl Source {
         self.names.clear();
         self.numbered.clear();
         self.section = Section::Code;
-        self.in_object = false;
-        self.in_code = false;
-        self.origin = None;
+        self.start = None;
+        self.at = None;
         self.place = Line { file, number: 0 };
+        self.line = self.place;
         let mut start: usize = 0;
         for _ in 0..=text.len() {
             if self.memory.is_refused | self.fault.is_some() | (start > text.len()) {
                 break;
             }
             let rest = bytes_between(text, start, text.len());
-            let line = bytes_between(rest, 0, place_among(b"\n", rest));
+            let line = bytes_between(rest, 0, memchr(b'\n', rest).unwrap_or(rest.len()));
             start = start.saturating_add(line.len()).saturating_add(1);
             self.place.number = self.place.number.saturating_add(1);
+            // a line of C has another file
+            if self.line.file == file {
+                self.line = self.place;
+            }
             self.read_line(line);
         }
-        self.told()
+        if self.memory.is_refused {
+            return Err(Fault::from(AllocError));
+        }
+        match self.fault.take() {
+            Some(fault) => Err(fault),
+            None => Ok(()),
+        }
     }
 }

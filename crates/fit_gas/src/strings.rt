@@ -13,8 +13,8 @@ static LETTERS: [(&str, u8); 5] = [
 ];
 
 /// The byte that stands behind a backslash, and how many bytes of the text it takes: octal digits, three at most, or a
-/// letter. None where nothing stands there, and of `x`.
-fn escaped(text: &[u8]) -> Option<(u8, usize)> {
+/// letter; none where nothing stands there, and of `x`.
+fn escaped(text: &[u8]) -> (u8, usize) {
     let mut value: u8 = 0;
     let mut length: usize = 0;
     for byte in bytes_between(text, 0, text.len().min(3)) {
@@ -25,21 +25,18 @@ fn escaped(text: &[u8]) -> Option<(u8, usize)> {
         value = value.wrapping_mul(8).wrapping_add(digit);
         length = length.saturating_add(1);
     }
-    if length > 0 {
-        return Some((value, length));
-    }
-    match *text.first()? {
-        b'x' => None,
-        letter => {
+    match text.first() {
+        Some(letter) if (length == 0) & (*letter != b'x') => {
             let found = beside(bytes_between(text, 0, 1), &LETTERS);
-            Some((found.unwrap_or(letter), 1))
+            (found.unwrap_or(*letter), 1)
         }
+        _ => (value, length),
     }
 }
 
-/// Appends the bytes of a string, which stands here in its quotes, and a zero where it ends with one. False where it
-/// has no quotes, and where `\x` is in it, which isn't read, or a backslash that ends it.
-pub fn push_string(memory: &mut Memory, text: &[u8], ends: bool, out: &mut Vec<u8>) -> bool {
+/// Appends the bytes of a string, which stands here in its quotes. False where it has no quotes, and where `\x` is in
+/// it, which isn't read, or a backslash that ends it.
+pub fn push_string(memory: &mut Memory, text: &[u8], out: &mut Vec<u8>) -> bool {
     let Some(mut rest) = unquoted(text) else {
         return false;
     };
@@ -47,19 +44,16 @@ pub fn push_string(memory: &mut Memory, text: &[u8], ends: bool, out: &mut Vec<u
         let Some((first, others)) = rest.split_first() else {
             break;
         };
-        let (byte, length) = if *first == b'\\' {
-            match escaped(others) {
-                Some(found) => found,
-                None => return false,
+        let mut byte = *first;
+        let mut length = 0;
+        if byte == b'\\' {
+            (byte, length) = escaped(others);
+            if length == 0 {
+                return false;
             }
-        } else {
-            (*first, 0)
-        };
+        }
         memory.push(out, byte);
         rest = bytes_between(others, length, others.len());
-    }
-    if ends {
-        memory.push(out, 0);
     }
     true
 }

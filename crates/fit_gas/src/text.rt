@@ -1,24 +1,15 @@
 //! The parts of a line.
+use memchr::memchr3;
 use v8_syntax::bytes_between;
 
 /// Numbers lie below this.
-const LIMIT: i64 = 0x100_0000_0000;
+const LIMIT: u64 = 0x100_0000_0000;
 
 /// How many bytes of a text, from its beginning on, may stand in a name.
 fn name_length(text: &[u8]) -> usize {
     for (place, byte) in text.iter().enumerate() {
         let is_mark = (*byte == b'_') | (*byte == b'.') | (*byte == b'$');
         if !(is_mark | byte.is_ascii_alphanumeric()) {
-            return place;
-        }
-    }
-    text.len()
-}
-
-/// Where one of some bytes stands first in a text; its length where there is none.
-pub fn place_among(wanted: &[u8], text: &[u8]) -> usize {
-    for (place, byte) in text.iter().enumerate() {
-        if wanted.contains(byte) {
             return place;
         }
     }
@@ -66,7 +57,7 @@ pub fn place_of(wanted: u8, text: &[u8]) -> usize {
 
 /// What stands before the first blank, and what stands behind it.
 pub fn first_word(text: &[u8]) -> (&[u8], &[u8]) {
-    let end = place_among(b" \t\r", text);
+    let end = memchr3(b' ', b'\t', b'\r', text).unwrap_or(text.len());
     let rest = bytes_between(text, end, text.len()).trim_ascii();
     (bytes_between(text, 0, end), rest)
 }
@@ -102,25 +93,10 @@ pub fn number_of(text: &[u8]) -> Option<i64> {
         [b'0', _, ..] => (natural, 8),
         _ => (natural, 10),
     };
-    let mut value: i64 = 0;
-    for byte in digits {
-        let byte = *byte;
-        let digit = match byte {
-            b'0'..=b'9' => byte - b'0',
-            b'a'..=b'z' => byte - b'a' + 10,
-            b'A'..=b'Z' => byte - b'A' + 10,
-            _ => 36,
-        };
-        let digit = i64::from(digit);
-        value = value.saturating_mul(radix).saturating_add(digit);
-        if (digit >= radix) | (value >= LIMIT) {
-            return None;
-        }
-    }
-    if digits.is_empty() {
-        None
-    } else {
-        Some(value.saturating_mul(sign))
+    // `+` isn't for the assembler what it is for `from_str_radix`
+    match u64::from_str_radix(shown(digits), radix) {
+        Ok(value) if value < LIMIT && !digits.starts_with(b"+") => Some(sign * value as i64),
+        _ => None,
     }
 }
 
@@ -129,22 +105,22 @@ pub fn word_of(number: i64) -> u32 {
     (number as i128).rem_euclid(0x1_0000_0000) as u32
 }
 
-/// A name, perhaps with a number behind it; or a number, with no name.
-pub fn expression_of(text: &[u8]) -> Option<(&[u8], i64)> {
+/// A name, and the number behind it, perhaps 0; or a number, with no name.
+pub fn expression_of(text: &[u8]) -> (&[u8], Option<i64>) {
     let end = name_length(text);
     let name = bytes_between(text, 0, end);
     if !is_name(name) {
-        return Some((&[], number_of(text)?));
+        return (&[], number_of(text));
     }
-    let behind = bytes_between(text, end, text.len()).trim_ascii();
-    let Some((sign, rest)) = behind.split_first() else {
-        return Some((name, 0));
+    let (sign, rest) = match bytes_between(text, end, text.len()).trim_ascii() {
+        [] => return (name, Some(0)),
+        [b'+', rest @ ..] => (1, rest),
+        [b'-', rest @ ..] => (-1, rest),
+        _ => return (name, None),
     };
-    let number = number_of(rest.trim_ascii())?;
-    match *sign {
-        b'+' => Some((name, number)),
-        b'-' => Some((name, 0i64.saturating_sub(number))),
-        _ => None,
+    match number_of(rest.trim_ascii()) {
+        Some(number) => (name, Some(number.saturating_mul(sign))),
+        None => (name, None),
     }
 }
 

@@ -16,5 +16,5 @@ pub use graph::{
     Graph, Loop, Order, Tangle, order_of, predecessors_of, reached_from, successors_in,
     successors_of, tangle_of,
 };
-pub use live::{Effects, Liveness, Locations, effects_in, effects_of, read_at_end};
+pub use live::{Counts, Effects, Locations, effects_in, effects_of, find_live, read_at_end};
 pub use means::Means;

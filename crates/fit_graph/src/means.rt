@@ -26,12 +26,10 @@ impl Means {
 
     /// What lacked first.
     pub fn told(&self) -> Result<(), Fault> {
-        if let Some((line, what, most)) = self.spent {
-            return Err(Fault::new(line, Reason::TooMany { what, most }));
+        match self.spent {
+            Some((line, what, most)) => Err(Fault::new(line, Reason::TooMany { what, most })),
+            None if self.memory.is_refused => Err(Fault::from(AllocError)),
+            None => Ok(()),
         }
-        if self.memory.is_refused {
-            return Err(Fault::from(AllocError));
-        }
-        Ok(())
     }
 }

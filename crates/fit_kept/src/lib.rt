@@ -1,9 +1,14 @@
-//! The law of `fit annotate`: whether a text is a source with annotations and nothing else; and where a line has the
-//! numbers that may change.
+//! The law of `fit annotate`: what is found of a source's program is put into it, and nothing else of it changes. That
+//! is looked at where it is done, whoever found it; and where a line has the numbers that may change.
 #![tactic(auto)]
 
+mod annotating;
+mod annotation;
+mod inserting;
 mod keeping;
 mod lines;
 
+pub use annotating::{Refusal, annotate};
+pub use annotation::{Addition, Annotation, Total, Value};
+pub use inserting::insert;
 pub use keeping::is_annotated;
-pub use lines::{Parts, parts_of};

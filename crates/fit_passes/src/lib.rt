@@ -1,5 +1,5 @@
-//! All passes over a program, one after the other: from compiler-made code to an annotated source. Meters of turns, blocks
-//! in their places.
+//! All passes over a program, one after the other: from compiler-made code to an annotated source. Meters of turns,
+//! blocks in their places.
 #![tactic(auto)]
 
 mod metering;

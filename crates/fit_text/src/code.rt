@@ -3,22 +3,22 @@ use crate::annotations::{Annotations, BlockNotes, FunctionNotes};
 use crate::data::push_data;
 use crate::names::names_of;
 use crate::text::Text;
-use fit_code::{Block, End, Fault, Function, Line, NO_LINE, Program, Range, Step};
+use fit_code::{Block, End, Fault, Function, Line, Memory, NO_LINE, Program, Range, Reason, Step};
 use sbx_declare::{Bounds, Location};
 use std::alloc::{AllocError, Global};
-use v8_formats::{Instr, Operand};
+use v8_formats::{Instr, encode};
 use v8_forms::suffixes;
 use v8_word::Cond;
 
-/// Whether a program asks for a service.
-fn asks_for(program: &Program, service: u32) -> bool {
+/// The word of `ta 0`.
+const TA: u32 = 0x91d0_2000;
+
+/// Whether a program has an instruction of this word among its steps.
+fn has_word(program: &Program, word: u32) -> bool {
     for function in program.functions.as_slice() {
         for block in function.blocks.as_slice() {
             for step in block.steps.as_slice() {
-                if let Instr::Ticc(trap) = step.instr
-                    && let Operand::Immediate(number) = trap.operand2
-                    && number == service
-                {
+                if encode(&step.instr) == word {
                     return true;
                 }
             }
@@ -30,10 +30,10 @@ fn asks_for(program: &Program, service: u32) -> bool {
 /// The services and the pages of stack.
 fn push_head(out: &mut Text, program: &Program, room: u64) {
     out.add(".services exit");
-    if asks_for(program, 1) {
+    if has_word(program, TA + 1) {
         out.add(",get");
     }
-    if asks_for(program, 2) {
+    if has_word(program, TA + 2) {
         out.add(",put");
     }
     let pages = room.saturating_add(64 + 4095) / 4096;
@@ -80,13 +80,14 @@ fn push_end(
         End::Jump(to) if to == number.saturating_add(1) => return,
         End::Jump(to) => (Cond::Always, to),
         End::Branch { cond, taken, .. } => (cond, taken),
-        End::Return(fields) if is_framed => {
-            out.put_text(files, "ret", block.line);
-            return out.put_instr(files, &Instr::Restore(fields), NO_LINE);
-        }
-        End::Return(_) => {
-            out.put_text(files, "retl", block.line);
-            return out.put_slot(&block.slot);
+        End::Return(fields) => {
+            let (text, slot) = if is_framed {
+                ("ret", Some(Instr::Restore(fields)))
+            } else {
+                ("retl", block.slot)
+            };
+            out.put_text(files, text, block.line);
+            return out.put_slot(&slot);
         }
         End::Exit => return out.put_text(files, "ta 0", block.line),
     };
@@ -122,7 +123,7 @@ fn push_function_head(out: &mut Text, name: &str, function: &Function, notes: &F
 }
 
 /// The blocks of a function of a program with these files and names; the first one begins with its function. Gives the
-/// line with which the source gets longer than the assembler reads.
+/// line with which the source gets longer than the assembler reads, and what is told of that.
 fn push_blocks(
     out: &mut Text,
     files: &[String],
@@ -130,7 +131,7 @@ fn push_blocks(
     name: &str,
     function: &Function,
     notes: &[BlockNotes],
-) -> Option<Line> {
+) -> Option<(Line, &'static str)> {
     for (number, block) in function.blocks.as_slice().iter().enumerate() {
         if number > 0 {
             out.put("\n.block ", &name);
@@ -139,40 +140,41 @@ fn push_blocks(
         if number < notes.len() {
             push_notes(out, &notes[number]);
         }
-        if number == 0 && function.frame > 0 {
+        if (number == 0) & (function.frame > 0) {
             out.put("\n    save %sp,-", &function.frame);
             out.add(",%sp");
         }
         push_steps(out, files, names, block.steps.as_slice());
         push_end(out, files, name, function.framed, number, block);
-        if out.is_too_long() {
-            return Some(if block.line == NO_LINE {
-                function.line
-            } else {
+        if let Some(excess) = out.excess() {
+            let line = if block.line.number > 0 {
                 block.line
-            });
+            } else {
+                function.line
+            };
+            return Some((line, excess));
         }
     }
     None
 }
 
 /// The functions of a program with these names. Gives the line with which the source gets longer than the assembler
-/// reads.
+/// reads, and what is told of that.
 fn push_functions(
     out: &mut Text,
     program: &Program,
     names: &[String],
     annotations: &[FunctionNotes],
-) -> Option<Line> {
+) -> Option<(Line, &'static str)> {
     let files = program.files.as_slice();
     for (number, function) in program.functions.as_slice().iter().enumerate() {
-        if number < names.len() && number < annotations.len() {
+        if (number < names.len()) & (number < annotations.len()) {
             let (name, notes) = (names[number].as_str(), &annotations[number]);
             push_function_head(out, name, function, notes);
             let blocks = notes.blocks.as_slice();
-            let line = push_blocks(out, files, names, name, function, blocks);
-            if line.is_some() {
-                return line;
+            let excess = push_blocks(out, files, names, name, function, blocks);
+            if excess.is_some() {
+                return excess;
             }
         }
     }
@@ -194,14 +196,15 @@ pub fn source_of(
         Some(notes) => notes.room,
         None => 0,
     };
-    let mut out = Text::new(alloc);
-    let names = names_of(alloc, &mut out, program);
+    let mut memory = Memory::new(alloc);
+    let names = names_of(&mut memory, program);
+    let mut out = Text::new(memory);
     push_head(&mut out, program, room);
     push_data(&mut out, program);
     let excess = push_functions(&mut out, program, names.as_slice(), functions);
     out.add("\n");
     match excess {
-        Some(line) => Err(out.excess(line)),
+        Some((line, what)) => Err(Fault::new(line, Reason::Unreadable(what))),
         None if out.lacks => Err(Fault::from(AllocError)),
         None => Ok(out.text),
     }

@@ -43,7 +43,7 @@ fn push_region(out: &mut Text, region: &Region, objects: &[Object]) {
     let mut at = start;
     for object in objects {
         let address = u64::from(object.start);
-        if start <= address && address < end {
+        if (start <= address) & (address < end) {
             push_zeros(out, address.saturating_sub(at));
             out.put("\n! ", &commented(object.name.as_str()));
             out.lacks |= write!(out.text, ", at {address:08X}").is_err();

@@ -49,12 +49,6 @@ impl fmt::Display for Why<'_> {
                 let (before, after) = NAMINGS[*naming as usize];
                 write!(f, "{before}{name}{after}")
             }
-            Reason::CallThroughPointer => f.write_str(
-                "a call through a pointer: name the function, by a switch",
-            ),
-            Reason::JumpThroughPointer => f.write_str(
-                "a jump through a register: compile without tables of jumps",
-            ),
             Reason::Form { function, what } => write!(f, "{function}: {what}"),
         }
     }
@@ -67,33 +61,31 @@ pub struct FaultLine<'f> {
     pub files: &'f [String],
 }
 
-impl FaultLine<'_> {
-    /// Writes the name of the fault's file and the number of its line between two texts, where they are known.
-    fn write_place<W: Write>(
-        &self,
-        f: &mut Formatter<W>,
-        before: &str,
-        after: &str,
-    ) -> Result<(), Error> {
-        let Line { file, number } = self.fault.line;
-        match self.files.get(file) {
-            Some(name) if number > 0 => write!(f, "{before}{name}:{number}{after}"),
-            _ => Ok(()),
-        }
-    }
-}
-
 impl fmt::Display for FaultLine<'_> {
     fn fmt<W: Write>(&self, f: &mut Formatter<W>) -> Result<(), Error> {
+        let Line { file, number } = self.fault.line;
         let reason = &self.fault.reason;
-        self.write_place(f, "", ": ")?;
-        write!(f, "refused: {}", Why(reason))?;
-        let Reason::Budget { is_loop, .. } = reason else {
-            return Ok(());
+        let why = Why(reason);
+        let is_known = (number > 0) & (file < self.files.len());
+        let name = if is_known {
+            self.files[file].as_str()
+        } else {
+            ""
         };
-        if *is_loop {
-            self.write_place(f, ": the loop at ", " may take the most of it")?;
-        }
-        f.write_str(": ask for fewer turns, or let loops have fewer rounds")
+        let refused = if is_known {
+            write!(f, "{name}:{number}: refused: {why}")
+        } else {
+            write!(f, "refused: {why}")
+        };
+        let Reason::Budget { is_loop, .. } = reason else {
+            return refused;
+        };
+        let dearest = if *is_loop & is_known {
+            write!(f, ": the loop at {name}:{number} may take the most of it")
+        } else {
+            Ok(())
+        };
+        let remedy = f.write_str(": ask for fewer turns, or let loops have fewer rounds");
+        refused.and(dearest).and(remedy)
     }
 }

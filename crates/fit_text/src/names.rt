@@ -1,7 +1,5 @@
 //! The names that functions have in a source, and what is told of other names.
-use crate::text::Text;
-use fit_code::Program;
-use std::alloc::Global;
+use fit_code::{Memory, Program};
 
 /// So many bytes of a name stand in a line, which may not have more than 1,024.
 const LONGEST: usize = 256;
@@ -15,52 +13,37 @@ pub fn commented(name: &str) -> &str {
     }
 }
 
-/// Whether one of these names is the text.
-fn stands_in(names: &[String], text: &str) -> bool {
-    for name in names {
-        if name.as_str() == text {
-            return true;
-        }
-    }
-    false
-}
-
-/// Whether a name may stand in a source, where `$` may not.
-fn may_stand(name: &str) -> bool {
-    let mut may_stand = name.len() <= LONGEST;
-    for byte in name.as_bytes() {
-        may_stand &= byte.is_ascii_alphanumeric() | (*byte == b'_') | (*byte == b'.');
-    }
-    may_stand
-}
-
-/// Whether a name ends as that of a block does, or as one that is made here.
-fn ends_in_number(name: &str) -> bool {
+/// Whether a name may stand in a source, where `$` may not; and whether it ends as that of a block does, or as one that
+/// is made here.
+fn may_stand_and_is_numbered(name: &str) -> (bool, bool) {
     let bytes = name.as_bytes();
-    let mut front = bytes;
-    for _ in 0..bytes.len() {
-        match front.split_last() {
-            Some((last, before)) if last.is_ascii_digit() => front = before,
-            _ => break,
+    let mut may_stand = bytes.len() <= LONGEST;
+    // what stands before the digits at its end
+    let mut front: usize = 0;
+    for (place, byte) in bytes.iter().enumerate() {
+        may_stand &= byte.is_ascii_alphanumeric() | (*byte == b'_') | (*byte == b'.');
+        if !byte.is_ascii_digit() {
+            front = place.saturating_add(1);
         }
     }
-    front.len() < bytes.len() && (front.ends_with(b".") || front.ends_with(b".of"))
+    let front = &bytes[..front.min(bytes.len())];
+    let is_named = front.ends_with(b".") || front.ends_with(b".of");
+    (may_stand, is_named & (front.len() < bytes.len()))
 }
 
 /// The name of each function: its own, with its number behind it where an earlier one has that name, as static ones of
-/// two files may, or a block might; a name that may not stand in a source is left out. That memory was refused is told
-/// by the source that they are for.
-pub fn names_of(alloc: Global, out: &mut Text, program: &Program) -> Vec<String> {
-    let mut names = Vec::new(alloc);
-    for (number, function) in program.functions.iter().enumerate() {
+/// two files may, or a block might; a name that may not stand in a source is left out.
+pub fn names_of(memory: &mut Memory, program: &Program) -> Vec<String> {
+    let mut names = Vec::new(memory.alloc);
+    for (number, function) in program.functions.as_slice().iter().enumerate() {
         let own = function.name.as_str();
-        let is_kept = may_stand(own);
-        let mut name = Text::new(alloc);
-        name.add(if is_kept { own } else { "function" });
-        if !is_kept || ends_in_number(own) || stands_in(names.as_slice(), own) {
-            name.put(".of", &number);
+        let (may_stand, is_numbered) = may_stand_and_is_numbered(own);
+        let mut name = String::new(memory.alloc);
+        memory.take(name.push_str(if may_stand { own } else { "function" }));
+        if !may_stand | is_numbered || names.contains(&function.name) {
+            memory.take(write!(name, ".of{number}"));
         }
-        out.lacks |= name.lacks | names.push(name.text).is_err();
+        memory.push(&mut names, name);
     }
     names
 }

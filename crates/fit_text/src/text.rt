@@ -1,8 +1,7 @@
 //! A source that is being written.
 use crate::names::commented;
 use arrayvec::ArrayString;
-use fit_code::{Fault, Line, NO_LINE, Reason};
-use std::alloc::Global;
+use fit_code::{Line, Memory, NO_LINE};
 use std::fmt::Display;
 use v8_formats::Instr;
 use v8_forms::print_instr;
@@ -26,11 +25,11 @@ pub struct Text {
 }
 
 impl Text {
-    /// A source of nothing.
-    pub fn new(alloc: Global) -> Text {
+    /// A source of nothing, for which some memory may have been refused.
+    pub fn new(memory: Memory) -> Text {
         Text {
-            text: String::new(alloc),
-            lacks: false,
+            text: String::new(memory.alloc),
+            lacks: memory.is_refused,
             counted: 0,
             ended: 0,
             last: NO_LINE,
@@ -50,13 +49,11 @@ impl Text {
     /// Adds the line of an instruction's text, with the line of C, of one of these files, from the 41st column on,
     /// unless it was the last one told.
     pub fn put_text(&mut self, files: &[String], text: &str, line: Line) {
-        if line.number > 0
-            && line != self.last
-            && let Some(file) = files.get(line.file)
-        {
+        let Line { file, number } = line;
+        let is_new = (file != self.last.file) | (number != self.last.number);
+        if is_new & (number > 0) & (file < files.len()) {
             self.last = line;
-            let file = commented(file.as_str());
-            let number = line.number;
+            let file = commented(files[file].as_str());
             self.lacks |= write!(self.text, "\n    {text:<36}! {file}:{number}").is_err();
         } else {
             self.put("\n    ", &text);
@@ -78,26 +75,22 @@ impl Text {
         }
     }
 
-    /// Whether the source, with the end of its last line, has more lines or bytes than the assembler reads.
-    pub fn is_too_long(&mut self) -> bool {
+    /// What is told of the source if it has, with the end of its last line, more lines or bytes than the assembler
+    /// reads.
+    pub fn excess(&mut self) -> Option<&'static str> {
+        let text = self.text.as_bytes();
         let mut ended = self.ended;
-        let added = self.text.as_bytes().get(self.counted..).unwrap_or(&[]);
-        for byte in added {
+        for byte in &text[self.counted.min(text.len())..] {
             ended = ended.saturating_add(usize::from(*byte == b'\n'));
         }
         self.ended = ended;
-        self.counted = self.text.len();
-        ended >= LINES || self.counted >= BYTES
-    }
-
-    /// That it has, told at a line of C or of assembly.
-    pub fn excess(&self, line: Line) -> Fault {
-        let (what, most) = if self.ended >= LINES {
-            ("lines in the source that would be made", LINES)
+        self.counted = text.len();
+        if ended >= LINES {
+            Some("more than 1000000 lines in the source that would be made")
+        } else if text.len() >= BYTES {
+            Some("more than 16777216 bytes in the source that would be made")
         } else {
-            ("bytes in the source that would be made", BYTES)
-        };
-        let most = most as u64;
-        Fault::new(line, Reason::TooMany { what, most })
+            None
+        }
     }
 }

@@ -1,13 +1,18 @@
 //! Sources whose annotations were worked out by hand.
-use fit_annotate::{Asked, Refusal, annotate};
+use fit_annotate::{Asked, find};
+use fit_kept::{Refusal, annotate};
 use std::alloc::{AllocError, Global};
 
 /// Whether a source gets this text, or one that begins so and `goes_on`, and there is nothing to note.
 fn becomes(alloc: Global, source: &[u8], text: &[u8], goes_on: bool) -> bool {
-    match annotate(alloc, "t.s", source) {
+    let Ok(found) = find(alloc, source) else {
+        return false;
+    };
+    let (additions, totals) = (found.additions.as_slice(), found.totals.as_slice());
+    match annotate(alloc, source, additions, totals) {
         Ok(made) => {
-            let is_whole = made.text.len() == text.len();
-            made.notes.is_empty() && made.text.starts_with(text) && (goes_on || is_whole)
+            let is_whole = made.len() == text.len();
+            found.notes.is_empty() && made.starts_with(text) && (goes_on || is_whole)
         }
         Err(_refusal) => false,
     }
@@ -15,8 +20,8 @@ fn becomes(alloc: Global, source: &[u8], text: &[u8], goes_on: bool) -> bool {
 
 /// The one line of a source at which a counter is asked for, or which the assembler refuses; 0 where neither is.
 fn line_told(alloc: Global, source: &[u8]) -> usize {
-    match annotate(alloc, "t.s", source) {
-        Ok(made) => match made.notes.as_slice() {
+    match find(alloc, source) {
+        Ok(found) => match found.notes.as_slice() {
             [note] if matches!(note.asked, Asked::Counter) => note.line as usize,
             _ => 0,
         },

@@ -6,7 +6,7 @@ use std::alloc::Global;
 use std::slice::from_ref;
 
 /// What stands behind `main:` in the fourth line, and why there is no program.
-static REFUSED: [(&str, &str); 10] = [
+static REFUSED: [(&str, &str); 20] = [
     (
         " save %sp,-96,%sp\n call main\n nop\n ret\n restore",
         "t.s:6: refused: recursion: main calls main",
@@ -47,10 +47,6 @@ static REFUSED: [(&str, &str); 10] = [
         " add %sp,-96,%sp\n ld [%sp+188],%o0\n retl\n sub %sp,-96,%sp",
         "t.s:6: refused: main: an access to the stack outside of its frame",
     ),
-];
-
-/// The same of what no sandboxed program may do.
-static FORBIDDEN: [(&str, &str); 10] = [
     // Calls through pointers, as gcc and as clang write them, with the line of C where it is known.
     (
         " save %sp,-96,%sp\n call %o1\n nop\n ret\n restore",
@@ -100,7 +96,6 @@ static FORBIDDEN: [(&str, &str); 10] = [
 #[test]
 fn sources_are_refused(rt: HostRuntime) {
     are_told(&rt, rt.alloc(), &REFUSED);
-    are_told(&rt, rt.alloc(), &FORBIDDEN);
 }
 
 /// What is told of budgets that are refused, most of which the loop in line 9 may take.

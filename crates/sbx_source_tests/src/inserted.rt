@@ -1,7 +1,6 @@
 //! Sources with annotations put in, written out by hand.
-use fit_annotate::{Addition, Annotation, Total, Value, insert};
 use fit_code::Reason;
-use fit_kept::is_annotated;
+use fit_kept::{Addition, Annotation, Total, Value, insert, is_annotated};
 use sbx_image::Range;
 use std::alloc::Global;
 
@@ -13,14 +12,13 @@ fn is_made(
     totals: &[Total],
     wanted: Option<&[u8]>,
 ) -> bool {
-    let made = match insert(alloc, source, additions, totals) {
-        Ok(made) => made,
-        Err(fault) => return wanted.is_none() && matches!(fault.reason, Reason::Unreadable(_)),
-    };
-    match (is_annotated(alloc, source, made.as_slice()), wanted) {
-        (Ok(true), Some(wanted)) => made.as_slice() == wanted,
-        (Ok(false), None) => true,
-        _ => false,
+    match &insert(alloc, source, additions, totals) {
+        Ok(made) => match (is_annotated(alloc, source, made.as_slice()), wanted) {
+            (Ok(true), Some(wanted)) => made.as_slice() == wanted,
+            (Ok(false), None) => true,
+            _ => false,
+        },
+        Err(fault) => wanted.is_none() && matches!(fault.reason, Reason::Unreadable(_)),
     }
 }
 

@@ -2,10 +2,10 @@
 use crate::told::are_told;
 
 /// What stands behind `main:`, and what is told of the program: of each region of the data whether it may be read
-/// alone, its first address and its bytes; of each function its name, the bytes of its frame, and its blocks. Of a block
-/// the words of its steps, as binutils assembles what they have to be, and where control goes: `!` ends the run. A
-/// region begins a page. It has 80 bytes before its first object, and 256 behind its last one, and is a multiple of 8
-/// bytes long.
+/// alone, its first address and its bytes; of each function its name, the bytes of its frame, and its blocks. Of a
+/// block the words of its steps, as binutils assembles what they have to be, and where control goes: `!` ends the run.
+/// A region begins a page. It has 80 bytes before its first object, and 256 behind its last one, and is a multiple of
+/// 8 bytes long.
 static PROGRAMS: [(&str, &str); 11] = [
     // A slot's step stands before the return, and main's return ends the run.
     (

@@ -31,19 +31,14 @@ fn push_function(told: &mut String, function: &Function) -> Result<(), AllocErro
     told.push_str("\n")
 }
 
-/// Tells the regions of a program: whether each may be read alone, where it begins, and how many bytes it has.
-fn push_regions(told: &mut String, program: &Program) -> Result<(), AllocError> {
+/// Tells the regions of a program, of each whether it may be read alone, where it begins, and how many bytes it has;
+/// and the functions.
+fn push_program(told: &mut String, program: &Program) -> Result<(), AllocError> {
     for region in program.regions.as_slice() {
         let right = if region.readonly { "ro" } else { "rw" };
         let (start, length) = (region.start, region.length);
         write!(told, "{right} {start:x} {length}\n")?;
     }
-    Ok(())
-}
-
-/// Tells the regions and the functions of a program.
-fn push_program(told: &mut String, program: &Program) -> Result<(), AllocError> {
-    push_regions(told, program)?;
     for function in program.functions.as_slice() {
         push_function(told, function)?;
     }
@@ -65,18 +60,11 @@ fn made(source: &mut Source, body: &str) -> Result<Program, Fault> {
 fn tells(alloc: Global, body: &str, wanted: &str) -> bool {
     let mut source = Source::new(alloc);
     let mut told = String::new(alloc);
-    let done = match made(&mut source, body) {
-        Ok(program) => push_program(&mut told, &program),
+    let done = match &made(&mut source, body) {
+        Ok(program) => push_program(&mut told, program),
         Err(fault) => {
             let files = source.files.as_slice();
-            write!(
-                told,
-                "{}",
-                FaultLine {
-                    fault: &fault,
-                    files
-                }
-            )
+            write!(told, "{}", FaultLine { fault, files })
         }
     };
     done.is_ok() && told.as_str() == wanted

@@ -9,7 +9,7 @@ use fit_code::{Block, End, Function, Line, Step};
 use fit_gas::{Code, owned};
 use std::mem;
 use v8_formats::{Instr, Operand, Three};
-use v8_word::{Cond, Reg};
+use v8_word::{Cond, Reg, reg_at};
 
 /// RESTORE of nothing.
 const PLAIN: Three = Three {
@@ -38,18 +38,12 @@ struct Builder<'s, 'p> {
 }
 
 impl Builder<'_, '_> {
-    /// The number of the block that begins at a place.
-    fn number(&self, place: usize) -> Option<usize> {
-        if place < self.numbers.len() {
-            self.numbers[place]
-        } else {
-            None
-        }
-    }
-
     /// The block that a transfer goes to.
     fn at(&mut self, place: usize, line: Line) -> usize {
-        let number = self.number(place).unwrap_or(0);
+        let mut number = 0;
+        if place < self.numbers.len() {
+            number = self.numbers[place].unwrap_or(0);
+        }
         if number == 0 {
             self.stops
                 .form(line, "a transfer to what stands before SAVE");
@@ -74,24 +68,18 @@ impl Builder<'_, '_> {
 
     /// What stands in the delay slot behind a place, if it does something.
     fn slot(&mut self, place: usize, line: Line) -> Option<Step> {
-        let what = match self.points.get(place.saturating_add(1)) {
-            Some(point) => match point.flow {
+        let behind = place.saturating_add(1);
+        let mut what = "a transfer without a delay slot";
+        if behind < self.points.len() {
+            let point = self.points[behind];
+            match point.flow {
                 Flow::On => return Some(point.step),
                 Flow::Nothing => return None,
-                _ => "a transfer in a delay slot",
-            },
-            None => "a transfer without a delay slot",
-        };
+                _ => what = "a transfer in a delay slot",
+            }
+        }
         self.stops.form(line, what);
         None
-    }
-
-    /// Does what stands in the slot behind a place.
-    fn push_slot(&mut self, place: usize, line: Line) {
-        if let Some(slot) = self.slot(place, line) {
-            let pushed = self.steps.extend_from_slice(&[slot]);
-            self.stops.memory.take(pushed);
-        }
     }
 
     /// Ends the block that is made.
@@ -122,35 +110,29 @@ impl Builder<'_, '_> {
         End::Branch { cond, taken, next }
     }
 
-    /// The end by the transfer at a place, which is none of a call; or why it isn't compilers'. In a function with a
-    /// window a return is a jump by %i7 with RESTORE in its slot, or RESTORE and behind it a jump by %o7 with nothing
-    /// in its slot; in another one it is a jump by %o7.
-    fn end(&mut self, place: usize, line: Line, flow: Flow) -> Result<End, &'static str> {
+    /// Ends the block that is made by the transfer at a place, which is no call; it is a fault where it isn't
+    /// compilers'. In a function with a window a return is a jump by %i7 with RESTORE in its slot, or RESTORE and
+    /// behind it a jump by %o7 with nothing in its slot; in another one it is a jump by %o7.
+    fn end(&mut self, place: usize, line: Line, flow: Flow) {
         let behind = place.saturating_add(1);
-        let next = match self.points.get(behind) {
-            Some(point) => point.flow,
-            None => Flow::Exit,
-        };
-        match flow {
+        let mut next = Flow::Exit;
+        if behind < self.points.len() {
+            next = self.points[behind].flow;
+        }
+        let end = match flow {
             Flow::Branch { cond, annul, to } => match cond {
                 Cond::Never => Err("a branch that is never taken"),
-                Cond::Always => {
-                    if !annul {
-                        self.push_slot(place, line);
-                    }
-                    Ok(End::Jump(self.at(to, line)))
-                }
+                Cond::Always => Ok(End::Jump(self.at(to, line))),
                 _ => Ok(self.branch(place, line, cond, annul, to)),
             },
             Flow::Return { framed: true } => match next {
                 Flow::Restore(fields) => Ok(End::Return(fields)),
                 _ => Err("a return without RESTORE in its slot"),
             },
-            Flow::Return { .. } if self.framed => Err("a jump by %o7 without RESTORE before it"),
-            Flow::Return { .. } => {
-                self.push_slot(place, line);
-                Ok(End::Return(PLAIN))
+            Flow::Return { framed: false } if self.framed => {
+                Err("a jump by %o7 without RESTORE before it")
             }
+            Flow::Return { framed: false } => Ok(End::Return(PLAIN)),
             Flow::Restore(fields) => match next {
                 Flow::Return { framed: false } if self.slot(behind, line).is_none() => {
                     Ok(End::Return(fields))
@@ -160,22 +142,36 @@ impl Builder<'_, '_> {
             Flow::Exit => Ok(End::Exit),
             Flow::Mark => Err("UNIMP that isn't behind a call"),
             _ => Err("a second SAVE, or one that isn't first"),
+        };
+        match end {
+            Ok(end) => self.finish(end, line),
+            Err(what) => self.stops.form(line, what),
         }
     }
 
-    /// Makes the block that begins at a place. What stands in a call's slot is done before the call.
+    /// Makes the block that begins at a place. What stands in the slot of a call, a jump or a leaf's return is done
+    /// before it.
     fn fill(&mut self, start: usize, line: Line) {
-        let points = self.points;
+        let (points, numbers) = (self.points, self.numbers);
         let mut next = start;
         for place in start..points.len() {
             let Point { step, flow } = points[place];
             if place < next {
                 continue;
             }
-            if place != start
-                && let Some(number) = self.number(place)
+            if (place != start) & (place < numbers.len())
+                && let Some(number) = numbers[place]
             {
                 return self.finish(End::Jump(number), step.line);
+            }
+            let does_slot = match flow {
+                Flow::Call => true,
+                Flow::Branch { cond, annul, .. } => !annul & (cond == Cond::Always),
+                Flow::Return { framed } => !framed & !self.framed,
+                _ => false,
+            };
+            if does_slot && let Some(slot) = self.slot(place, step.line) {
+                self.stops.memory.push(&mut self.steps, slot);
             }
             match flow {
                 Flow::On => self.stops.memory.push(&mut self.steps, step),
@@ -183,16 +179,10 @@ impl Builder<'_, '_> {
                 // Behind a call and its slot it is a constant that says a struct is given.
                 Flow::Mark if place >= 2 && matches!(points[place - 2].flow, Flow::Call) => {}
                 Flow::Call => {
-                    self.push_slot(place, step.line);
                     self.stops.memory.push(&mut self.steps, step);
                     next = place.saturating_add(2);
                 }
-                _ => {
-                    return match self.end(place, step.line, flow) {
-                        Ok(end) => self.finish(end, step.line),
-                        Err(what) => self.stops.form(step.line, what),
-                    };
-                }
+                _ => return self.end(place, step.line, flow),
             }
         }
         // Control doesn't come here where the compiler ended the function without a return: the run ends.
@@ -203,7 +193,7 @@ impl Builder<'_, '_> {
 
 /// %o0.
 pub fn result_register() -> Reg {
-    Reg::new(8).unwrap_or(Reg::G0)
+    reg_at(8, 0)
 }
 
 /// What leaves 0 as a run's exit word.

@@ -62,22 +62,24 @@ fn copy_blocks(
     holds: &[bool],
     numbers: &[Option<usize>],
 ) {
-    for (number, (copy, held)) in numbers.iter().zip(holds.iter()).enumerate() {
-        if let Some(block) = function.blocks.get_mut(number) {
-            let end = moved(block.end, numbers);
-            if copy.is_some() {
+    let mut copies = Vec::new(memory.alloc);
+    for (number, block) in function.blocks.iter_mut().enumerate() {
+        let end = moved(block.end, numbers);
+        if (number < numbers.len()) & (number < holds.len()) {
+            if numbers[number].is_some() {
                 let copy = Block {
                     steps: memory.copy(block.steps.as_slice()),
                     end,
                     slot: None,
                     line: block.line,
                 };
-                memory.push(&mut function.blocks, copy);
-            } else if !*held {
+                memory.push(&mut copies, copy);
+            } else if !holds[number] {
                 block.end = end;
             }
         }
     }
+    memory.take(function.blocks.append(&mut copies));
 }
 
 /// How many steps of a function may be copied: as many as it has, if they aren't too many.

@@ -4,6 +4,6 @@ mod codes;
 mod entries;
 mod pruning;
 
-pub use codes::repeat_compares;
+pub use codes::{codes_of, repeat_compares};
 pub use entries::give_one_entry;
 pub use pruning::prune;

@@ -2,5 +2,5 @@
 mod plain;
 mod steps;
 
-pub use plain::{against_zero, put_plainly};
+pub use plain::{against_zero, push_plain};
 pub use steps::step_of;

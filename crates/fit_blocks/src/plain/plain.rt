@@ -1,5 +1,5 @@
 //! Instructions in forms of which more is known.
-use fit_code::{Function, Memory, Step};
+use fit_code::{Memory, Step};
 use v8_formats::{Instr, Operand, Three};
 use v8_word::Reg;
 
@@ -14,17 +14,38 @@ pub fn against_zero(register: Reg) -> Instr {
 
 /// The register that an OR is of, where it is of one register and nothing else.
 fn named_alone(fields: &Three) -> Option<Reg> {
-    match fields.operand2 {
-        Operand::Immediate(number) if number == 0 => Some(fields.rs1),
-        Operand::Register(second) if fields.rs1 == Reg::G0 => Some(second),
-        Operand::Register(second) if second == Reg::G0 => Some(fields.rs1),
-        _ => None,
+    let second = match fields.operand2 {
+        Operand::Register(second) => second,
+        Operand::Immediate(0) => Reg::G0,
+        Operand::Immediate(_) => return None,
+    };
+    if second == Reg::G0 {
+        Some(fields.rs1)
+    } else if fields.rs1 == Reg::G0 {
+        Some(second)
+    } else {
+        None
     }
 }
 
+/// The number of a function in the program, of whose functions `order` has the numbers in the source.
+fn place_in(order: &[usize], code: usize) -> usize {
+    for (place, number) in order.iter().enumerate() {
+        if *number == code {
+            return place;
+        }
+    }
+    0
+}
+
 /// Pushes a step in forms of which more is known: `tst r` as `cmp r,0`, `orcc a,0,d` as a move and a compare of `d`
-/// with 0, and a number added to itself as a shift.
-fn push_plain(memory: &mut Memory, steps: &mut Vec<Step>, step: &Step) {
+/// with 0, and a number added to itself as a shift. A call gets the number of its callee in the program, of whose
+/// functions `order` has the numbers in the source.
+pub fn push_plain(memory: &mut Memory, steps: &mut Vec<Step>, step: &Step, order: &[usize]) {
+    let callee = match step.callee {
+        Some(callee) => Some(place_in(order, callee)),
+        None => None,
+    };
     let instr = match step.instr {
         Instr::OrCc(fields) => match named_alone(&fields) {
             Some(register) if fields.rd == Reg::G0 => against_zero(register),
@@ -48,31 +69,10 @@ fn push_plain(memory: &mut Memory, steps: &mut Vec<Step>, step: &Step) {
         }),
         other => other,
     };
-    memory.push(steps, Step { instr, ..*step })
-}
-
-/// The number of a function in the program, by its number in the source.
-fn place_in(order: &[usize], code: usize) -> usize {
-    for (place, number) in order.iter().enumerate() {
-        if *number == code {
-            return place;
-        }
-    }
-    0
-}
-
-/// Puts plainer forms into a function, and gives its calls the numbers of the program's functions, of which `order` has
-/// those in the source.
-pub fn put_plainly(memory: &mut Memory, function: &mut Function, order: &[usize]) {
-    for block in function.blocks.iter_mut() {
-        let mut steps = Vec::new(memory.alloc);
-        for step in block.steps.as_slice() {
-            let mut step = *step;
-            if let Some(callee) = step.callee {
-                step.callee = Some(place_in(order, callee));
-            }
-            push_plain(memory, &mut steps, &step);
-        }
-        block.steps = steps;
-    }
+    let step = Step {
+        instr,
+        callee,
+        ..*step
+    };
+    memory.push(steps, step)
 }

@@ -18,6 +18,11 @@ const TAIL: u32 = 256;
 /// How many bytes all regions have at most, with what is left of their last pages.
 const MOST: u32 = 262_144;
 
+/// Where the last object may end.
+const LAST: u32 = DATA + MOST - TAIL;
+
+const TOO_MANY: Stop = Stop::TooMany("bytes of data", 262_144);
+
 /// The bytes of a page; each region begins one.
 const PAGE: u32 = 4_096;
 
@@ -42,22 +47,11 @@ pub struct Layout<'l> {
 }
 
 impl Layout<'_> {
-    /// Whether the data end where an image's may, which is noted where they don't.
-    fn ends_within(&mut self) -> bool {
-        let ends_within = self.end.saturating_add(TAIL) <= DATA + MOST;
-        if !ends_within {
-            let stop = Stop::TooMany("bytes of data", u64::from(MOST));
-            self.stops.note(self.line, stop);
-        }
-        ends_within
-    }
-
     /// Adds an object, for a line: some bytes, and zeros behind them up to a length. Gives its number. It is a fault at
     /// the line where it would end behind what an image may have.
     pub fn add(
         &mut self,
         name: String,
-        readonly: bool,
         align: u32,
         bytes: &[u8],
         length: usize,
@@ -66,16 +60,16 @@ impl Layout<'_> {
         let number = self.objects.len();
         let padded = self.end.saturating_add(PAD);
         let start = padded.checked_next_multiple_of(align).unwrap_or(u32::MAX);
-        self.end = start.saturating_add(u32::try_from(length).unwrap_or(u32::MAX));
+        self.end = start.saturating_add(length.min(2 * MOST as usize) as u32);
         self.line = line;
         let mut object = Object {
             name,
-            readonly,
-            align,
             bytes: Vec::new(self.stops.memory.alloc),
             start,
         };
-        if self.ends_within() {
+        if self.end > LAST {
+            self.stops.note(line, TOO_MANY);
+        } else {
             object.bytes = self.stops.memory.copy(bytes);
             self.stops.memory.take(object.bytes.resize(length, 0));
         }
@@ -93,8 +87,8 @@ impl Layout<'_> {
             {
                 let name = owned(&mut self.stops.memory, symbol.name.as_str());
                 let align = datum.align.max(8);
-                let bytes = datum.bytes.as_slice();
-                let number = self.add(name, readonly, align, bytes, bytes.len(), symbol.line);
+                let bytes = source.bytes_of(place, datum);
+                let number = self.add(name, align, bytes, bytes.len(), symbol.line);
                 let numbers = self.numbers.as_mut_slice();
                 if place < numbers.len() {
                     numbers[place] = number;
@@ -113,7 +107,7 @@ impl Layout<'_> {
         let mut name = String::new(self.stops.memory.alloc);
         let written = write!(name, "arguments of function {function}");
         self.stops.memory.is_refused |= written.is_err();
-        let object = self.add(name, false, 8, &[], bytes, line);
+        let object = self.add(name, 8, &[], bytes, line);
         self.stops
             .memory
             .push(&mut self.arguments, (function, object));
@@ -122,9 +116,10 @@ impl Layout<'_> {
 
     /// The address of an object plus a number, as a word.
     pub fn address(&self, object: usize, offset: i64) -> u32 {
-        let start = match self.objects.get(object) {
-            Some(object) => object.start,
-            None => 0,
+        let start = if object < self.objects.len() {
+            self.objects[object].start
+        } else {
+            0
         };
         word_of(i64::from(start).saturating_add(offset))
     }
@@ -132,51 +127,48 @@ impl Layout<'_> {
     /// The region that objects were added to ends; what is added from here on lies on pages of its own.
     pub fn end_region(&mut self, readonly: bool) {
         let start = self.start;
-        let end = self.end.saturating_add(TAIL);
-        let length = end.saturating_sub(start).saturating_add(7) & !7;
-        let behind = start.saturating_add(length);
-        self.start = behind.checked_next_multiple_of(PAGE).unwrap_or(u32::MAX);
+        let end = self.end.saturating_add(TAIL + 7) & !7;
+        self.start = end.saturating_add(PAGE - 1) & !(PAGE - 1);
         self.end = self.start.saturating_add(HEAD);
         let region = Region {
             readonly,
             start,
-            length,
+            length: end.saturating_sub(start),
         };
         self.stops.memory.push(&mut self.regions, region);
     }
 
-    /// The object that a symbol stands for, by its number here. It is a fault at a line where it stands for none.
-    pub fn object_of(&mut self, symbol: usize, line: Line) -> usize {
+    /// The object that a symbol stands for, by its number here, and the address of it plus a number. It is a fault at a
+    /// line where it stands for none.
+    pub fn reach(&mut self, symbol: usize, offset: i64, line: Line) -> (usize, u32) {
         let naming = match self.linked.place(symbol) {
             SymbolPlace::Object(datum) => {
-                let number = self.numbers.get(datum).copied().unwrap_or(0);
-                return number;
+                let object = self.numbers.get(datum).copied().unwrap_or(0);
+                return (object, self.address(object, offset));
             }
             SymbolPlace::Nowhere => Naming::NotDefined,
             _ => Naming::AddressOfFunction,
         };
         self.stops.note(line, Stop::Named(naming, symbol));
-        0
+        (0, 0)
     }
 
-    /// Fills in the addresses that an object of the source holds.
-    fn fill(&mut self, place: usize, fixes: &[Fix]) {
-        let number = self.numbers.get(place).copied().unwrap_or(0);
-        for fix in fixes {
-            let object = self.object_of(fix.symbol, fix.line);
-            let word = self.address(object, fix.offset);
-            if let Some(object) = self.objects.get_mut(number) {
-                put_word(object.bytes.as_mut_slice(), fix.at, word);
-            }
+    /// Fills in an address that an object of the source holds.
+    fn fill(&mut self, fix: &Fix) {
+        let number = self.numbers.get(fix.object).copied().unwrap_or(0);
+        let (_, word) = self.reach(fix.symbol, fix.offset, fix.line);
+        if let Some(object) = self.objects.get_mut(number) {
+            put_word(object.bytes.as_mut_slice(), fix.at, word);
         }
     }
 }
 
-/// The name of a symbol.
+/// The name of a symbol; no text where there is none.
 pub fn name_of(source: &Source, symbol: usize) -> &str {
-    match source.symbols.get(symbol) {
-        Some(found) => found.name.as_str(),
-        None => "?",
+    if symbol < source.symbols.len() {
+        source.symbols[symbol].name.as_str()
+    } else {
+        ""
     }
 }
 
@@ -222,11 +214,14 @@ pub fn layout_of(source: &Source) -> Layout<'_> {
     layout.add_all(true);
     if !layout.objects.is_empty() {
         layout.end_region(true);
-        let _ = layout.ends_within();
+        if layout.end > LAST {
+            let line = layout.line;
+            layout.stops.note(line, TOO_MANY);
+        }
     }
     layout.add_all(false);
-    for (place, datum) in source.objects.iter().enumerate() {
-        layout.fill(place, datum.fixes.as_slice());
+    for fix in source.fixes.as_slice() {
+        layout.fill(fix);
     }
     layout
 }

@@ -5,9 +5,6 @@ mod flow;
 mod layout;
 mod points;
 
-pub use fields::{
-    Access, access_of, bit_of, fields_of, next_register, operands_read, read_by, reads_codes,
-    sets_codes, signed, written,
-};
+pub use fields::{Access, access_of, bit_of, operands_read, registers_of, signed};
 pub use layout::{Layout, layout_of, name_of};
 pub use points::{Flow, Point, points_of};

@@ -1,9 +1,10 @@
 //! The instructions of a function with their numbers filled in, and what each does to the flow of control.
-use crate::points::flow::{flow_of, step_from};
+use crate::plain::step_of;
+use crate::points::flow::flow_of;
 use crate::points::layout::Layout;
 use fit_code::Step;
-use fit_gas::Code;
-use v8_formats::Three;
+use fit_gas::{Code, Part, SymbolPlace, with_part};
+use v8_formats::{Three, decode};
 use v8_word::Cond;
 
 /// What an instruction does to the flow of control.
@@ -39,8 +40,23 @@ pub fn points_of(layout: &mut Layout, number: usize, code: &Code) -> Vec<Point> 
     layout.stops.symbol = code.symbol;
     let mut points = Vec::new(layout.stops.memory.alloc);
     for item in code.items.as_slice() {
-        let step = step_from(layout, item);
-        let flow = match flow_of(&layout.linked, number, &step.instr, item) {
+        let mut step = step_of(decode(item.word), item.line);
+        let mut to = None;
+        if let Some(reference) = item.reference {
+            let symbol = reference.symbol;
+            if !matches!(reference.part, Part::Target) {
+                let (object, address) = layout.reach(symbol, reference.offset, item.line);
+                step.instr = decode(with_part(item.word, reference.part, address));
+                step.object = Some(object);
+            } else {
+                match layout.linked.place(symbol) {
+                    SymbolPlace::Function(callee) => step.callee = Some(callee),
+                    SymbolPlace::Label { code, at } if code == number => to = Some(at),
+                    _ => {}
+                }
+            }
+        }
+        let flow = match flow_of(&step.instr, to) {
             Ok(flow) => flow,
             Err(stop) => {
                 layout.stops.note(item.line, stop);

@@ -1,15 +1,15 @@
 //! Slots that may run before their branches.
-use crate::points::{read_by, sets_codes, written};
+use crate::codes::codes_of;
+use crate::points::{bit_of, operands_read};
 use fit_code::Step;
+use std::slice;
+use v8_formats::three_of;
 
 /// Whether the slot of a branch may run before it: it doesn't set the codes, and doesn't write what the last
 /// compare before it read.
 pub fn may_go_before(slot: &Step, steps: &[Step]) -> bool {
-    let mut compared = 0;
-    for step in steps {
-        if sets_codes(&step.instr) {
-            compared = read_by(&step.instr) | written(&step.instr);
-        }
-    }
-    !sets_codes(&slot.instr) & (written(&slot.instr) & compared == 0)
+    let compare = three_of(codes_of(steps).setter);
+    let compared = operands_read(&compare) | bit_of(compare.rd);
+    let slot = codes_of(slice::from_ref(slot));
+    (slot.setter == 0) & (slot.written & compared == 0)
 }

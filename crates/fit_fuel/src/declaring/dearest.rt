@@ -11,14 +11,13 @@ fn counted(fuel: &Fuel, within: &Loop) -> i64 {
     let mut inside: i64 = 0;
     let mut behind: i64 = 0;
     for way in fuel.ways.as_slice() {
-        let Some(to) = way.to else {
-            continue;
-        };
-        let asked = constant_at(fuel.constants.as_slice(), to).unwrap_or(0);
-        if (to == within.head) & !within.has(way.from) {
-            inside = inside.max(way.cost.saturating_add(asked));
-        } else if within.has(way.from) & !within.has(to) {
-            behind = behind.max(asked);
+        if let Some(to) = way.to {
+            let asked = constant_at(fuel.constants.as_slice(), to).unwrap_or(0);
+            if (to == within.head) & !within.has(way.from) {
+                inside = inside.max(way.cost.saturating_add(asked));
+            } else if within.has(way.from) & !within.has(to) {
+                behind = behind.max(asked);
+            }
         }
     }
     inside.saturating_sub(behind)
@@ -42,7 +41,7 @@ pub fn dearest_loop(
             }
             _ => counted(fuel, within),
         };
-        if (found.is_none() | (turns > most))
+        if turns > most
             && let Some(latch) = within.latches.first()
             && *latch < function.blocks.len()
         {

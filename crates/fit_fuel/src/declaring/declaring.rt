@@ -1,10 +1,10 @@
 //! What a fitted program declares.
-use crate::bounds::Bounds;
+use crate::bounds::{Bounds, bounds_of};
 use crate::declaring::dearest::dearest_loop;
 use crate::declaring::limits::check_limits;
-use crate::declaring::metering::{Weighed, set_weights};
+use crate::declaring::metering::set_weights;
 use crate::declaring::terms::find_fuel;
-use crate::meter::Meter;
+use crate::meter::{Meter, places_of};
 use crate::task::{Setting, Task};
 use crate::totals::{Total, total_of};
 use crate::ways::{Fuel, constant_at};
@@ -13,6 +13,7 @@ use fit_ranges::Ranges;
 use fit_text::{Annotations, FunctionNotes};
 use sbx_domain::State;
 use std::alloc::{AllocError, Global};
+use std::mem::replace;
 
 /// A budget is below this.
 const BOUND: u64 = 1 << 40;
@@ -32,74 +33,77 @@ pub fn refused(function: &Function, line: Line, what: &'static str) -> Fault {
     }
 }
 
-/// Finds the bounds of a function's loops, and its fuel, where its meter, if it has one, takes as much as has to be
-/// paid for; says where there is none why, and of which line, if it is of one. Which bounds there are doesn't depend on
-/// what the meter takes.
+/// Finds the fuel of a function with these bounds, where its meter, if it has one, takes as much as has to be paid for;
+/// says where there is none why, and of which line.
 fn settle(
     program: &mut Program,
     task: &Task<'_>,
-    bounds: &mut Bounds,
+    bounds: &Bounds,
     fuel: &mut Fuel,
     state: &mut State,
-) -> Option<(Option<Line>, &'static str)> {
-    let mut lack = Some((None, "no fuel was found for its loops"));
-    let mut is_over = false;
-    for round in 0..ROUNDS {
-        if !is_over & (task.number < program.functions.len()) {
-            is_over = true;
+) -> Option<(Line, &'static str)> {
+    let mut line = NO_LINE;
+    for _ in 0..ROUNDS {
+        if task.number < program.functions.len() {
             let setting = Setting {
                 program,
                 function: &program.functions[task.number],
                 task: &*task,
             };
-            if round == 0 {
-                fuel.take_blocks(task.alloc, setting.function, task.meter);
-                bounds.find(&setting, state, &mut fuel.memory);
+            line = setting.function.line;
+            if !find_fuel(&setting, bounds, fuel, state) {
+                break;
             }
-            if find_fuel(&setting, bounds, fuel, state) {
-                let weighed = match task.meter {
-                    Some(meter) => set_weights(&mut program.functions[task.number], meter, fuel),
-                    None => Weighed::Same,
-                };
-                match weighed {
-                    Weighed::Same => lack = None,
-                    Weighed::More => is_over = false,
-                    Weighed::TooMuch(line) => lack = Some((Some(line), TOO_MUCH)),
-                }
+            let Some(meter) = task.meter else {
+                return None;
+            };
+            match set_weights(&mut program.functions[task.number], meter, fuel) {
+                Ok(true) => {}
+                Ok(false) => return None,
+                Err(line) => return Some((line, TOO_MUCH)),
             }
         }
     }
-    lack
+    Some((line, "no fuel was found for its loops"))
 }
 
-/// Finds the fuel of a function, which each of its blocks says then, and what a call takes. A budget that is too great
-/// is told at the loop that takes the most of it, or at the function if it has none.
+/// Finds the fuel of a function with these bounds, which each of its blocks says then, and what a call takes. A budget
+/// that is too great is told at the loop that takes the most of it, or at the function if it has none.
 fn find_total(
     program: &mut Program,
     task: &Task<'_>,
-    bounds: &mut Bounds,
+    bounds: &Bounds,
     fuel: &mut Fuel,
     state: &mut State,
-) -> Result<(u64, Total), Fault> {
+) -> Result<FunctionNotes, Fault> {
     let lack = settle(program, task, bounds, fuel, state);
-    fuel.fill(task.ranges, task.number);
     fuel.memory.told(())?;
     if task.number >= program.functions.len() {
         return Err(Fault::new(NO_LINE, Reason::Unreadable("no function")));
     }
     let function = &program.functions[task.number];
     if let Some((line, what)) = lack {
-        return Err(refused(function, line.unwrap_or(function.line), what));
+        return Err(refused(function, line, what));
     }
-    let first = constant_at(fuel.constants.as_slice(), 0).unwrap_or(0);
-    let turns = first.max(0).unsigned_abs();
+    let constants = fuel.constants.as_slice();
+    let blocks = fuel.blocks.as_mut_slice();
+    for block in 0..blocks.len() {
+        blocks[block].fuel = constant_at(constants, block).unwrap_or(0);
+    }
+    let turns = constant_at(constants, 0).unwrap_or(0).max(0).unsigned_abs();
     if turns >= BOUND {
         let dearest = dearest_loop(function, bounds.loops.as_slice(), fuel, task.meter);
         let is_loop = dearest.is_some();
         let line = dearest.unwrap_or(function.line);
         return Err(Fault::new(line, Reason::Budget { turns, is_loop }));
     }
-    Ok((turns, total_of(function, Some(turns), task.known)))
+    let total = total_of(function, Some(turns), task.known);
+    Ok(FunctionNotes {
+        budget: turns,
+        room: total.room,
+        depth: total.depth,
+        blocks: replace(&mut fuel.blocks, Vec::new(task.alloc)),
+    })
 }
 
 /// What one function declares. The places of a meter take what the dearest way to the next one weighs. A loop that
@@ -109,23 +113,23 @@ pub fn declare_function(
     task: &Task<'_>,
     state: &mut State,
 ) -> Result<FunctionNotes, Fault> {
-    let mut bounds = Bounds::none(task.alloc);
+    // which bounds there are doesn't depend on what the meter takes
+    let bounds = bounds_of(task.alloc, program, task.ranges, task.number, state)?;
+    let mut memory = Memory::new(task.alloc);
+    let places = match task.meter {
+        Some(meter) if task.number < program.functions.len() => {
+            places_of(&mut memory, meter, &program.functions[task.number])
+        }
+        _ => Vec::new(task.alloc),
+    };
     let mut fuel = Fuel {
-        places: Vec::new(task.alloc),
+        places,
         blocks: Vec::new(task.alloc),
         ways: Vec::new(task.alloc),
         constants: Vec::new(task.alloc),
-        memory: Memory::new(task.alloc),
+        memory,
     };
-    match find_total(program, task, &mut bounds, &mut fuel, state) {
-        Ok((budget, total)) => Ok(FunctionNotes {
-            budget,
-            room: total.room,
-            depth: total.depth,
-            blocks: fuel.blocks,
-        }),
-        Err(fault) => Err(fault),
-    }
+    find_total(program, task, &bounds, &mut fuel, state)
 }
 
 /// Adds what each function of a program declares, from the last one on, since each calls those behind it alone, and

@@ -77,9 +77,10 @@ pub fn check_limits(program: &Program, annotations: &[FunctionNotes]) -> Result<
         words: 0,
         excess: None,
     };
-    for (number, function) in program.functions.as_slice().iter().enumerate() {
+    let functions = program.functions.as_slice();
+    for number in 0..functions.len() {
         if number < annotations.len() {
-            found.check_function(function, &annotations[number]);
+            found.check_function(&functions[number], &annotations[number]);
         }
     }
     match found.excess {

@@ -1,10 +1,9 @@
 //! The terms of blocks: what is left in the meter, and so many turns for each round that is left to a counter.
 use crate::bounds::{Bound, Bounds};
-use crate::task::{Setting, Task};
+use crate::task::Setting;
 use crate::ways::{Fuel, constant_at};
 use fit_code::Memory;
-use fit_graph::{Loop, range_in};
-use fit_text::BlockNotes;
+use fit_graph::Loop;
 use sbx_domain::State;
 use sbx_parts::Term;
 
@@ -24,29 +23,11 @@ fn add_term(terms: &mut Vec<Term>, term: Term, memory: &mut Memory) {
     }
 }
 
-/// Begins with the terms of the meter, in each block that knows it.
-fn begin(task: &Task<'_>, blocks: &mut [BlockNotes], memory: &mut Memory) {
-    for block in 0..blocks.len() {
-        let notes = &mut blocks[block];
-        notes.terms.clear();
-        let cells = task.ranges.cells(task.number, block).unwrap_or(&[]);
-        if let Some(meter) = task.meter
-            && range_in(cells, meter.location()).is_some()
-        {
-            let term = Term {
-                location: meter.location(),
-                coefficient: i32::try_from(meter.unit).unwrap_or(i32::MAX),
-            };
-            memory.push(&mut notes.terms, term);
-        }
-    }
-}
-
 /// Whether a place of the meter stands in a loop.
-pub(crate) fn has_place(within: &Loop, places: &[Option<u32>]) -> bool {
+pub(crate) fn has_place(within: &Loop, places: &[u32]) -> bool {
     let mut is_found = false;
-    for (block, taken) in places.iter().enumerate() {
-        is_found |= taken.is_some() & within.has(block);
+    for block in 0..places.len() {
+        is_found |= (places[block] > 0) & within.has(block);
     }
     is_found
 }
@@ -62,24 +43,25 @@ fn add_rounds(
 ) -> bool {
     let mut are_found = false;
     if let Some(bound) = bound
-        && fuel.pay(setting, Some(within), state)
+        && fuel.pay(setting, within, state)
         && let Some(weight) = constant_at(fuel.constants.as_slice(), within.head)
     {
         // so many turns for each number that the counter changes by pay for a round, above 0 where it falls
-        let rounds: i64 = weight.max(1).saturating_sub(1) / bound.change.saturating_abs().max(1);
-        if let Ok(each) = i32::try_from(rounds.saturating_add(1)) {
+        let more = weight.max(1).unsigned_abs().saturating_sub(1) / bound.change.max(1);
+        if let Ok(each) = i32::try_from(more.saturating_add(1)) {
             are_found = true;
             let term = Term {
                 location: bound.location,
-                coefficient: if bound.change < 0 {
+                coefficient: if bound.falls {
                     each
                 } else {
                     each.saturating_neg()
                 },
             };
-            for (block, notes) in fuel.blocks.iter_mut().enumerate() {
+            let blocks = fuel.blocks.as_mut_slice();
+            for block in 0..blocks.len() {
                 if within.has(block) {
-                    add_term(&mut notes.terms, term, &mut fuel.memory);
+                    add_term(&mut blocks[block].terms, term, &mut fuel.memory);
                 }
             }
         }
@@ -95,7 +77,8 @@ pub fn find_fuel(
     fuel: &mut Fuel,
     state: &mut State,
 ) -> bool {
-    begin(setting.task, fuel.blocks.as_mut_slice(), &mut fuel.memory);
+    let count = setting.function.blocks.len();
+    fuel.begin(setting.task, count);
     // an inner loop stands behind those around it
     for place in (0..bounds.loops.len()).rev() {
         let within = &bounds.loops[place];
@@ -105,5 +88,12 @@ pub fn find_fuel(
             return false;
         }
     }
-    fuel.pay(setting, None, state)
+    // no round of all blocks ends at one of them
+    let all = Loop {
+        head: usize::MAX,
+        latches: Vec::new(setting.task.alloc),
+        holds: fuel.memory.repeat(true, count),
+        parent: None,
+    };
+    fuel.pay(setting, &all, state)
 }

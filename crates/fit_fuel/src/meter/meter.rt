@@ -1,14 +1,14 @@
 //! The places of a meter, and what they take.
-use fit_code::{Block, End, Memory, Step};
+use fit_code::{Block, End, Function, Memory, Step};
 use v8_formats::{Cond, Instr, Operand, Reg, Three, Upper};
 
 /// What a function counts its turns by.
 #[derive(Clone, Copy)]
 pub struct Meter {
+    /// The location that holds the count between places: a register, or a word of the frame.
+    pub location: u16,
     /// The register that is counted down; with a frame word one that holds it for the while.
     pub register: Reg,
-    /// The distance of the frame word from %sp, where there is one.
-    pub word: Option<u32>,
     /// What a weight above the greatest immediate is put into.
     pub scratch: Reg,
     /// What it begins with.
@@ -21,12 +21,9 @@ pub struct Meter {
 const MOST: u32 = 4095;
 
 impl Meter {
-    /// The location that holds the count between places.
-    pub fn location(&self) -> u16 {
-        match self.word {
-            Some(distance) => ((distance.min(4092).saturating_sub(64)) / 4 + 32) as u16,
-            None => u16::from(self.register.number()),
-        }
+    /// Whether a word of the frame holds the count.
+    pub fn has_word(&self) -> bool {
+        self.location >= 32
     }
 }
 
@@ -67,36 +64,34 @@ pub fn counting(meter: &Meter, weight: u32) -> [Option<Instr>; 3] {
     [number[0], number[1], Some(count)]
 }
 
-/// What a block takes that is a place of the meter where no weight was set yet: it counts down, and control leaves
-/// where the count is below 0.
-pub fn taken_by(meter: &Meter, block: &Block) -> Option<u32> {
-    if matches!(
-        block.end,
-        End::Branch {
+/// What each block of a function takes that is a place of the meter where no weight was set yet: it counts down, and
+/// control leaves where the count is below 0. 0 of the others.
+pub fn places_of(memory: &mut Memory, meter: &Meter, function: &Function) -> Vec<u32> {
+    let mut places = Vec::new(memory.alloc);
+    for block in function.blocks.as_slice() {
+        let mut taken = 0;
+        if let End::Branch {
             cond: Cond::Negative,
             ..
+        } = block.end
+            && let Some(last) = block.steps.last()
+            && let Instr::SubCc(fields) = last.instr
+            && let Operand::Immediate(weight) = fields.operand2
+            && (fields.rd == meter.register)
+                & (fields.rs1 == meter.register)
+                & (block.slot.is_some() == meter.has_word())
+        {
+            taken = weight;
         }
-    )
-        && let Some(last) = block.steps.last()
-        && let Instr::SubCc(fields) = last.instr
-        && let Operand::Immediate(weight) = fields.operand2
-        && (fields.rd == meter.register)
-            & (fields.rs1 == meter.register)
-            & (block.slot.is_some() == meter.word.is_some())
-    {
-        Some(weight)
-    } else {
-        None
+        memory.push(&mut places, taken);
     }
+    places
 }
 
-/// Lets a place that takes so much take another weight from now on.
-pub fn set_weight(meter: &Meter, block: &mut Block, taken: u32, weight: u32, memory: &mut Memory) {
-    // what is above the greatest immediate is put into a register by two steps
-    let count = if taken > MOST { 3 } else { 1 };
-    block
-        .steps
-        .truncate(block.steps.len().saturating_sub(count));
+/// Lets a place take another weight from now on.
+pub fn set_weight(meter: &Meter, block: &mut Block, weight: u32, memory: &mut Memory) {
+    // before what counts down stands at most what loads the count
+    block.steps.truncate(usize::from(meter.has_word()));
     for instr in &counting(meter, weight) {
         if let Some(instr) = *instr {
             let step = Step {

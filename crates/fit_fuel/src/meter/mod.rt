@@ -2,4 +2,4 @@
 //! round of its loops; and what those places take.
 mod meter;
 
-pub use meter::{Meter, counting, number_in, set_weight, taken_by};
+pub use meter::{Meter, counting, number_in, places_of, set_weight};

@@ -1,20 +1,35 @@
 //! The fuel of a function's blocks while it is looked for.
-use crate::meter::{Meter, taken_by};
-use crate::task::Setting;
-use crate::ways::costs::{Way, way_of};
-use crate::ways::longest::{constant_at, settle};
-use fit_code::{Function, Memory};
-use fit_graph::Loop;
-use fit_ranges::Ranges;
+use crate::task::{Setting, Task};
+use crate::ways::longest::settle;
+use crate::ways::sums::Sum;
+use crate::ways::weights::weight_of_block;
+use fit_code::Memory;
+use fit_graph::{Loop, range_in, successors_in};
 use fit_text::BlockNotes;
 use sbx_domain::State;
-use std::alloc::Global;
+use sbx_parts::Term;
+
+/// Stands for the location of the meter, whichever that is.
+pub const METER: u16 = u16::MAX;
+
+/// A way out of a block.
+#[derive(Clone, Copy)]
+pub struct Way {
+    pub from: usize,
+    /// The block that it leads to; none where the function or the run ends.
+    pub to: Option<usize>,
+    /// What pays for it in the place of the blocks' constants: of the way on from a place of the meter `METER`, of a
+    /// way that is looked at for a counter its location. 0 where the constants pay.
+    pub location: u16,
+    /// The least difference of the constants.
+    pub cost: i64,
+}
 
 /// Constants and terms of the blocks of a function, and the ways that they pay for.
 #[derive(Drop)]
 pub struct Fuel {
-    /// What those blocks take that are places of the meter.
-    pub places: Vec<Option<u32>>,
+    /// What those blocks take that are places of the meter; 0 of the others.
+    pub places: Vec<u32>,
     /// What is said of each block: cells and terms, and at the end its constant.
     pub blocks: Vec<BlockNotes>,
     /// The ways that are looked at: those of a loop, or all.
@@ -25,61 +40,92 @@ pub struct Fuel {
     pub memory: Memory,
 }
 
+/// The terms of a block, by its number.
+fn terms_at(blocks: &[BlockNotes], block: usize) -> &[Term] {
+    if block < blocks.len() {
+        blocks[block].terms.as_slice()
+    } else {
+        &[]
+    }
+}
+
 impl Fuel {
-    /// Takes in the blocks of a function, of which nothing is known but which are places of its meter.
-    pub fn take_blocks(&mut self, alloc: Global, function: &Function, meter: Option<&Meter>) {
-        for block in function.blocks.as_slice() {
-            let taken = match meter {
-                Some(meter) => taken_by(meter, block),
-                None => None,
-            };
-            self.memory.push(&mut self.places, taken);
-            let notes = BlockNotes {
-                cells: Vec::new(alloc),
+    /// Begins with what is known where each of so many blocks begins, and with the term of the meter in those that know
+    /// it.
+    pub fn begin(&mut self, task: &Task<'_>, count: usize) {
+        let memory = &mut self.memory;
+        self.blocks.clear();
+        for block in 0..count {
+            let cells = task.ranges.cells(task.number, block).unwrap_or(&[]);
+            let mut notes = BlockNotes {
+                cells: memory.copy(cells),
                 fuel: 0,
-                terms: Vec::new(alloc),
+                terms: Vec::new(task.alloc),
             };
-            self.memory.push(&mut self.blocks, notes);
+            if let Some(meter) = task.meter
+                && range_in(cells, meter.location).is_some()
+            {
+                let term = Term {
+                    location: meter.location,
+                    coefficient: i32::try_from(meter.unit).unwrap_or(i32::MAX),
+                };
+                memory.push(&mut notes.terms, term);
+            }
+            memory.push(&mut self.blocks, notes);
         }
     }
 
-    /// Finds what the ways in a loop cost, or all ways of the function, and the least constants that pay for them; says
-    /// whether there are some, and no round gains. A way that can't be gone isn't looked at.
-    pub fn pay(&mut self, setting: &Setting<'_>, within: Option<&Loop>, state: &mut State) -> bool {
+    /// What a way out of a block costs behind which the state is this.
+    fn cost_of(
+        &mut self,
+        setting: &Setting<'_>,
+        from: usize,
+        to: Option<usize>,
+        state: &State,
+    ) -> i64 {
+        let (task, blocks) = (setting.task, self.blocks.as_slice());
+        let weight = weight_of_block(setting, from);
+        let mut sum = Sum::without(task.alloc, weight, terms_at(blocks, from));
+        if let Some(to) = to {
+            sum.add_terms(state, terms_at(blocks, to));
+        }
+        self.memory.is_refused |= sum.is_refused;
+        // nothing is known of a function's first block, whose fuel has no terms
+        let (_, cost) = sum.ends(task.ranges.cells(task.number, from).unwrap_or(&[]));
+        cost
+    }
+
+    /// Finds what the ways in a loop cost, and the least constants that pay for them; says whether there are some, and
+    /// no round gains. A way that can't be gone isn't looked at.
+    pub fn pay(&mut self, setting: &Setting<'_>, within: &Loop, state: &mut State) -> bool {
+        let (program, task) = (setting.program, setting.task);
+        let (ranges, number) = (task.ranges, task.number);
         self.ways.clear();
         // a block has two ways at most
         for place in 0..self.blocks.len().saturating_mul(2) {
-            let (blocks, memory) = (self.blocks.as_slice(), &mut self.memory);
-            let found = way_of(
-                setting,
-                within,
-                blocks,
-                (place / 2, place % 2),
-                state,
-                memory,
-            );
-            if let Some(mut way) = found {
+            let (from, way) = (place / 2, place % 2);
+            let to = successors_in(setting.function, from)[way];
+            let is_open = match to {
+                Some(to) if within.has(to) => ranges.run_block(program, number, from, way, state),
+                Some(_) => false,
+                None => way == 0,
+            };
+            if is_open & within.has(from) {
+                let cost = self.cost_of(setting, from, to, state);
                 // the way on from a place of the meter is the one that isn't taken
-                way.is_metered = (place % 2 == 1) & (way.from < self.places.len())
-                    && self.places[way.from].is_some();
+                let is_place = (way == 1) & (from < self.places.len()) && self.places[from] > 0;
+                let location = if is_place { METER } else { 0 };
+                let way = Way {
+                    from,
+                    to,
+                    location,
+                    cost,
+                };
                 self.memory.push(&mut self.ways, way);
             }
         }
         self.constants = self.memory.repeat(None, self.blocks.len());
-        settle(self.constants.as_mut_slice(), self.ways.as_slice())
-    }
-
-    /// Says of each block its constant, and what is known where it begins, but of the first one.
-    pub fn fill(&mut self, ranges: &Ranges, number: usize) {
-        let blocks = self.blocks.as_mut_slice();
-        for block in 0..blocks.len() {
-            let notes = &mut blocks[block];
-            notes.fuel = constant_at(self.constants.as_slice(), block).unwrap_or(0);
-            if block > 0
-                && let Some(cells) = ranges.cells(number, block)
-            {
-                notes.cells = self.memory.copy(cells);
-            }
-        }
+        let (constants, ways) = (self.constants.as_mut_slice(), self.ways.as_slice());
+        settle(constants, ways, within.head, 0)
     }
 }

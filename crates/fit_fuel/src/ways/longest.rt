@@ -1,5 +1,5 @@
 //! The least constants that pay for all ways: the dearest way on from each block.
-use crate::ways::costs::Way;
+use crate::ways::fuel::Way;
 
 /// The constant of a block; none where no way on is known.
 pub fn constant_at(constants: &[Option<i64>], block: usize) -> Option<i64> {
@@ -10,16 +10,16 @@ pub fn constant_at(constants: &[Option<i64>], block: usize) -> Option<i64> {
     }
 }
 
-/// Raises constants to what the ways ask for, once; says whether one rose. The way on from a place of the meter is left
-/// out.
-fn raise(constants: &mut [Option<i64>], ways: &[Way]) -> bool {
+/// Raises constants to what the ways ask for that this location pays for, once; says whether one rose. Nothing is asked
+/// for at the head of a loop, where a round ends.
+fn raise(constants: &mut [Option<i64>], ways: &[Way], head: usize, location: u16) -> bool {
     let mut has_risen = false;
     for place in (0..ways.len()).rev() {
         let way = &ways[place];
-        if !way.is_metered & (way.from < constants.len()) {
+        if (way.location == location) & (way.from < constants.len()) {
             let behind = match way.to {
-                Some(to) => constant_at(constants, to),
-                None => Some(0),
+                Some(to) if to != head => constant_at(constants, to),
+                _ => Some(0),
             };
             if let Some(behind) = behind {
                 let wanted = Some(way.cost.saturating_add(behind));
@@ -34,11 +34,11 @@ fn raise(constants: &mut [Option<i64>], ways: &[Way]) -> bool {
     has_risen
 }
 
-/// Finds the least constants that pay for all ways but those on from places of the meter; says whether there are some,
+/// Finds the least constants that pay for the ways of a location, in the loop of a head; says whether there are some,
 /// and no round of ways gains.
-pub fn settle(constants: &mut [Option<i64>], ways: &[Way]) -> bool {
+pub fn settle(constants: &mut [Option<i64>], ways: &[Way], head: usize, location: u16) -> bool {
     for _ in 0..=constants.len() {
-        if !raise(constants, ways) {
+        if !raise(constants, ways, head, location) {
             return true;
         }
     }

@@ -1,5 +1,5 @@
-//! Sums of multiples of locations, and the greatest value that they can have. A sum past the greatest number stays
-//! there, and is refused as a budget.
+//! Sums of multiples of locations, and the values that they can have. A sum past the greatest number stays there, and
+//! is refused as a budget.
 use arrayvec::ArrayVec;
 use fit_graph::range_in;
 use sbx_domain::State;
@@ -23,11 +23,11 @@ pub struct Sum {
     pub is_refused: bool,
 }
 
-/// So many times the end of a range that makes the most of it.
-fn greatest_of(times: i64, range: Range) -> i64 {
+/// The least and the greatest of so many times the words of a range.
+fn ends_of(times: i64, range: Range) -> (i64, i64) {
     let low = times.saturating_mul(i64::from(range.lo));
     let high = times.saturating_mul(i64::from(range.hi));
-    low.max(high)
+    (low.min(high), low.max(high))
 }
 
 impl Sum {
@@ -71,23 +71,31 @@ impl Sum {
                 }
                 more = times.saturating_mul(form.constant());
             } else if let Some(range) = state.range(term.location) {
-                more = greatest_of(times, range);
+                (_, more) = ends_of(times, range);
             }
             self.constant = self.constant.saturating_add(more);
         }
     }
 
-    /// The greatest value over all numbers of the cells' ranges; a location that they don't name may be any word.
-    pub fn greatest(&self, cells: &[Cell]) -> i64 {
-        let mut greatest = self.constant;
+    /// Whether what was taken away first has been added again.
+    pub fn is_cancelled(&self) -> bool {
+        matches!(self.multiples.first(), Some(first) if first.times == 0)
+    }
+
+    /// The least and the greatest value over all numbers of the cells' ranges; a location that they don't name may be
+    /// any word.
+    pub fn ends(&self, cells: &[Cell]) -> (i64, i64) {
+        let (mut least, mut greatest) = (self.constant, self.constant);
         for multiple in self.multiples.as_slice() {
             let range = range_in(cells, multiple.location).unwrap_or(Range {
                 lo: i32::MIN,
                 hi: i32::MAX,
                 alignment: 0,
             });
-            greatest = greatest.saturating_add(greatest_of(multiple.times, range));
+            let (low, high) = ends_of(multiple.times, range);
+            least = least.saturating_add(low);
+            greatest = greatest.saturating_add(high);
         }
-        greatest
+        (least, greatest)
     }
 }

@@ -2,12 +2,11 @@
 //! common, and how far a range that grows may grow at once.
 mod cells;
 mod compared;
-mod entries;
 mod run;
 mod shape;
 mod thresholds;
 
-pub use cells::{Growth, join, range_in};
+pub use cells::{join, range_in};
 pub use run::{enter, go_along, return_from, run_step, run_to_call};
 pub use shape::Shape;
-pub use thresholds::{Thresholds, thresholds_of};
+pub use thresholds::{Growth, Thresholds, thresholds_of};

@@ -2,7 +2,6 @@
 use crate::graph::{Graph, Listed, Loop, Order, list, put_places};
 use crate::live::Locations;
 use fit_code::{Function, Memory};
-use std::alloc::Global;
 
 /// What stays the same while a function's ranges are looked for.
 #[derive(Drop)]
@@ -50,20 +49,8 @@ impl Shape {
         end
     }
 
-    /// Nothing, before the shape of a function is known.
-    pub fn none(alloc: Global) -> Shape {
-        Shape {
-            order: Order {
-                blocks: Vec::new(alloc),
-                places: Vec::new(alloc),
-            },
-            sources: Vec::new(alloc),
-            live: Vec::new(alloc),
-        }
-    }
-
-    /// The shape of a function, of whose blocks this is live.
-    pub fn of(memory: &mut Memory, function: &Function, live: &[Locations]) -> Shape {
+    /// The shape of a function, before it is known what is live in it.
+    pub fn of(memory: &mut Memory, function: &Function) -> Shape {
         let graph = Graph::of(memory, function);
         let loops = graph.loops(memory);
         let mut order = graph.order;
@@ -74,15 +61,7 @@ impl Shape {
         Shape {
             order,
             sources: list(memory, function, Listed::Ways),
-            live: memory.copy(live),
-        }
-    }
-
-    /// The place of a block that a way leads back to.
-    pub fn place_of_head(&self, block: usize) -> Option<usize> {
-        match self.order.place(block) {
-            Some(place) if self.end_of(block) > place => Some(place),
-            _ => None,
+            live: memory.repeat(Locations::none(), function.blocks.len()),
         }
     }
 }

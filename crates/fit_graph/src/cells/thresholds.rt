@@ -1,6 +1,4 @@
 //! The numbers at which a range that grows may stop.
-use crate::cells::compared::compared_in;
-use crate::cells::entries::Entries;
 use fit_code::{Function, Memory, Program};
 use sbx_domain::LOCATIONS;
 use sbx_range::Range;
@@ -24,49 +22,121 @@ const COMMON: [i32; 15] = [
     i32::MAX,
 ];
 
-/// Numbers with those before and behind them.
-fn around(a: i32, b: i32) -> [i32; 6] {
-    [
-        a.saturating_sub(1),
-        a,
-        a.saturating_add(1),
-        b.saturating_sub(1),
-        b,
-        b.saturating_add(1),
-    ]
-}
-
 /// In the place of a location, for the numbers of all of them: of words that aren't addresses of the data, and of those
 /// that are.
 const NUMBERS: u16 = 0;
 
 const ADDRESSES: u16 = LOCATIONS as u16;
 
+/// A location that is compared with more numbers than this one hands none on.
+const MOST: usize = 100;
+
 /// Where the ranges of a function's locations may stop.
 #[derive(Drop)]
 pub struct Thresholds {
-    entries: Entries,
+    pub(crate) memory: Memory,
+    /// Each number behind its location; once all are there by location, the least number first, and each once.
+    numbers: Vec<(u16, i32)>,
+    /// Locations that are compared with other ones, whose numbers they get.
+    pub(crate) pairs: Vec<(u16, u16)>,
     /// Where the data begin and end.
     start: i32,
     end: i32,
 }
 
+/// How far the range of a location may grow at once.
+#[derive(Clone, Copy)]
+pub enum Growth<'t> {
+    /// As far as it has to.
+    Least,
+    /// An end that moves goes to a threshold.
+    ToThresholds(&'t Thresholds),
+    /// An end that moves goes to that of all words.
+    ToAll,
+}
+
+impl Growth<'_> {
+    /// Where an end of a location's range goes that has to go to a number: there or beyond it, which is above it, or
+    /// where `is_below` below it.
+    pub(crate) fn end(self, location: u16, number: i32, is_below: bool) -> i32 {
+        match self {
+            Growth::Least => return number,
+            Growth::ToThresholds(thresholds) => {
+                let (entries, behind) = (
+                    thresholds.numbers.as_slice(),
+                    thresholds.end.saturating_add(1),
+                );
+                let is_address = (thresholds.start <= number) & (number <= behind);
+                let all = if is_address { ADDRESSES } else { NUMBERS };
+                for near in &[location, all] {
+                    let place = match entries.binary_search(&(*near, number)) {
+                        Ok(place) => place,
+                        Err(above) => above.wrapping_sub(usize::from(is_below)),
+                    };
+                    if place < entries.len() && entries[place].0 == *near {
+                        return entries[place].1;
+                    }
+                }
+            }
+            Growth::ToAll => {}
+        }
+        if is_below { i32::MIN } else { i32::MAX }
+    }
+}
+
 impl Thresholds {
+    /// Adds numbers of a location.
+    pub(crate) fn add(&mut self, location: u16, numbers: &[i32]) {
+        for number in numbers {
+            self.memory.push(&mut self.numbers, (location, *number));
+        }
+    }
+
+    /// Adds two numbers with those before and behind them.
+    fn add_around(&mut self, location: u16, a: i32, b: i32) {
+        let numbers = [
+            a.saturating_sub(1),
+            a,
+            a.saturating_add(1),
+            b.saturating_sub(1),
+            b,
+            b.saturating_add(1),
+        ];
+        self.add(location, &numbers);
+    }
+
+    /// Locations get the numbers of those that they are compared with, unless these are many.
+    fn hand_on(&mut self) {
+        let (memory, numbers) = (&mut self.memory, &mut self.numbers);
+        for (to, from) in self.pairs.as_slice() {
+            let count = numbers.len();
+            for place in 0..count {
+                let entries = numbers.as_slice();
+                if place < entries.len() && entries[place].0 == *from {
+                    let number = entries[place].1;
+                    memory.push(numbers, (*to, number));
+                }
+            }
+            if numbers.len().saturating_sub(count) > MOST {
+                numbers.truncate(count);
+            }
+        }
+    }
+
     /// Adds the ends of the program's objects, the last places in them for 2, 4 and 8 bytes, and their lengths.
     fn add_objects(&mut self, program: &Program) {
         for object in program.objects.as_slice() {
             let length = i32::try_from(object.bytes.len()).unwrap_or(i32::MAX);
             let start = object.start.cast_signed();
             let end = start.saturating_add(length);
-            self.entries
-                .add(NUMBERS, &[length, length.saturating_sub(1)]);
+            self.add(NUMBERS, &[length, length.saturating_sub(1)]);
             let last = [
                 end.saturating_sub(8),
                 end.saturating_sub(4),
                 end.saturating_sub(2),
             ];
-            self.entries.add(ADDRESSES, &last);
-            self.entries.add(ADDRESSES, &around(start, end));
+            self.add(ADDRESSES, &last);
+            self.add_around(ADDRESSES, start, end);
         }
     }
 
@@ -75,27 +145,16 @@ impl Thresholds {
         for region in program.regions.as_slice() {
             let start = region.start.cast_signed();
             let end = region.start.saturating_add(region.length).cast_signed();
-            self.entries.add(ADDRESSES, &around(start, end));
+            self.add_around(ADDRESSES, start, end);
             self.start = self.start.min(start);
             self.end = self.end.max(end);
         }
     }
 
-    /// The next threshold of a location at or beyond a number: above it, or where `is_below` below it.
-    pub(crate) fn next(&self, location: u16, number: i32, is_below: bool) -> i32 {
-        let entries = self.entries.list.as_slice();
-        let is_address = (self.start <= number) & (number <= self.end.saturating_add(1));
-        let all = if is_address { ADDRESSES } else { NUMBERS };
-        for near in &[location, all] {
-            let place = match entries.binary_search(&(*near, number)) {
-                Ok(place) => place,
-                Err(above) => above.wrapping_sub(usize::from(is_below)),
-            };
-            if place < entries.len() && entries[place].0 == *near {
-                return entries[place].1;
-            }
-        }
-        if is_below { i32::MIN } else { i32::MAX }
+    /// Puts the numbers in their order.
+    fn sort(&mut self) {
+        self.numbers.as_mut_slice().sort_unstable();
+        self.numbers.dedup();
     }
 }
 
@@ -107,19 +166,23 @@ pub fn thresholds_of(
     params: &[Range],
 ) -> Thresholds {
     let mut thresholds = Thresholds {
-        entries: compared_in(memory.alloc, function),
+        memory: *memory,
+        numbers: Vec::new(memory.alloc),
+        pairs: Vec::new(memory.alloc),
         start: i32::MAX,
         end: i32::MIN,
     };
-    thresholds.entries.add(NUMBERS, &COMMON);
+    thresholds.add_compared(function);
+    thresholds.sort();
+    thresholds.hand_on();
+    thresholds.add(NUMBERS, &COMMON);
     thresholds.add_objects(program);
     thresholds.add_regions(program);
     for range in params {
-        let ends = around(range.lo, range.hi);
-        thresholds.entries.add(NUMBERS, &ends);
-        thresholds.entries.add(ADDRESSES, &ends);
+        thresholds.add_around(NUMBERS, range.lo, range.hi);
+        thresholds.add_around(ADDRESSES, range.lo, range.hi);
     }
-    thresholds.entries.sort();
-    memory.is_refused |= thresholds.entries.is_refused;
+    thresholds.sort();
+    *memory = thresholds.memory;
     thresholds
 }

@@ -48,27 +48,21 @@ impl Graph {
         }
     }
 
-    /// The blocks that go back to a block which is on each way to them.
-    fn latches_of(&self, memory: &mut Memory, head: usize) -> Vec<usize> {
-        let mut found = Vec::new(memory.alloc);
-        let predecessors = self.predecessors.as_slice();
-        if head < predecessors.len() {
-            for from in predecessors[head].as_slice() {
-                if let Some(true) = self.goes_to_head(memory, *from, head) {
-                    memory.push(&mut found, *from);
-                }
-            }
-        }
-        found
-    }
-
     /// The loops whose heads are on each way to their blocks, one for each head, by their heads' order: an outer one
     /// before an inner one.
     pub fn loops(&self, memory: &mut Memory) -> Vec<Loop> {
         let mut loops = Vec::new(memory.alloc);
+        let predecessors = self.predecessors.as_slice();
         for head in self.order.blocks.as_slice() {
             let head = *head;
-            let latches = self.latches_of(memory, head);
+            let mut latches = Vec::new(memory.alloc);
+            if head < predecessors.len() {
+                for from in predecessors[head].as_slice() {
+                    if let Some(true) = self.goes_to_head(memory, *from, head) {
+                        memory.push(&mut latches, *from);
+                    }
+                }
+            }
             if !latches.is_empty() {
                 let mut holds = self.come_from(memory, latches.as_slice(), head);
                 let slots = holds.as_mut_slice();

@@ -20,9 +20,10 @@ impl Order {
 
 /// Says for each block of an order at which place it stands.
 pub(crate) fn put_places(places: &mut [Option<usize>], blocks: &[usize]) {
-    for (place, block) in blocks.iter().enumerate() {
-        if *block < places.len() {
-            places[*block] = Some(place);
+    for place in 0..blocks.len() {
+        let block = blocks[place];
+        if block < places.len() {
+            places[block] = Some(place);
         }
     }
 }
@@ -91,7 +92,7 @@ pub(crate) fn order_in(memory: &mut Memory, function: &Function) -> Order {
     // Blocks that are to be entered, and such that were and are to be left: these stand below the blocks of their ways.
     let mut open = memory.copy(&[(Some(0), false)]);
     // A block is entered once, which leaves three here. Each that was entered has some place.
-    for _ in 0..=places.len().saturating_mul(3) {
+    for _ in 0..places.len().saturating_mul(3).saturating_add(1) {
         if let Some((Some(block), is_entered)) = open.pop() {
             if is_entered {
                 memory.push(&mut blocks, block);

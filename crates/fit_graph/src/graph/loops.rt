@@ -25,8 +25,8 @@ impl Loop {
 /// around it.
 pub fn last_around(loops: &[Loop], block: usize) -> Option<usize> {
     let mut found = None;
-    for (number, around) in loops.iter().enumerate() {
-        if around.has(block) {
+    for number in 0..loops.len() {
+        if loops[number].has(block) {
             found = Some(number);
         }
     }

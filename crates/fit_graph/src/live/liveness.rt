@@ -1,34 +1,15 @@
 //! Which locations are live: read later before they are written, whatever the words on the way are.
-use crate::graph::order_in;
+use crate::cells::Shape;
 use crate::live::effects::{LOST, bits_of, effects_of, of_registers};
 use crate::live::locations::Locations;
 use crate::means::Means;
 use fit_code::{Block, End, Function, NO_LINE, Program, Step};
-use std::alloc::Global;
 
 /// How many of %o0 to %o5 a function takes for granted at its entry, and how many its callers do behind a call.
 #[derive(Clone, Copy, PartialEq, Eq)]
 pub struct Counts {
     pub params: u8,
     pub results: u8,
-}
-
-/// How many params and results the functions of a program have, as far as that is known.
-#[derive(Drop)]
-pub struct Asked {
-    pub counts: Vec<Counts>,
-    /// Whether more is live somewhere, or asked for, than before the round over the program.
-    is_new: bool,
-}
-
-/// What is live in a program.
-#[derive(Drop)]
-pub struct Liveness {
-    pub asked: Asked,
-    /// Of each function its blocks, each behind those that follow it but where a loop goes back.
-    orders: Vec<Vec<usize>>,
-    /// Of each function, and of each of its blocks, what is live where it begins.
-    live: Vec<Vec<Locations>>,
 }
 
 /// As many rounds as liveness may take over the program.
@@ -89,137 +70,85 @@ fn live_behind(function: &Function, results: u8, block: &Block, live: &[Location
     behind
 }
 
-/// No params and no results.
-const NONE: Counts = Counts {
-    params: 0,
-    results: 0,
-};
-
-impl Asked {
-    /// How many params and results a function has; none where there is no such function.
-    pub fn of(&self, function: usize) -> Counts {
-        self.counts.get(function).copied().unwrap_or(NONE)
+/// Before a step. The callee of a call is asked for as many results as are live behind it; says whether these are more
+/// than before.
+fn pass_step(counts: &mut [Counts], live: &mut Locations, frame: u32, step: &Step) -> bool {
+    let mut is_new = false;
+    if let Some(callee) = step.callee {
+        if callee < counts.len() {
+            let Counts { params, results } = counts[callee];
+            let asked = last_of_six(live.registers() >> 8);
+            is_new = asked > results;
+            counts[callee].results = results.max(asked);
+            live.pass(&of_registers(first_of_six(params) << 8, LOST));
+        }
+    } else {
+        live.pass(&effects_of(frame, &step.instr));
     }
-
-    /// Before a step. The callee of a call is asked for as many results as are live behind it.
-    fn pass_step(&mut self, live: &mut Locations, frame: u32, step: &Step) {
-        if let Some(callee) = step.callee {
-            let counts = self.counts.as_mut_slice();
-            if callee < counts.len() {
-                let asked = &mut counts[callee];
-                let results = last_of_six(live.registers() >> 8);
-                self.is_new |= results > asked.results;
-                asked.results = asked.results.max(results);
-                live.pass(&of_registers(first_of_six(asked.params) << 8, LOST));
-            }
-        } else {
-            live.pass(&effects_of(frame, &step.instr));
-        }
-        if let Some(slot) = &step.slot {
-            live.pass(&effects_of(frame, slot));
-        }
+    if let Some(slot) = &step.slot {
+        live.pass(&effects_of(frame, slot));
     }
-
-    /// Goes from behind a block to where it begins, in a function of so many results, at whose blocks this is live.
-    fn pass_block(
-        &mut self,
-        live: &mut [Locations],
-        function: &Function,
-        results: u8,
-        place: usize,
-    ) {
-        let blocks = function.blocks.as_slice();
-        if (place < blocks.len()) & (place < live.len()) {
-            let block = &blocks[place];
-            let mut found = live_behind(function, results, block, live);
-            for step in block.steps.as_slice().iter().rev() {
-                self.pass_step(&mut found, function.frame, step);
-            }
-            self.is_new |= live[place].add(&found);
-        }
-    }
-
-    /// Goes over the blocks of the function of a number once, at which this is live: those that follow first, as an
-    /// order has them. Counts what it takes for granted at its entry, but for the first function of a program, which is
-    /// called by nobody.
-    fn pass_function(
-        &mut self,
-        live: &mut [Locations],
-        (number, function): (usize, &Function),
-        order: &[usize],
-    ) {
-        let results = self.of(number).results;
-        for place in order {
-            self.pass_block(live, function, results, *place);
-        }
-        let from = if function.framed { 24 } else { 8u32 };
-        let counts = self.counts.as_mut_slice();
-        if (number > 0) & (number < counts.len()) & !live.is_empty() {
-            let params = last_of_six(live[0].registers() >> from);
-            counts[number].params = counts[number].params.max(params);
-        }
-    }
+    is_new
 }
 
-impl Liveness {
-    /// Goes over a program until no more is live or asked for, through all functions once and again, those that are
-    /// called first.
-    fn settle(&mut self, means: &mut Means, program: &Program) {
-        let (functions, orders) = (program.functions.as_slice(), self.orders.as_slice());
-        let live = self.live.as_mut_slice();
-        self.asked.is_new = true;
-        for _ in 0..ROUNDS {
-            if self.asked.is_new {
-                self.asked.is_new = false;
-                for number in (0..functions.len()).rev() {
-                    if (number < orders.len()) & (number < live.len()) {
-                        let (function, order) = (&functions[number], orders[number].as_slice());
-                        let live = live[number].as_mut_slice();
-                        self.asked.pass_function(live, (number, function), order);
-                    }
+/// Goes over the blocks of the function of a number once: those that follow first, but where a loop goes back. Counts
+/// what it takes for granted at its entry, but for the first function of a program, which is called by nobody. Says
+/// whether more is live or asked for than before.
+fn pass_function(
+    counts: &mut [Counts],
+    number: usize,
+    function: &Function,
+    shape: &mut Shape,
+) -> bool {
+    if number >= counts.len() {
+        return false;
+    }
+    let Counts { params, results } = counts[number];
+    let (blocks, live) = (function.blocks.as_slice(), shape.live.as_mut_slice());
+    let mut is_new = false;
+    for place in shape.order.blocks.as_slice().iter().rev() {
+        if (*place < blocks.len()) & (*place < live.len()) {
+            let block = &blocks[*place];
+            let mut found = live_behind(function, results, block, live);
+            for step in block.steps.as_slice().iter().rev() {
+                is_new |= pass_step(counts, &mut found, function.frame, step);
+            }
+            is_new |= live[*place].add(&found);
+        }
+    }
+    let from = if function.framed { 24 } else { 8u32 };
+    if (number > 0) & !live.is_empty() {
+        counts[number].params = last_of_six(live[0].registers() >> from).max(params);
+    }
+    is_new
+}
+
+/// Finds what is live where the blocks of a program begin, whose functions have these shapes: goes over it until no
+/// more is live or asked for, through all functions once and again, those that are called first. Gives how many params
+/// and results the functions have.
+pub fn find_live(means: &mut Means, program: &Program, shapes: &mut [Shape]) -> Vec<Counts> {
+    let functions = program.functions.as_slice();
+    let none = Counts {
+        params: 0,
+        results: 0,
+    };
+    let mut found = means.memory.repeat(none, functions.len());
+    let counts = found.as_mut_slice();
+    let mut is_new = true;
+    for _ in 0..ROUNDS {
+        if is_new {
+            is_new = false;
+            for number in (0..functions.len()).rev() {
+                if number < shapes.len() {
+                    let (function, shape) = (&functions[number], &mut shapes[number]);
+                    is_new |= pass_function(counts, number, function, shape);
                 }
             }
         }
-        if self.asked.is_new {
-            let what = "rounds over which locations are live";
-            means.spend(NO_LINE, what, ROUNDS as u64);
-        }
     }
-
-    /// What is live in a program.
-    pub fn of(means: &mut Means, program: &Program) -> Liveness {
-        let memory = &mut means.memory;
-        let mut found = Liveness::none(memory.alloc);
-        for function in program.functions.as_slice() {
-            let mut order = order_in(memory, function).blocks;
-            order.reverse();
-            memory.push(&mut found.orders, order);
-            let live = memory.repeat(Locations::none(), function.blocks.len());
-            memory.push(&mut found.live, live);
-            memory.push(&mut found.asked.counts, NONE);
-        }
-        found.settle(means, program);
-        found
+    if is_new {
+        let what = "rounds over which locations are live";
+        means.spend(NO_LINE, what, ROUNDS as u64);
     }
-
-    /// Nothing is live in no program.
-    pub fn none(alloc: Global) -> Liveness {
-        Liveness {
-            asked: Asked {
-                counts: Vec::new(alloc),
-                is_new: false,
-            },
-            orders: Vec::new(alloc),
-            live: Vec::new(alloc),
-        }
-    }
-
-    /// What is live where each block of a function begins.
-    pub fn of_function(&self, function: usize) -> &[Locations] {
-        if function < self.live.len() {
-            self.live[function].as_slice()
-        } else {
-            &[]
-        }
-    }
+    found
 }

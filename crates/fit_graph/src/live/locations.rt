@@ -21,14 +21,6 @@ impl Locations {
         self.words[usize::from(location / 64) % WORDS] >> (location % 64) & 1 == 1
     }
 
-    /// Puts registers in, each of which has a bit, and a frame word, by its location.
-    pub fn insert(&mut self, registers: u32, frame_word: Option<u16>) {
-        self.words[0] |= u64::from(registers);
-        if let Some(location) = frame_word {
-            self.words[usize::from(location / 64) % WORDS] |= 1 << (location % 64);
-        }
-    }
-
     /// Takes out what is written so, and puts in what is read.
     pub fn pass(&mut self, effects: &Effects) {
         self.words[0] = self.words[0] & !u64::from(effects.writes) | u64::from(effects.reads);
@@ -52,20 +44,5 @@ impl Locations {
             self.words[place] |= other.words[place];
         }
         *self != before
-    }
-
-    /// The least location of the set from a number on.
-    pub fn next(&self, from: u16) -> Option<u16> {
-        for place in from / 64..17u16 {
-            let mut word = self.words[usize::from(place) % WORDS];
-            if place == from / 64 {
-                word = word >> (from % 64) << (from % 64);
-            }
-            if word != 0 {
-                let bit = word.trailing_zeros().min(63) as u16;
-                return Some(place.saturating_mul(64).saturating_add(bit));
-            }
-        }
-        None
     }
 }

@@ -4,7 +4,7 @@
 use fit_blocks::{Access, access_of, signed};
 use fit_code::{Block, End, Step};
 use v8_formats::{Instr, Operand, Three, Upper, decode, encode};
-use v8_word::Reg;
+use v8_word::{Reg, reg_at};
 
 /// Where arguments in memory begin, from the stack pointer on.
 const FIRST: i64 = 64;
@@ -17,7 +17,7 @@ const OPERANDS: u32 = 0x0007_ffff;
 
 /// The register that holds the address of a place in the data for the instruction behind it.
 pub fn scratch() -> Reg {
-    Reg::new(6).unwrap_or(Reg::G0)
+    reg_at(6, 0)
 }
 
 /// The same access, sum, difference or compare with other operands.
@@ -116,7 +116,7 @@ pub fn argument_of(
             };
             (access, Some(fields.rd))
         }
-        other => match access_of(&other) {
+        _ => match access_of(&step.instr) {
             Some(access) => (access, None),
             None => return Ok(None),
         },

@@ -125,7 +125,8 @@ pub fn order_of_calls(
             walk.go_into(code.symbol, NO_LINE);
         } else {
             walk.before = owned(&mut walk.stops.memory, entry);
-            walk.stops.note(NO_LINE, Stop::NoEntry);
+            let none = Stop::Named(Naming::NoEntry, source.symbols.len());
+            walk.stops.note(NO_LINE, none);
         }
     }
     walk.go_all();

@@ -2,12 +2,14 @@
 //! frame's memory goes to the data, since nothing recurses.
 use crate::arguments::{BYTES, Reached, argument_of, in_object, scratch};
 use crate::places::{
-    SAVE_AREA, STACK, STACK_POINTER, address_made, by_scratch, place_accessed, taken_by,
-    uses_frame, word_place, word_step,
+    SAVE_AREA, STACK, STACK_POINTER, address_made, by_scratch, place_accessed, word_place,
+    word_step,
 };
-use fit_blocks::{Layout, Stops, next_register, operands_read, written};
+use fit_blocks::{Layout, Stops, operands_read, registers_of, signed};
 use fit_code::{Block, End, Function, Step};
 use fit_gas::owned;
+use v8_formats::{Instr, Operand};
+use v8_word::Reg;
 
 const UNKNOWN_SIZE: &str = "an array of a size that isn't constant";
 
@@ -25,6 +27,11 @@ enum Way {
     Object(usize, u32),
 }
 
+/// The register next to an even one.
+fn next_register(register: Reg) -> Reg {
+    Reg::new(register.number() + 1).unwrap_or(register)
+}
+
 /// A step, by %sp where it spills words, a double word as two.
 fn spilled(step: &Step, size: u32) -> (Step, Option<Step>) {
     let Some((access, place)) = word_place(&step.instr, size) else {
@@ -39,6 +46,11 @@ fn spilled(step: &Step, size: u32) -> (Step, Option<Step>) {
         Some(word_step(step, access.stores, behind, next_register(rd)))
     };
     (first, second)
+}
+
+/// Whether a step reads %sp or %fp.
+fn uses_frame(step: &Step) -> bool {
+    step.callee.is_none() & (registers_of(&step.instr).reads & STACK != 0)
 }
 
 /// What a step does with a frame of some size that has an object in its place, as `argument_of` tells it; and the step
@@ -67,7 +79,7 @@ fn reached(step: &Step, object: usize, size: u32) -> Result<Option<Reached>, &'s
 
 /// Whether a step takes room from %sp, in a function that has no window.
 fn takes_room(framed: bool, step: &Step) -> bool {
-    !framed & (written(&step.instr) & STACK_POINTER != 0)
+    !framed & (registers_of(&step.instr).writes & STACK_POINTER != 0)
 }
 
 /// Whether a function uses its frame of some size; and whether for more than to spill words. It is a fault where a step
@@ -80,7 +92,7 @@ fn use_of(stops: &mut Stops, function: &Function, size: u32) -> (bool, bool) {
         for step in block.steps.as_slice() {
             if takes_room(function.framed, step) {
                 continue;
-            } else if written(&step.instr) & STACK != 0 {
+            } else if registers_of(&step.instr).writes & STACK != 0 {
                 stops.form(step.line, UNKNOWN_SIZE);
             } else if uses_frame(step) {
                 is_used = true;
@@ -164,9 +176,13 @@ fn room_of(stops: &mut Stops, function: &Function) -> Option<u32> {
     for block in function.blocks.as_slice() {
         for step in block.steps.as_slice() {
             if takes_room(function.framed, step) {
-                match taken_by(step) {
-                    Some(bytes) => most = most.max(bytes),
-                    None => stops.form(step.line, UNKNOWN_SIZE),
+                if let Instr::Add(fields) | Instr::Sub(fields) = step.instr
+                    && fields.rs1 == Reg::SP
+                    && let Operand::Immediate(number) = fields.operand2
+                {
+                    most = most.max(signed(number).saturating_abs());
+                } else {
+                    stops.form(step.line, UNKNOWN_SIZE);
                 }
             }
         }
@@ -196,7 +212,7 @@ pub fn place_frame(layout: &mut Layout, function: &mut Function, number: usize) 
         let mut name = owned(&mut layout.stops.memory, "frame of ");
         let pushed = name.push_str(function.name.as_str());
         layout.stops.memory.take(pushed);
-        let object = layout.add(name, false, 8, &[], size as usize, function.line);
+        let object = layout.add(name, 8, &[], size as usize, function.line);
         Way::Object(object, size)
     };
     place_steps(layout, function, way);

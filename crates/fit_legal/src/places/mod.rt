@@ -2,6 +2,6 @@
 mod places;
 
 pub use places::{
-    SAVE_AREA, STACK, STACK_POINTER, address_made, by_scratch, place_accessed, taken_by,
-    uses_frame, word_place, word_step,
+    SAVE_AREA, STACK, STACK_POINTER, address_made, by_scratch, place_accessed, word_place,
+    word_step,
 };

@@ -1,9 +1,9 @@
 //! Places in a function's frame: what its instructions say of them by %sp and %fp.
 use crate::arguments::{scratch, with_operands};
-use fit_blocks::{Access, access_of, bit_of, fields_of, read_by, signed};
+use fit_blocks::{Access, access_of, bit_of, signed};
 use fit_code::Step;
 use fit_gas::word_of;
-use v8_formats::{Instr, Operand, Three};
+use v8_formats::{Instr, Operand, Three, encode, three_of};
 use v8_word::Reg;
 
 /// The least frame, a save area.
@@ -16,11 +16,6 @@ const FRAME: u32 = 4_096;
 pub const STACK_POINTER: u32 = 1 << 14;
 
 pub const STACK: u32 = STACK_POINTER | 1 << 30;
-
-/// Whether a step reads %sp or %fp.
-pub fn uses_frame(step: &Step) -> bool {
-    step.callee.is_none() & (read_by(&step.instr) & STACK != 0)
-}
 
 /// The offset of a register from %sp as it is in the function's body.
 fn base_of(register: Reg, size: u32) -> Option<i64> {
@@ -98,18 +93,14 @@ pub fn address_made(instr: &Instr, size: u32) -> Option<(i64, Reg)> {
         _ => return None,
     };
     let base = base_of(register, size)?;
-    let place = if sign < 0 {
-        base.saturating_sub(number)
-    } else {
-        base.saturating_add(number)
-    };
+    let place = base.saturating_add(number.saturating_mul(sign));
     Some((place, fields.rd))
 }
 
 /// A step with the scratch register in the place of %sp or %fp, where one alone of its operands is that; and the offset
 /// from %sp that the scratch register has to hold.
 pub fn by_scratch(step: &Step, object: usize, size: u32) -> Option<(i64, Step)> {
-    let Three { rs1, operand2, .. } = fields_of(&step.instr)?;
+    let Three { rs1, operand2, .. } = three_of(encode(&step.instr));
     let second = match operand2 {
         Operand::Register(register) => base_of(register, size),
         Operand::Immediate(_) => None,
@@ -129,17 +120,4 @@ pub fn by_scratch(step: &Step, object: usize, size: u32) -> Option<(i64, Step)> 
         ..*step
     };
     Some((base, step))
-}
-
-/// How many bytes a step takes from %sp.
-pub fn taken_by(step: &Step) -> Option<i64> {
-    let (Instr::Add(fields) | Instr::Sub(fields)) = step.instr else {
-        return None;
-    };
-    match fields.operand2 {
-        Operand::Immediate(number) if (fields.rd == Reg::SP) & (fields.rs1 == Reg::SP) => {
-            Some(signed(number).saturating_abs())
-        }
-        _ => None,
-    }
 }

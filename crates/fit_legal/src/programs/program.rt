@@ -2,14 +2,15 @@
 use crate::calls::order_of_calls;
 use crate::frames::place_frame;
 use fit_blocks::{
-    Layout, Stop, Stops, bit_of, function_of, give_one_entry, layout_of, operands_read,
-    put_plainly, read_by, repeat_compares, result_register, step_of, written,
+    Layout, Stop, Stops, bit_of, function_of, give_one_entry, layout_of, operands_read, push_plain,
+    repeat_compares, result_register, step_of,
 };
-use fit_code::{End, Fault, Function, Memory, Program};
-use fit_gas::{Code, Source};
+use fit_code::{End, Fault, Function, Program};
+use fit_gas::Source;
+use fit_graph::{Effects, effects_of};
 use std::alloc::Global;
 use v8_formats::{Instr, Operand, Three};
-use v8_word::Reg;
+use v8_word::{Reg, reg_at};
 
 /// How many functions an image has at most.
 const FUNCTIONS: usize = 256;
@@ -17,77 +18,54 @@ const FUNCTIONS: usize = 256;
 /// The registers that hold frames and the ways back, a bit a register: %sp, %o7, %fp and %i7.
 const HELD: u32 = 1 << 14 | 1 << 15 | 1 << 30 | 1 << 31;
 
-/// It is a fault where a step of a function names a register that holds a frame or a way back, but to spill words, or
-/// the end of a block does.
-fn check_held(stops: &mut Stops, function: &Function) {
+/// Puts plainer forms into a function, and gives its calls the numbers of the program's functions, of which `order` has
+/// those in the source. It is a fault where a step names a register that holds a frame or a way back, but to spill
+/// words, or the end of a block does. A run ends where the first function, which it begins at, would return: in a
+/// framed one %o0 gets its result before that.
+fn put_plainly(stops: &mut Stops, function: &mut Function, order: &[usize], is_first: bool) {
     let what = "a register that holds a frame or the way back";
-    for block in function.blocks.as_slice() {
+    let (framed, frame) = (function.framed, function.frame);
+    for block in function.blocks.iter_mut() {
+        let mut steps = Vec::new(stops.memory.alloc);
         for step in block.steps.as_slice() {
-            let mut named = read_by(&step.instr) | written(&step.instr);
-            if let Instr::Load(fields) | Instr::Store(fields) = step.instr
-                && matches!(fields.operand2, Operand::Immediate(_))
-                && fields.rs1 == Reg::SP
-            {
-                named = bit_of(fields.rd);
-            }
-            if step.callee.is_none() & (named & HELD != 0) {
+            let Effects { reads, writes, .. } = effects_of(frame, &step.instr);
+            if step.callee.is_none() & ((reads | writes) & HELD != 0) {
                 stops.form(step.line, what);
             }
+            push_plain(&mut stops.memory, &mut steps, step, order);
         }
-        if let End::Return(fields) = block.end
-            && (operands_read(&fields) | bit_of(fields.rd)) & HELD != 0
-        {
-            stops.form(block.line, what);
-        }
-    }
-}
-
-/// A run ends where the function that it begins at would return. In a framed one %o0 gets its result before that: what
-/// RESTORE would write there, or what it would move there from %i0.
-fn end_runs(memory: &mut Memory, function: &mut Function) {
-    let framed = function.framed;
-    let rd = result_register();
-    for block in function.blocks.iter_mut() {
         if let End::Return(fields) = block.end {
-            block.end = End::Exit;
-            let instr = if fields.rd == rd {
-                Instr::Add(fields)
-            } else {
-                Instr::Or(Three {
-                    rd,
-                    rs1: Reg::G0,
-                    operand2: Operand::Register(Reg::new(24).unwrap_or(Reg::G0)),
-                })
-            };
-            if framed {
-                memory.push(&mut block.steps, step_of(instr, block.line));
+            if (operands_read(&fields) | bit_of(fields.rd)) & HELD != 0 {
+                stops.form(block.line, what);
+            }
+            if is_first {
+                block.end = End::Exit;
+                if framed {
+                    let result = step_of(result_of(&fields), block.line);
+                    stops.memory.push(&mut steps, result);
+                }
             }
         }
+        block.steps = steps;
     }
 }
 
-/// Adds one function, by its number in the source, and makes it legal.
-fn add(
-    layout: &mut Layout,
-    functions: &mut Vec<Function>,
-    number: usize,
-    code: &Code,
-    order: &[usize],
-) {
-    let mut function = function_of(layout, number, code);
-    give_one_entry(&mut layout.stops, &mut function);
-    place_frame(layout, &mut function, number);
-    check_held(&mut layout.stops, &function);
-    put_plainly(&mut layout.stops.memory, &mut function, order);
-    repeat_compares(&mut layout.stops, &mut function);
-    if functions.is_empty() {
-        end_runs(&mut layout.stops.memory, &mut function);
+/// What leaves in %o0 what a RESTORE of these fields would write there, or what it would move there from %i0.
+fn result_of(fields: &Three) -> Instr {
+    let rd = result_register();
+    if fields.rd == rd {
+        Instr::Add(*fields)
+    } else {
+        Instr::Or(Three {
+            rd,
+            rs1: Reg::G0,
+            operand2: Operand::Register(reg_at(24, 0)),
+        })
     }
-    layout.stops.memory.push(functions, function);
 }
 
-/// Adds the functions of these numbers, up to what stops it: that is first the first function beyond those that an
-/// image may have.
+/// Adds the functions of these numbers in the source, each made legal, up to what stops it: that is first the first
+/// function beyond those that an image may have.
 fn add_all(layout: &mut Layout, functions: &mut Vec<Function>, order: &[usize]) {
     let source = layout.source;
     if let Some(number) = order.get(FUNCTIONS)
@@ -101,7 +79,13 @@ fn add_all(layout: &mut Layout, functions: &mut Vec<Function>, order: &[usize]) 
         if layout.stops.first.is_none()
             && let Some(code) = source.codes.get(*number)
         {
-            add(layout, functions, *number, code, order);
+            let mut function = function_of(layout, *number, code);
+            give_one_entry(&mut layout.stops, &mut function);
+            place_frame(layout, &mut function, *number);
+            let stops = &mut layout.stops;
+            put_plainly(stops, &mut function, order, functions.is_empty());
+            repeat_compares(stops, &mut function);
+            stops.memory.push(functions, function);
         }
     }
     layout.end_region(false)

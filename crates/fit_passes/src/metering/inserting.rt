@@ -1,10 +1,10 @@
 //! Putting the meter into a function. Before some of its blocks stand places that count it down: on each round of its
 //! loops is one, but for those that a counter bounds. A loop so bounded that stands behind a loop without bound, and in
 //! no loop, has one all the same: else each round of that loop would pay for it, since the run may go on there.
-use crate::metering::registers::{free_register, named_in};
+use crate::metering::registers::free_register;
 use fit_code::{Block, End, Function, Memory, NO_LINE};
 use fit_fuel::{Bounds, Meter, counting, number_in};
-use fit_graph::{order_of, successors_in};
+use fit_graph::{Graph, Loop, successors_in};
 use fit_tests::{insert_instr, push_block, register};
 use v8_formats::{Cond, Instr, Operand, Reg, Three};
 
@@ -14,24 +14,32 @@ const EMPTY: u32 = 4 << 16;
 /// The greatest number that a meter may begin with.
 const GREATEST: u64 = 0x7fff_ffff;
 
-/// The blocks that control goes back to, as an order of the blocks has it, but for the heads of loops with bounds: each
-/// round of another loop comes through one of them.
-fn unbounded_heads(memory: &mut Memory, function: &Function, bounds: &Bounds) -> Vec<usize> {
-    let mut heads = Vec::new(memory.alloc);
-    let Ok(order) = order_of(memory.alloc, function) else {
-        memory.is_refused = true;
-        return heads;
-    };
+/// Which blocks of a function get a place of the meter on each way to them: those that control goes back to, as an
+/// order of the blocks has it, since each round of a loop comes through one of them; but of the heads of loops with
+/// bounds only those behind a loop without one, and in no loop.
+fn heads_of(memory: &mut Memory, function: &Function, bounds: &Bounds) -> Vec<bool> {
+    let mut heads = memory.repeat(false, function.blocks.len());
+    let order = Graph::of(memory, function).order;
+    let are_heads = heads.as_mut_slice();
     let blocks = order.blocks.as_slice();
     // a block has two ways at most
     for way in 0..blocks.len().saturating_mul(2) {
         let place = way / 2;
         if place < blocks.len()
             && let Some(to) = successors_in(function, blocks[place])[way % 2]
-            && let Some(earlier) = order.place(to)
-            && (earlier <= place) & !bounds.has_head(to) & !heads.contains(&to)
+            && to < are_heads.len()
         {
-            memory.push(&mut heads, to);
+            are_heads[to] |= order.place(to) <= Some(place);
+        }
+    }
+    let loops = bounds.loops.as_slice();
+    let mut is_behind = false;
+    for number in 0..loops.len() {
+        let within = &loops[number];
+        // a loop stands behind those before it
+        is_behind |= bounds.at(number).is_none();
+        if bounds.at(number).is_some() && within.head < are_heads.len() {
+            are_heads[within.head] = is_behind & within.parent.is_none();
         }
     }
     heads
@@ -39,9 +47,11 @@ fn unbounded_heads(memory: &mut Memory, function: &Function, bounds: &Bounds) ->
 
 /// The instruction that moves the meter's word from the frame or, with `stores`, to it; none where it has none.
 fn word_move(meter: &Meter, stores: bool) -> Option<Instr> {
-    let Some(distance) = meter.word else {
+    if meter.location < 32 {
         return None;
-    };
+    }
+    // word k, which is location 32 + k, stands at %sp + 64 + 4 k
+    let distance = u32::from(meter.location).saturating_sub(16) * 4;
     let fields = Three {
         rd: meter.register,
         rs1: Reg::SP,
@@ -57,25 +67,20 @@ fn word_move(meter: &Meter, stores: bool) -> Option<Instr> {
 /// A meter of so many turns that isn't in use yet: in a register that has no other use or, where there is none, in a
 /// new word of the frame; nothing where there is no room for it.
 fn meter_for(function: &mut Function, turns: u64) -> Option<Meter> {
-    let frame = function.frame;
-    let mut named = 0;
-    for block in function.blocks.as_slice() {
-        named |= named_in(frame, block);
-    }
-    let free = free_register(function.framed, named);
-    let mut word = None;
-    if free.is_none() {
-        if !function.framed || frame > 4096 - 8 {
-            return None;
+    let (frame, free) = (function.frame, free_register(function));
+    let location = match free {
+        Some(number) => u16::from(number),
+        None if function.framed & (frame <= 4096 - 8) => {
+            function.frame = frame.saturating_add(8);
+            (frame.saturating_sub(64) / 4 + 32) as u16
         }
-        function.frame = frame.saturating_add(8);
-        word = Some(frame);
-    }
+        None => return None,
+    };
     let unit = turns / GREATEST + 1;
     let count = (turns / unit).clamp(1, GREATEST);
     Some(Meter {
-        register: free.unwrap_or(register(7)),
-        word,
+        location,
+        register: register(free.unwrap_or(7)),
         scratch: register(5),
         count: u32::try_from(count).unwrap_or(1),
         unit: u32::try_from(unit).unwrap_or(1),
@@ -132,70 +137,63 @@ fn put_place(
     push_block(memory, blocks, &instrs, (end, word_move(meter, true)), line);
 }
 
-/// Puts places of a meter before these of a function's blocks, and before loops that go without the meter in one that
-/// has it, on the ways into them, so that what comes before pays for the way there alone, and not for their rounds.
+/// Puts places of a meter before the heads among a function's blocks, and before loops that go without the meter in
+/// one that has it, on the ways into them, so that what comes before pays for the way there alone, and not for their
+/// rounds.
 fn put_places(
     memory: &mut Memory,
     blocks: &mut Vec<Block>,
     meter: &Meter,
-    bounds: &Bounds,
-    heads: &mut Vec<usize>,
+    loops: &[Loop],
+    heads: &[bool],
 ) {
-    for head in heads.as_slice() {
-        put_place(memory, blocks, meter, *head, &[]);
+    for head in 0..heads.len() {
+        if heads[head] {
+            put_place(memory, blocks, meter, head, &[]);
+        }
     }
-    let loops = bounds.loops.as_slice();
-    let mut is_behind = false;
-    for (number, within) in loops.iter().enumerate() {
+    for within in loops {
         let head = within.head;
-        // a loop stands behind those before it
-        is_behind |= bounds.at(number).is_none();
-        if !heads.contains(&head) {
-            match within.parent {
-                None if is_behind => {
-                    memory.push(heads, head);
-                    put_place(memory, blocks, meter, head, &[]);
-                }
-                Some(parent) if parent < loops.len() && heads.contains(&loops[parent].head) => {
-                    put_place(memory, blocks, meter, head, within.holds.as_slice());
-                }
-                _ => {}
-            }
+        if let Some(parent) = within.parent
+            && (parent < loops.len()) & (head < heads.len())
+            && !heads[head]
+            && loops[parent].head < heads.len()
+            && heads[loops[parent].head]
+        {
+            put_place(memory, blocks, meter, head, within.holds.as_slice());
         }
     }
 }
 
-/// Meters, put into one function after the other.
-#[derive(Drop)]
-pub struct Metering {
-    /// Of each function that was looked at; none where it needs none.
-    pub meters: Vec<Option<Meter>>,
-    /// Whether one lacks the register, or the word, that it would need.
-    pub is_refused: bool,
-    pub memory: Memory,
-}
-
-impl Metering {
-    /// Gives the next function a meter of so many turns: one place for each block that control goes back to but those
-    /// of loops with bounds, of which some have one all the same. None of a function that has no other loops. What the
-    /// meter begins with is set where the function begins.
-    pub fn insert(&mut self, function: &mut Function, turns: u64, bounds: &Bounds) {
-        let memory = &mut self.memory;
-        let mut heads = unbounded_heads(memory, function, bounds);
-        let mut meter = None;
-        if !heads.is_empty() {
-            meter = meter_for(function, turns);
-            self.is_refused = meter.is_none();
-        }
-        if let Some(meter) = &meter {
-            put_places(memory, &mut function.blocks, meter, bounds, &mut heads);
-            let [high, low] = number_in(meter.register, meter.count);
-            for instr in &[word_move(meter, true), low, high] {
-                if let Some(instr) = *instr {
-                    insert_instr(memory, &mut function.blocks, (0, 0), instr, NO_LINE);
-                }
+/// Gives the next function a meter of so many turns: one place for each block that control goes back to but those of
+/// loops with bounds, of which some have one all the same. None of a function that has no other loops. What the meter
+/// begins with is set where the function begins. Says whether the function has the register, or the word, that its
+/// meter needs.
+pub fn insert_meter(
+    memory: &mut Memory,
+    meters: &mut Vec<Option<Meter>>,
+    function: &mut Function,
+    turns: u64,
+    bounds: &Bounds,
+) -> bool {
+    let heads = heads_of(memory, function, bounds);
+    let heads = heads.as_slice();
+    let mut meter = None;
+    let is_needed = heads.contains(&true);
+    if is_needed {
+        meter = meter_for(function, turns);
+    }
+    if let Some(meter) = &meter {
+        let loops = bounds.loops.as_slice();
+        put_places(memory, &mut function.blocks, meter, loops, heads);
+        let [high, low] = number_in(meter.register, meter.count);
+        for instr in &[word_move(meter, true), low, high] {
+            if let Some(instr) = *instr {
+                insert_instr(memory, &mut function.blocks, (0, 0), instr, NO_LINE);
             }
         }
-        memory.push(&mut self.meters, meter);
     }
+    let is_there = meter.is_some() | !is_needed;
+    memory.push(meters, meter);
+    is_there
 }

@@ -3,4 +3,4 @@
 mod inserting;
 mod registers;
 
-pub use inserting::Metering;
+pub use inserting::insert_meter;

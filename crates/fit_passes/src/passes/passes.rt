@@ -1,13 +1,13 @@
 //! From compiler-made assembly to an annotated source.
-use crate::metering::Metering;
+use crate::metering::insert_meter;
 use crate::placing::{fill, place};
-use fit_code::{Block, Fault, Function, Memory, NO_LINE, Program, Reason};
-use fit_fuel::{bounds_of, declare, refused};
+use fit_code::{Fault, Function, Memory, NO_LINE, Program, Reason};
+use fit_fuel::{Meter, bounds_of, declare, refused};
 use fit_ranges::Ranges;
 use fit_tests::{Options, Test, add_tests};
 use fit_text::source_of;
 use sbx_domain::State;
-use std::alloc::Global;
+use std::alloc::{AllocError, Global};
 
 /// A loop of main has no place of the meter where a counter bounds it by so many rounds: they are paid for where it
 /// begins.
@@ -23,6 +23,9 @@ const LEAST: u64 = 10_000;
 
 /// As often as blocks are placed: each time tests may have been added.
 const PLACINGS: u32 = 8;
+
+/// What is said of a function whose meter has no place.
+const NO_REGISTER: &str = "no register is left to count its turns in";
 
 /// How a program is fitted.
 #[derive(Clone, Copy)]
@@ -43,38 +46,35 @@ pub struct Made {
     pub budget: u64,
 }
 
-/// Lowers what the functions that a block calls may take to a share.
-fn lower_shares(shares: &mut [u64], block: &Block, share: u64) {
-    for step in block.steps.as_slice() {
-        if let Some(callee) = step.callee
-            && callee < shares.len()
-        {
-            shares[callee] = share.min(shares[callee]);
+/// Lowers what the functions that a function calls may take to a share of its turns.
+fn share_out(shares: &mut [u64], function: &Function, turns: u64) {
+    let share = (turns / SHARE).max(LEAST);
+    for block in function.blocks.as_slice() {
+        for step in block.steps.as_slice() {
+            if let Some(callee) = step.callee
+                && callee < shares.len()
+            {
+                shares[callee] = share.min(shares[callee]);
+            }
         }
     }
 }
 
-/// The same of the blocks of a function that may take so many turns.
-fn share_out(shares: &mut [u64], function: &Function, turns: u64) {
-    let share = (turns / SHARE).max(LEAST);
-    for block in function.blocks.as_slice() {
-        lower_shares(shares, block, share);
-    }
-}
-
 /// Gives each function with loops that have no bound a meter, by the ranges of the program without meters, up to one
-/// that is refused. Its turns are those that the loops of the function may take in a call; functions call those of
-/// larger numbers alone.
+/// that lacks what it needs. Its turns are those that the loops of the function may take in a call; functions call
+/// those of larger numbers alone.
 fn insert_meters(
     alloc: Global,
     program: &mut Program,
     plan: Plan,
     ranges: &Ranges,
-    metering: &mut Metering,
+    meters: &mut Vec<Option<Meter>>,
     state: &mut State,
-) {
-    let mut shares = metering.memory.repeat(plan.turns, program.functions.len());
+) -> Result<(), Fault> {
+    let mut memory = Memory::new(alloc);
+    let mut shares = memory.repeat(plan.turns, program.functions.len());
     let shares = shares.as_mut_slice();
+    let mut lacking = None;
     for number in 0..shares.len() {
         let most = match (plan.has_bounds, number) {
             (false, _) => 0,
@@ -82,41 +82,51 @@ fn insert_meters(
             (true, _) => SOME,
         };
         match bounds_of(alloc, program, ranges, number, state) {
-            Ok(mut bounds) if number < program.functions.len() && !metering.is_refused => {
+            Ok(mut bounds) if number < program.functions.len() && lacking.is_none() => {
                 bounds.limit(most);
                 let function = &mut program.functions[number];
                 let turns = shares[number];
                 share_out(shares, function, turns);
-                metering.insert(function, turns, &bounds);
+                let is_there = insert_meter(&mut memory, meters, function, turns, &bounds);
+                lacking = (!is_there).then_some(number);
             }
             Ok(_) => {}
-            Err(_error) => metering.memory.is_refused = true,
+            Err(_error) => memory.is_refused = true,
         }
+    }
+    memory.told(())?;
+    match lacking {
+        Some(number) if number < program.functions.len() => {
+            let function = &program.functions[number];
+            Err(refused(function, function.line, NO_REGISTER))
+        }
+        _ => Ok(()),
     }
 }
 
 /// Places the blocks of each function.
-fn place_all(memory: &mut Memory, program: &mut Program) {
+fn place_all(alloc: Global, program: &mut Program) -> Result<(), AllocError> {
+    let mut memory = Memory::new(alloc);
     for function in program.functions.iter_mut() {
-        place(memory, function);
+        place(&mut memory, function);
     }
+    memory.told(())
 }
 
 /// Places blocks, and adds the tests that are asked for then, until none is; the ranges are found anew. Tests know
 /// blocks by their numbers, so each placing begins with none. None goes again: ranges that are found from nothing may
 /// be wider than those that came about step by step, and such a test would come and go without an end.
 fn settle_places(
-    memory: &mut Memory,
+    alloc: Global,
     program: &mut Program,
     options: Options,
     ranges: &mut Ranges,
     state: &mut State,
 ) -> Result<(), Fault> {
     for _ in 0..PLACINGS {
-        place_all(memory, program);
-        memory.told(())?;
-        *ranges = Ranges::of(memory.alloc, program, state)?;
-        if add_tests(memory.alloc, options, program, ranges, state)?.is_empty() {
+        place_all(alloc, program)?;
+        *ranges = Ranges::of(alloc, program, state)?;
+        if add_tests(alloc, options, program, ranges, state)?.is_empty() {
             return Ok(());
         }
     }
@@ -130,69 +140,63 @@ fn settle_places(
 }
 
 /// Puts tests and meters into a program, of which these are the ranges, and its blocks into their places, fills their
-/// slots, and writes its annotated source. What a step leaves known in its place it leaves known in a slot, so that the
-/// ranges stay. A function that was refused a meter is the last one that was looked at.
+/// slots, and gives its annotated source and budget. What a step leaves known in its place it leaves known in a slot,
+/// so that the ranges stay.
 fn write_source(
     alloc: Global,
-    made: &mut Made,
+    program: &mut Program,
+    tests: &mut Vec<Test>,
     plan: Plan,
     ranges: &mut Ranges,
-    metering: &mut Metering,
+    meters: &mut Vec<Option<Meter>>,
     state: &mut State,
-) -> Result<(), Fault> {
+) -> Result<(String, u64), Fault> {
     let mut options = Options {
         by_object: plan.by_object,
         drops: true,
     };
-    let program = &mut made.program;
-    made.tests = add_tests(alloc, options, program, ranges, state)?;
-    insert_meters(alloc, program, plan, ranges, metering, state);
-    metering.memory.told(())?;
-    let last = metering.meters.len().saturating_sub(1);
-    if metering.is_refused && last < program.functions.len() {
-        let function = &program.functions[last];
-        let what = "no register is left to count its turns in";
-        return Err(refused(function, function.line, what));
-    }
+    *tests = add_tests(alloc, options, program, ranges, state)?;
+    insert_meters(alloc, program, plan, ranges, meters, state)?;
     options.drops = false;
-    settle_places(&mut metering.memory, program, options, ranges, state)?;
-    fill(&mut metering.memory, program, ranges);
-    metering.memory.told(()).and(ranges.store(program))?;
-    let notes = declare(alloc, program, ranges, metering.meters.as_slice(), state)?;
-    if let Some(first) = notes.functions.first() {
-        made.budget = first.budget;
-    }
+    settle_places(alloc, program, options, ranges, state)?;
+    let mut memory = Memory::new(alloc);
+    fill(&mut memory, program, ranges);
+    memory.told(()).and(ranges.store(program))?;
+    let notes = declare(alloc, program, ranges, meters.as_slice(), state)?;
+    let budget = match notes.functions.first() {
+        Some(first) => first.budget,
+        None => 0,
+    };
     match source_of(alloc, program, &notes) {
-        Ok(text) => {
-            made.text = text;
-            Ok(())
-        }
+        Ok(text) => Ok((text, budget)),
         Err(fault) => Err(fault),
     }
 }
 
 /// The same, from the program alone on.
-fn fit(alloc: Global, made: &mut Made, plan: Plan) -> Result<(), Fault> {
+fn fit(
+    alloc: Global,
+    program: &mut Program,
+    tests: &mut Vec<Test>,
+    plan: Plan,
+) -> Result<(String, u64), Fault> {
     let mut state = State::new(alloc)?;
-    let mut ranges = Ranges::of(alloc, &made.program, &mut state)?;
-    let mut metering = Metering {
-        meters: Vec::new(alloc),
-        is_refused: false,
-        memory: Memory::new(alloc),
-    };
-    write_source(alloc, made, plan, &mut ranges, &mut metering, &mut state)
+    let mut ranges = Ranges::of(alloc, program, &mut state)?;
+    let mut meters = Vec::new(alloc);
+    let (ranges, meters) = (&mut ranges, &mut meters);
+    write_source(alloc, program, tests, plan, ranges, meters, &mut state)
 }
 
 /// Makes an annotated source of a program.
-pub fn make(alloc: Global, program: Program, plan: Plan) -> Result<Made, Fault> {
-    let mut made = Made {
-        program,
-        tests: Vec::new(alloc),
-        text: String::new(alloc),
-        budget: 0,
-    };
-    match fit(alloc, &mut made, plan) {
-        Ok(()) => Ok(made),
+pub fn make(alloc: Global, mut program: Program, plan: Plan) -> Result<Made, Fault> {
+    let mut tests = Vec::new(alloc);
+    match fit(alloc, &mut program, &mut tests, plan) {
+        Ok((text, budget)) => Ok(Made {
+            program,
+            tests,
+            text,
+            budget,
+        }),
         Err(fault) => Err(fault),
     }
 }

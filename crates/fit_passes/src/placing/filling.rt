@@ -1,5 +1,5 @@
 //! Filling delay slots, and what becomes of blocks that control doesn't come to.
-use fit_code::{Block, End, Function, Memory, Program, Step};
+use fit_code::{Block, End, Memory, Program, Step};
 use fit_ranges::Ranges;
 use fit_tests::{CODES, Kind, Y, number_in, push_instrs, use_of};
 use v8_meaning::{Operation, Transfer, operation_of};
@@ -67,29 +67,23 @@ fn fill_calls(steps: &mut Vec<Step>) {
     }
 }
 
-/// Fills the slots of a function, by its number, whose blocks stand in their places, and makes the blocks to which
-/// control doesn't come ends of the run, with the exit word of their lines as where a test of an index fails.
-fn fill_function(memory: &mut Memory, function: &mut Function, ranges: &Ranges, number: usize) {
-    for (place, block) in function.blocks.iter_mut().enumerate() {
-        if ranges.reaches(number, place) {
-            fill_end(block, place.saturating_add(1));
-            fill_calls(&mut block.steps);
-        } else {
-            let instrs = number_in(EXIT_WORD, Kind::Index.exit_word(block.line));
-            block.steps.clear();
-            block.end = End::Exit;
-            block.slot = None;
-            push_instrs(memory, &mut block.steps, &instrs, block.line);
-        }
-    }
-}
-
 /// Fills slots: what stands before a branch, a jump or a call, and may as well stand behind it, goes to its slot.
 /// Blocks stand in their places then, and go on to the next one without a jump. Those to which control doesn't come,
-/// as behind a test that always fails, are ends of the run: nothing is known where they begin, and the verifier refuses
-/// a block that reads what no cell names.
+/// as behind a test that always fails, are ends of the run, with the exit word of their lines as where a test of an
+/// index fails: nothing is known where they begin, and the verifier refuses a block that reads what no cell names.
 pub fn fill(memory: &mut Memory, program: &mut Program, ranges: &Ranges) {
     for (number, function) in program.functions.iter_mut().enumerate() {
-        fill_function(memory, function, ranges, number);
+        for (place, block) in function.blocks.iter_mut().enumerate() {
+            if ranges.reaches(number, place) {
+                fill_end(block, place.saturating_add(1));
+                fill_calls(&mut block.steps);
+            } else {
+                let instrs = number_in(EXIT_WORD, Kind::Index.exit_word(block.line));
+                block.steps.clear();
+                block.end = End::Exit;
+                block.slot = None;
+                push_instrs(memory, &mut block.steps, &instrs, block.line);
+            }
+        }
     }
 }

@@ -1,6 +1,6 @@
 //! An order of a function's blocks in which control mostly goes on to the next one.
 use fit_code::{Block, End, Function, Memory, opposite};
-use fit_graph::order_of;
+use fit_graph::Graph;
 use fit_tests::{insert_instr, push_block};
 use std::mem;
 use v8_formats::{Instr, Reg, Upper};
@@ -57,11 +57,10 @@ fn number_of(numbers: &[Option<usize>], block: usize) -> Option<usize> {
 fn follow(
     memory: &mut Memory,
     blocks: &mut [Block],
-    first: usize,
+    mut at: usize,
     numbers: &mut [Option<usize>],
     placed: &mut Vec<Block>,
 ) {
-    let mut at = first;
     // each turn places a block
     for _ in 0..blocks.len() {
         if at >= blocks.len() || at >= numbers.len() || numbers[at].is_some() {
@@ -70,16 +69,18 @@ fn follow(
         numbers[at] = Some(placed.len());
         let block = &mut blocks[at];
         let (mut end, line, mut jump) = (block.end, block.line, None);
-        match end {
-            End::Jump(to) => at = to,
-            End::Branch { next, .. } if number_of(numbers, next).is_none() => at = next,
-            End::Branch { cond, taken, next } if number_of(numbers, taken).is_none() => {
+        if let End::Jump(to) = end {
+            at = to;
+        } else if let End::Branch { cond, taken, next } = end {
+            if number_of(numbers, next).is_none() {
+                at = next;
+            } else if number_of(numbers, taken).is_none() {
                 let (cond, taken, next) = (opposite(cond), next, taken);
                 end = End::Branch { cond, taken, next };
                 at = next;
+            } else {
+                jump = Some(next);
             }
-            End::Branch { next, .. } => jump = Some(next),
-            End::Return(_) | End::Exit => {}
         }
         let moved = Block {
             steps: mem::replace(&mut block.steps, Vec::new(memory.alloc)),
@@ -96,8 +97,8 @@ fn follow(
 
 /// Gives the ends of blocks the new numbers. The next block of a branch stands behind it.
 fn renumber(placed: &mut [Block], numbers: &[Option<usize>]) {
-    for (place, block) in placed.iter_mut().enumerate() {
-        match &mut block.end {
+    for place in 0..placed.len() {
+        match &mut placed[place].end {
             End::Jump(to) => *to = number_of(numbers, *to).unwrap_or(0),
             End::Branch { taken, next, .. } => {
                 *taken = number_of(numbers, *taken).unwrap_or(0);
@@ -113,10 +114,7 @@ fn renumber(placed: &mut [Block], numbers: &[Option<usize>]) {
 /// it is no instruction. A leaf's first block has an instruction, also where it only goes on to the next block.
 pub fn place(memory: &mut Memory, function: &mut Function) {
     straighten(function.blocks.as_mut_slice());
-    let Ok(order) = order_of(memory.alloc, function) else {
-        memory.is_refused = true;
-        return;
-    };
+    let order = Graph::of(memory, function).order;
     let blocks = function.blocks.as_mut_slice();
     let mut numbers = memory.repeat(None, blocks.len());
     let numbers = numbers.as_mut_slice();

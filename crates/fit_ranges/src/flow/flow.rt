@@ -1,12 +1,12 @@
 //! The ranges of one function: what is known where its blocks begin, found by going along all ways until nothing new
 //! comes.
-use crate::flow::known::{Known, replace, take_over, touched_in};
-use fit_code::{Block, End, Function, Memory, Program, hull};
+use crate::flow::known::{Known, replace, touched_in};
+use fit_code::{End, Function, Memory, hull};
 use fit_graph::{
-    Growth, Locations, Means, Shape, Thresholds, enter, go_along, join, return_from, run_step,
-    run_to_call, successors_in, thresholds_of,
+    Growth, Means, Shape, Thresholds, enter, go_along, join, range_in, return_from, run_step,
+    run_to_call, successors_in,
 };
-use sbx_domain::{LOCATIONS, State};
+use sbx_domain::State;
 use sbx_range::{Cell, Range, all};
 use std::alloc::Global;
 use std::mem;
@@ -15,46 +15,44 @@ use std::mem;
 /// from this one on.
 const PATIENCE: u32 = 400;
 
-/// What a function is analysed by: its program and itself, and what calls give it.
+/// What a function is analysed by: itself, where its ranges may stop, and what calls give it.
 #[derive(Clone, Copy)]
 pub struct Setting<'a> {
-    pub program: &'a Program,
     pub function: &'a Function,
+    pub shape: &'a Shape,
+    pub thresholds: &'a Thresholds,
     pub results: &'a [Vec<Range>],
     /// Of each block the cells that are said, by location: their ranges are those and no others. None of blocks that
     /// aren't named here.
     pub said: &'a [Vec<Cell>],
 }
 
-/// A call with what its callee is given in %o0, %o1, ..; nothing where that is undefined.
+/// A call with what its callee is given in %o0, %o1, .., where an undefined word is 0.
 #[derive(Clone, Copy)]
 pub struct Call {
     pub block: usize,
     pub callee: usize,
-    pub given: [Option<Range>; 6],
+    pub given: [Range; 6],
 }
 
 /// Which blocks are to be visited.
 #[derive(Drop)]
 struct Pending {
-    /// By the places of the order.
-    places: Vec<bool>,
-    /// The places of the stretch that is looked at: its first one, the first one that may be to be visited, and the one
-    /// behind its last one.
+    /// By their numbers.
+    blocks: Vec<bool>,
+    /// The places of the stretch that is looked at: its first one, the first one whose block may be to be visited, and
+    /// the one behind its last one.
     start: usize,
     first: usize,
     end: usize,
 }
 
 impl Pending {
-    /// The block at a place is to be visited, if there is one.
-    fn mark(&mut self, place: Option<usize>) {
-        let places = self.places.as_mut_slice();
-        if let Some(place) = place
-            && place < places.len()
-        {
-            places[place] = true;
-            self.first = self.first.min(place);
+    /// A block is to be visited.
+    fn mark(&mut self, block: usize) {
+        let blocks = self.blocks.as_mut_slice();
+        if block < blocks.len() {
+            blocks[block] = true;
         }
     }
 }
@@ -62,7 +60,6 @@ impl Pending {
 /// What is known of one function.
 #[derive(Drop)]
 pub struct Flow {
-    shape: Shape,
     /// What is known of each block.
     pub blocks: Vec<Known>,
     /// What the function is called with, in %o0, %o1, ..
@@ -74,36 +71,35 @@ pub struct Flow {
     pub returned: Option<[Range; 6]>,
 }
 
-/// What %o0 to %o5 hold.
-fn outs(state: &State) -> [Option<Range>; 6] {
-    let mut outs = [None; 6];
+/// The range of 0 alone.
+const ZERO: Range = Range {
+    lo: 0,
+    hi: 0,
+    alignment: 3,
+};
+
+/// What %o0 to %o5 hold, where an undefined one stands for a range.
+fn outs(state: &State, undefined: Range) -> [Range; 6] {
+    let mut outs = [undefined; 6];
     for place in 0..6u16 {
-        outs[usize::from(place)] = state.range(8 + place);
+        if let Some(range) = state.range(8 + place) {
+            outs[usize::from(place)] = range;
+        }
     }
     outs
 }
 
-/// Leaves in each place the least range that holds the words of it and of what stands there in others, where an
-/// undefined one stands for a range; these themselves where nothing was found before.
-pub fn add_outs(found: &mut Option<[Range; 6]>, outs: &[Option<Range>; 6], undefined: Range) {
-    let mut ranges = [undefined; 6];
-    for place in 0..6 {
-        let out = outs[place].unwrap_or(undefined);
-        ranges[place] = match found {
-            Some(before) => hull(before[place], out),
-            None => out,
-        };
+/// Leaves in each place the least range that holds the words of it and of what stands there in others; these themselves
+/// where nothing was found before.
+pub fn add_outs(found: &mut Option<[Range; 6]>, outs: &[Range; 6]) {
+    match found {
+        Some(ranges) => {
+            for place in 0..6 {
+                ranges[place] = hull(ranges[place], outs[place]);
+            }
+        }
+        None => *found = Some(*outs),
     }
-    *found = Some(ranges);
-}
-
-/// Whether a block calls a function, or returns.
-fn is_asked(code: &Block) -> bool {
-    let mut is_asked = matches!(code.end, End::Return(_));
-    for step in code.steps.as_slice() {
-        is_asked |= step.callee.is_some();
-    }
-    is_asked
 }
 
 /// The list at a place of others; an empty one where there is none.
@@ -119,11 +115,10 @@ impl Flow {
     /// Nothing is known, and of no function.
     pub fn nothing(alloc: Global) -> Flow {
         Flow {
-            shape: Shape::none(alloc),
             blocks: Vec::new(alloc),
             params: Vec::new(alloc),
             pending: Pending {
-                places: Vec::new(alloc),
+                blocks: Vec::new(alloc),
                 start: 0,
                 first: 0,
                 end: 0,
@@ -138,47 +133,49 @@ impl Flow {
     pub fn mark_calls(&mut self, callee: usize) {
         for call in self.calls.as_slice() {
             if call.callee == callee {
-                self.pending.mark(self.shape.order.place(call.block));
+                self.pending.mark(call.block);
             }
         }
     }
 
-    /// The blocks of the function of a number are to be visited that are among `changed`, those that are new or to
-    /// which other ways lead than in another shape, and those from which ways lead to where other locations are live.
-    fn mark_reshaped(&mut self, before: &Shape, number: usize, changed: &[(usize, usize)]) {
-        let order = &self.shape.order;
-        let (live, live_before) = (self.shape.live.as_slice(), before.live.as_slice());
-        for block in 0..live.len() {
-            let is_new = block >= live_before.len();
-            let sources = at(self.shape.sources.as_slice(), block);
-            let is_led_to = sources != at(before.sources.as_slice(), block);
-            if is_new | is_led_to | changed.contains(&(number, block)) {
-                self.pending.mark(order.place(block));
-            }
-            if is_new || live[block] != live_before[block] {
-                for way in sources {
-                    self.pending.mark(order.place(*way / 2));
-                }
-            }
-        }
-    }
-
-    /// Takes over the function of a number, of which blocks that are among `changed` are others than before, and at
-    /// whose blocks other locations may be live.
+    /// Takes over the function of a number and its shape, where functions had these shapes before, and blocks that are
+    /// among `changed` are others than then. These are to be visited, those that are new or to which other ways lead,
+    /// and those from which ways lead to where other locations are live.
     pub fn renew(
         &mut self,
         memory: &mut Memory,
-        (number, function): (usize, &Function),
-        live: &[Locations],
+        (number, shape): (usize, &Shape),
+        before: &[Shape],
         changed: &[(usize, usize)],
     ) {
-        let shape = Shape::of(memory, function, live);
-        let before = mem::replace(&mut self.shape, shape);
-        self.pending.places = memory.repeat(false, self.shape.order.blocks.len());
-        for _ in self.blocks.len()..function.blocks.len() {
-            memory.push(&mut self.blocks, Known::nothing());
+        let live = shape.live.as_slice();
+        let live_before = if number < before.len() {
+            before[number].live.as_slice()
+        } else {
+            &[]
+        };
+        let sources_before = if number < before.len() {
+            before[number].sources.as_slice()
+        } else {
+            &[]
+        };
+        self.pending.blocks = memory.repeat(false, live.len());
+        for block in 0..live.len() {
+            if block >= self.blocks.len() {
+                memory.push(&mut self.blocks, Known::nothing());
+            }
+            let is_new = block >= live_before.len();
+            let sources = at(shape.sources.as_slice(), block);
+            let is_led_to = sources != at(sources_before, block);
+            if is_new | is_led_to | changed.contains(&(number, block)) {
+                self.pending.mark(block);
+            }
+            if is_new || live[block] != live_before[block] {
+                for way in sources {
+                    self.pending.mark(*way / 2);
+                }
+            }
         }
-        self.mark_reshaped(&before, number, changed);
     }
 
     /// What is known where a block begins.
@@ -215,46 +212,39 @@ impl Flow {
         (block, way): (usize, usize),
         state: &mut State,
     ) -> bool {
-        if block >= function.blocks.len() || !self.begin(function, block, state) {
+        let codes = function.blocks.as_slice();
+        if block >= codes.len() || !self.begin(function, block, state) {
             return false;
         }
-        let code = &function.blocks[block];
+        let code = &codes[block];
         for step in code.steps.as_slice() {
             run_step(function.frame, results, step, state);
         }
         go_along(function.frame, code, way, state)
     }
 
-    /// What is known where a way of a block ends, of what is live there; nothing where it can't be gone. Where the
-    /// block only passes on what it doesn't touch, that is what was known there before, and that as it is where the
-    /// block begins.
+    /// What is known where a way of a block ends, of what is live there; nothing where it can't be gone.
     fn found_along(
         &self,
         setting: &Setting,
         memory: &mut Memory,
-        (block, passes): (usize, bool),
-        (way, to): (usize, usize),
+        (block, way, to): (usize, usize, usize),
         state: &mut State,
     ) -> Option<Vec<Cell>> {
-        if passes & (block < self.blocks.len()) {
-            return self.blocks.as_slice()[block].passed_on(memory, way);
-        }
         if !self.run(setting.function, setting.results, (block, way), state) {
             return None;
         }
         let mut cells = Vec::new(memory.alloc);
-        let live = self.shape.live.as_slice();
+        let live = setting.shape.live.as_slice();
         if to < live.len() {
-            let mut from = 1;
-            // Each turn goes on behind the last location.
-            for _ in 0..LOCATIONS {
-                let Some(location) = live[to].next(from) else {
-                    break;
-                };
-                if let Some(range) = state.range(location) {
+            // Word k of the frame, at 64 + 4 k bytes of it, is location 32 + k.
+            let end = 32 + setting.function.frame.min(4_096) / 4;
+            for location in 1..end as u16 {
+                if live[to].has(location)
+                    && let Some(range) = state.range(location)
+                {
                     memory.push(&mut cells, Cell { location, range });
                 }
-                from = location.saturating_add(1);
             }
         }
         Some(cells)
@@ -262,12 +252,18 @@ impl Flow {
 
     /// What the ways have in common that lead to a block from blocks before a place of the order; nothing where none of
     /// them can be gone.
-    fn common(&self, memory: &mut Memory, block: usize, before: usize) -> Option<Vec<Cell>> {
+    fn common(
+        &self,
+        memory: &mut Memory,
+        shape: &Shape,
+        block: usize,
+        before: usize,
+    ) -> Option<Vec<Cell>> {
         let mut found: Option<Vec<Cell>> = None;
         let blocks = self.blocks.as_slice();
-        for way in at(self.shape.sources.as_slice(), block) {
+        for way in at(shape.sources.as_slice(), block) {
             let from = *way / 2;
-            let is_before = matches!(self.shape.order.place(from), Some(it) if it < before);
+            let is_before = matches!(shape.order.place(from), Some(it) if it < before);
             if is_before & (from < blocks.len()) {
                 let known = &blocks[from];
                 if let Some(cells) = &known.ways[*way % 2] {
@@ -281,95 +277,107 @@ impl Flow {
         found
     }
 
-    /// Puts in the place of what comes along a block's ways what its cells become by that. Before ends go to
-    /// thresholds, what comes into the loop of a head is joined: what only grows by the ways back goes there.
-    fn raise(
+    /// What the cells of the block of a place become by what comes along the ways that lead to it; nothing where none
+    /// of them can be gone. Where they grow, before ends go to thresholds, what comes into the loop of a head is
+    /// joined: what only grows by the ways back goes there. Cells that are said have the ranges that are said.
+    fn new_cells(
         &self,
+        setting: &Setting,
         memory: &mut Memory,
-        thresholds: &Thresholds,
-        block: usize,
-        cells: &mut Vec<Cell>,
-    ) {
+        (grow, place, block): (bool, usize, usize),
+    ) -> Option<Vec<Cell>> {
+        let mut cells = self.common(memory, setting.shape, block, usize::MAX)?;
         let blocks = self.blocks.as_slice();
-        if block < blocks.len()
+        if grow
+            && block < blocks.len()
             && let Some(old) = &blocks[block].cells
         {
             let changes = blocks[block].changes;
-            let mut raised = memory.copy(old.as_slice());
-            let (growth, place) = match self.shape.place_of_head(block) {
-                _ if changes >= PATIENCE => (Growth::ToAll, 0),
-                Some(place) if changes > 2 => (Growth::ToThresholds(thresholds), place),
-                _ => (Growth::Least, 0),
+            let is_head = setting.shape.end_of(block) > place;
+            let (growth, before) = if changes >= PATIENCE {
+                (Growth::ToAll, 0)
+            } else if is_head & (changes > 2) {
+                (Growth::ToThresholds(setting.thresholds), place)
+            } else {
+                (Growth::Least, 0)
             };
-            if let Some(entering) = self.common(memory, block, place) {
+            let mut raised = memory.copy(old.as_slice());
+            if let Some(entering) = self.common(memory, setting.shape, block, before) {
                 join(Growth::Least, &mut raised, entering.as_slice());
             }
             join(growth, &mut raised, cells.as_slice());
-            *cells = raised;
+            cells = raised;
         }
+        for cell in cells.as_mut_slice() {
+            if let Some(range) = range_in(at(setting.said, block), cell.location) {
+                cell.range = range;
+            }
+        }
+        Some(cells)
     }
 
-    /// Visits a block: with thresholds its cells grow, without any they get narrower. Those that are said have the
-    /// ranges that are said. Where its cells are others then, it goes on along each of its ways, or only with what it
-    /// doesn't touch; the blocks where something else is known at a way's end are to be visited, if they stand in the
-    /// stretch.
+    /// Visits the block of a place, whose cells grow or else get narrower. Where they are others then, it goes on
+    /// along each of its ways, or only with what it doesn't touch; the blocks where something else is known at a way's
+    /// end are to be visited, if they stand in the stretch.
     fn visit(
         &mut self,
         setting: &Setting,
         memory: &mut Memory,
-        (thresholds, block): (Option<&Thresholds>, usize),
+        (grow, place, block): (bool, usize, usize),
         state: &mut State,
     ) {
         if block >= self.blocks.len() {
             return;
         }
-        let mut cells = self.common(memory, block, usize::MAX);
-        if let Some(cells) = &mut cells {
-            if let Some(thresholds) = thresholds {
-                self.raise(memory, thresholds, block, cells);
-            }
-            let said = at(setting.said, block);
-            take_over(cells.as_mut_slice(), said, &Locations::none());
-        }
+        let cells = self.new_cells(setting, memory, (grow, place, block));
         let known = &mut self.blocks.as_mut_slice()[block];
         let passes = (block > 0) & known.passes_on(&cells);
-        let is_run = known.take(cells, block == 0, thresholds.is_some());
+        if !known.take(cells, block == 0, grow) {
+            return;
+        }
+        let ways = successors_in(setting.function, block);
         for way in 0..2 {
-            if is_run && let Some(to) = successors_in(setting.function, block)[way] {
-                let found = self.found_along(setting, memory, (block, passes), (way, to), state);
-                let (blocks, place) = (self.blocks.as_mut_slice(), self.shape.order.place(to));
+            if let Some(to) = ways[way] {
+                let found = if passes && block < self.blocks.len() {
+                    self.blocks.as_slice()[block].passed_on(memory, way)
+                } else {
+                    self.found_along(setting, memory, (block, way, to), state)
+                };
+                let blocks = self.blocks.as_mut_slice();
                 if block < blocks.len() {
                     let known = &mut blocks[block];
-                    if replace(&mut known.ways[way], found) & (place < Some(self.pending.end)) {
-                        self.pending.mark(place);
+                    if replace(&mut known.ways[way], found)
+                        && let Some(place) = setting.shape.order.place(to)
+                        && place < self.pending.end
+                    {
+                        self.pending.mark(to);
+                        self.pending.first = self.pending.first.min(place);
                     }
                 }
             }
         }
     }
 
-    /// Visits what is to be visited of the stretch, the first one first, until nothing is.
-    fn visit_all(
-        &mut self,
-        setting: &Setting,
-        means: &mut Means,
-        thresholds: Option<&Thresholds>,
-        state: &mut State,
-    ) {
-        let most = self.pending.end.saturating_add(1).saturating_mul(2_000);
+    /// Visits each block of the stretch, and again those that are to be visited, the first one first, until none is.
+    fn visit_all(&mut self, setting: &Setting, means: &mut Means, grow: bool, state: &mut State) {
+        let (order, end) = (setting.shape.order.blocks.as_slice(), self.pending.end);
+        let most = end.saturating_add(1).saturating_mul(2_000);
         let mut visits: usize = 0;
+        // The first place whose block wasn't visited yet.
+        let mut fresh = self.pending.start;
+        self.pending.first = fresh;
         // Each turn visits a block or goes on to the next place.
         for _ in 0..usize::MAX {
-            let (place, order) = (self.pending.first, self.shape.order.blocks.as_slice());
-            let places = self.pending.places.as_mut_slice();
-            let is_over = (place >= self.pending.end) | means.are_used_up();
-            if is_over || place >= places.len() || place >= order.len() {
+            let (place, asked) = (self.pending.first, self.pending.blocks.as_mut_slice());
+            let is_over = (place >= end) | means.are_used_up();
+            if is_over || place >= order.len() || order[place] >= asked.len() {
                 return;
             }
             let block = order[place];
-            if places[place] {
-                places[place] = false;
-                self.visit(setting, &mut means.memory, (thresholds, block), state);
+            if asked[block] | (place == fresh) {
+                asked[block] = false;
+                fresh = fresh.max(place.saturating_add(1));
+                self.visit(setting, &mut means.memory, (grow, place, block), state);
                 visits = visits.saturating_add(1);
                 if visits == most {
                     let what = "visits of blocks whose ranges are looked for";
@@ -381,56 +389,59 @@ impl Flow {
         }
     }
 
-    /// Looks for what callees are given, and what returns leave, in each block that calls a function or returns.
-    fn summarize(&mut self, setting: &Setting, memory: &mut Memory, state: &mut State) {
-        let (function, results) = (setting.function, setting.results);
-        self.calls.clear();
-        self.returned = None;
-        for (block, code) in function.blocks.as_slice().iter().enumerate() {
-            if !is_asked(code) || !self.begin(function, block, state) {
-                continue;
-            }
-            for step in code.steps.as_slice() {
-                run_to_call(function.frame, step, state);
-                if let Some(callee) = step.callee {
-                    let call = Call {
-                        block,
-                        callee,
-                        given: outs(state),
-                    };
-                    memory.push(&mut self.calls, call);
-                    return_from(results, callee, state);
+    /// Looks for what callees are given, and what returns leave: in each block that control comes to.
+    fn summarize(
+        &self,
+        setting: &Setting,
+        memory: &mut Memory,
+        state: &mut State,
+    ) -> (Vec<Call>, Option<[Range; 6]>) {
+        let (function, mut calls, mut returned) = (setting.function, Vec::new(memory.alloc), None);
+        let codes = function.blocks.as_slice();
+        for block in 0..codes.len() {
+            let code = &codes[block];
+            if self.begin(function, block, state) {
+                for step in code.steps.as_slice() {
+                    run_to_call(function.frame, step, state);
+                    if let Some(callee) = step.callee {
+                        let call = Call {
+                            block,
+                            callee,
+                            given: outs(state, ZERO),
+                        };
+                        memory.push(&mut calls, call);
+                        return_from(setting.results, callee, state);
+                    }
                 }
-            }
-            if let End::Return(fields) = code.end {
-                if function.framed {
-                    state.restore(&fields);
+                if let End::Return(fields) = code.end {
+                    if function.framed {
+                        state.restore(&fields);
+                    }
+                    add_outs(&mut returned, &outs(state, all(0)));
                 }
-                add_outs(&mut self.returned, &outs(state), all(0));
             }
         }
+        (calls, returned)
     }
 
     /// Forgets what is known of the blocks of the stretch.
-    fn forget_stretch(&mut self, function: &Function) {
-        let (order, codes) = (
-            self.shape.order.blocks.as_slice(),
-            function.blocks.as_slice(),
-        );
+    fn forget_stretch(&mut self, setting: &Setting) {
+        let order = setting.shape.order.blocks.as_slice();
+        let codes = setting.function.blocks.as_slice();
         let blocks = self.blocks.as_mut_slice();
         for place in self.pending.start..self.pending.end {
             if place < order.len() {
                 let block = order[place];
                 if (block < codes.len()) & (block < blocks.len()) {
-                    blocks[block].forget(touched_in(function, &codes[block]));
+                    blocks[block].forget(touched_in(setting.function, &codes[block]));
                 }
             }
         }
     }
 
     /// The blocks behind the stretch are to be visited to which something else comes than before it was forgotten.
-    fn mark_behind(&mut self, function: &Function) {
-        let (order, blocks) = (&self.shape.order, self.blocks.as_slice());
+    fn mark_behind(&mut self, setting: &Setting) {
+        let (order, blocks) = (&setting.shape.order, self.blocks.as_slice());
         let places = order.blocks.as_slice();
         let start = self.pending.start.saturating_mul(2);
         for way in start..self.pending.end.saturating_mul(2) {
@@ -438,81 +449,51 @@ impl Flow {
                 let block = places[way / 2];
                 if block < blocks.len()
                     && blocks[block].is_changed(way % 2)
-                    && let Some(to) = successors_in(function, block)[way % 2]
+                    && let Some(to) = successors_in(setting.function, block)[way % 2]
                     && order.place(to) >= Some(self.pending.end)
                 {
-                    self.pending.mark(order.place(to));
+                    self.pending.mark(to);
                 }
             }
         }
     }
 
-    /// Finds the ranges of the stretch anew, by what comes into it: first they grow, then they get narrower, and then
-    /// they grow again, where that broke something. Where something else comes out of it than before, that is to be
-    /// visited.
-    fn settle_stretch(
-        &mut self,
-        setting: &Setting,
-        means: &mut Means,
-        thresholds: &Thresholds,
-        state: &mut State,
-    ) {
-        self.forget_stretch(setting.function);
-        let (start, end) = (self.pending.start, self.pending.end);
-        for thresholds in &[Some(thresholds), None, Some(thresholds)] {
-            let places = self.pending.places.as_mut_slice();
-            if let Some(stretch) = places.get_mut(start..end) {
-                stretch.fill(true);
-            }
-            self.pending.first = start;
-            self.visit_all(setting, means, *thresholds, state);
+    /// Takes over what the function is called with: it is looked at from its first block on, where that is new. Says
+    /// whether something is to be visited.
+    pub fn takes(&mut self, params: Vec<Range>) -> bool {
+        if self.params != params {
+            self.pending.mark(0);
         }
-        self.mark_behind(setting.function);
+        self.params = params;
+        self.pending.blocks.as_slice().contains(&true)
     }
 
-    /// Finds the ranges, by what is to be visited, of a function that is called with these params: it is looked at from
-    /// its first block on, where these are new. A stretch of the order begins where no way leads back behind it, so
-    /// that what stands before it is looked at once.
-    pub fn settle(
-        &mut self,
-        params: Vec<Range>,
-        setting: &Setting,
-        means: &mut Means,
-        state: &mut State,
-    ) {
-        let are_new = self.params != params;
-        self.params = params;
-        if are_new {
-            self.pending.mark(self.shape.order.place(0));
-        }
-        if !self.pending.places.as_slice().contains(&true) {
-            return;
-        }
-        let thresholds = thresholds_of(
-            &mut means.memory,
-            setting.program,
-            setting.function,
-            self.params.as_slice(),
-        );
+    /// Finds the ranges, by what is to be visited. A stretch of the order begins where no way leads back behind it, so
+    /// that what stands before it is looked at once. Its ranges are found anew, by what comes into it: first they grow,
+    /// then they get narrower, and then they grow again, where that broke something. Where something else comes out of
+    /// it than before, that is to be visited.
+    pub fn settle(&mut self, setting: &Setting, means: &mut Means, state: &mut State) {
+        let order = setting.shape.order.blocks.as_slice();
         let mut is_asked = false;
         self.pending.end = 0;
-        for place in 0..self.pending.places.len() {
-            let order = self.shape.order.blocks.as_slice();
-            let places = self.pending.places.as_slice();
-            if (place < places.len()) & (place < order.len()) {
-                let (is_pending, block) = (places[place], order[place]);
-                if place == self.pending.end {
-                    self.pending.start = place;
-                    is_asked = false;
+        for place in 0..order.len() {
+            if place == self.pending.end {
+                self.pending.start = place;
+                is_asked = false;
+            }
+            let blocks = self.pending.blocks.as_slice();
+            is_asked |= order[place] < blocks.len() && blocks[order[place]];
+            let behind = place.saturating_add(1);
+            let end = setting.shape.end_of(order[place]).max(behind);
+            self.pending.end = self.pending.end.max(end);
+            if is_asked & (self.pending.end == behind) {
+                self.forget_stretch(setting);
+                for grow in &[true, false, true] {
+                    self.visit_all(setting, means, *grow, state);
                 }
-                is_asked |= is_pending;
-                let behind = self.shape.end_of(block).max(place.saturating_add(1));
-                self.pending.end = self.pending.end.max(behind);
-                if is_asked & (self.pending.end == place.saturating_add(1)) {
-                    self.settle_stretch(setting, means, &thresholds, state);
-                }
+                self.mark_behind(setting);
             }
         }
-        self.summarize(setting, &mut means.memory, state);
+        (self.calls, self.returned) = self.summarize(setting, &mut means.memory, state);
     }
 }

@@ -39,19 +39,21 @@ fn are_equal(a: &Option<Vec<Cell>>, b: &Option<Vec<Cell>>) -> bool {
     are_equal
 }
 
-/// Puts cells in the place of others, if they aren't the same. Says whether they aren't.
+/// Puts cells in the place of others. Says whether they aren't the same.
 pub fn replace(slot: &mut Option<Vec<Cell>>, new: Option<Vec<Cell>>) -> bool {
     let is_new = !are_equal(slot, &new);
-    if is_new {
-        *slot = new;
-    }
+    *slot = new;
     is_new
 }
 
 /// Adds what is read and written: one word of the frame at most, which is both at times.
 fn add_effects(touched: &mut Locations, effects: &Effects) {
-    let word = effects.word_read.or(effects.word_written);
-    touched.insert(effects.reads | effects.writes, word);
+    touched.pass(&Effects {
+        reads: effects.reads | effects.writes,
+        writes: 0,
+        word_read: effects.word_read.or(effects.word_written),
+        word_written: None,
+    });
 }
 
 /// The locations that a block reads or writes. What its branch is taken by is among them, since a compare reads it.
@@ -67,17 +69,6 @@ pub fn touched_in(function: &Function, block: &Block) -> Locations {
         add_effects(&mut touched, &effects_of(function.frame, slot));
     }
     touched
-}
-
-/// Gives cells the ranges that their locations have among others, but for some locations.
-pub fn take_over(cells: &mut [Cell], others: &[Cell], but: &Locations) {
-    for cell in cells {
-        if !but.has(cell.location)
-            && let Some(range) = range_in(others, cell.location)
-        {
-            cell.range = range;
-        }
-    }
 }
 
 impl Known {
@@ -149,7 +140,13 @@ impl Known {
             return None;
         };
         let mut passed = memory.copy(end.as_slice());
-        take_over(passed.as_mut_slice(), cells.as_slice(), &self.touched);
+        for cell in passed.as_mut_slice() {
+            if !self.touched.has(cell.location)
+                && let Some(range) = range_in(cells.as_slice(), cell.location)
+            {
+                cell.range = range;
+            }
+        }
         Some(passed)
     }
 }

@@ -34,14 +34,15 @@ fn object_at(program: &Program, address: i64) -> Option<usize> {
         let end = start.saturating_add(i64::from(region.length));
         is_in_data |= (start <= address) & (address < end);
     }
-    let mut found = None;
-    for (number, object) in program.objects.as_slice().iter().enumerate() {
+    let objects = program.objects.as_slice();
+    for number in 0..objects.len() {
+        let object = &objects[number];
         let is_behind = address.saturating_add(BEFORE) < i64::from(object.start);
-        if is_in_data & found.is_none() & !is_behind & (address < end_of(object)) {
-            found = Some(number);
+        if is_in_data & !is_behind & (address < end_of(object)) {
+            return Some(number);
         }
     }
-    found
+    None
 }
 
 /// The object that an origin's constant names.
@@ -64,9 +65,12 @@ fn address_with(origin: &Origin, word: i32) -> i64 {
 fn least_object(program: &Program, origin: &Origin) -> Option<usize> {
     let range = origin.range?;
     let number = object_at(program, address_with(origin, range.lo))?;
-    match program.objects.get(number.saturating_add(1)) {
-        Some(next) if i64::from(next.start) <= address_with(origin, range.hi) => None,
-        _ => Some(number),
+    let (objects, next) = (program.objects.as_slice(), number.saturating_add(1));
+    let greatest = address_with(origin, range.hi);
+    if next < objects.len() && i64::from(objects[next].start) <= greatest {
+        None
+    } else {
+        Some(number)
     }
 }
 
@@ -106,13 +110,13 @@ fn bounds_between(
 /// base names, else in the data that may be written.
 pub fn bounds_of(program: &Program, origin: &Origin, size: i64) -> Bounds {
     let named = named_object(program, origin).or(least_object(program, origin));
-    let object = match named {
-        Some(number) => program.objects.get(number),
-        None => None,
-    };
-    let addresses = match object {
-        Some(object) => (i64::from(object.start), end_of(object)),
-        None => window(program.regions.last(), origin.constant),
+    let objects = program.objects.as_slice();
+    let addresses = match named {
+        Some(number) if number < objects.len() => {
+            let object = &objects[number];
+            (i64::from(object.start), end_of(object))
+        }
+        _ => window(program.regions.last(), origin.constant),
     };
     bounds_between(origin, size, addresses, named)
 }

@@ -1,7 +1,7 @@
 //! The ranges of a program: of the cells of its blocks, and of what its functions are called with and give back.
 use crate::flow::{Flow, Setting, add_outs, at};
 use fit_code::{Fault, Function, Memory, NO_LINE, Program, Reason};
-use fit_graph::{Liveness, Locations, Means};
+use fit_graph::{Counts, Locations, Means, Shape, find_live, thresholds_of};
 use sbx_domain::State;
 use sbx_range::{Cell, Range, all, is_within};
 use std::alloc::{AllocError, Global};
@@ -20,7 +20,9 @@ const CELLS: usize = 64;
 #[derive(Drop)]
 pub struct Ranges {
     means: Means,
-    liveness: Liveness,
+    /// How many params and results each function has.
+    counts: Vec<Counts>,
+    shapes: Vec<Shape>,
     flows: Vec<Flow>,
     /// What each function gives back, in %o0, %o1, ..
     results: Vec<Vec<Range>>,
@@ -44,6 +46,19 @@ fn with_said(
     ranges
 }
 
+/// What all calls of a function give it, if control comes to one.
+fn given_to(flows: &[Flow], callee: usize) -> Option<[Range; 6]> {
+    let mut given = None;
+    for flow in flows {
+        for call in flow.calls.as_slice() {
+            if call.callee == callee {
+                add_outs(&mut given, &call.given);
+            }
+        }
+    }
+    given
+}
+
 /// Whether each range lies within the one at its place.
 fn lie_within(found: &[Range], wanted: &[Range]) -> bool {
     let mut lie_within = found.len() == wanted.len();
@@ -54,13 +69,6 @@ fn lie_within(found: &[Range], wanted: &[Range]) -> bool {
     }
     lie_within
 }
-
-/// The range of 0 alone.
-const ZERO: Range = Range {
-    lo: 0,
-    hi: 0,
-    alignment: 3,
-};
 
 impl Ranges {
     /// Finds the ranges of a program.
@@ -81,43 +89,44 @@ impl Ranges {
                 memory: Memory::new(alloc),
                 spent: None,
             },
-            liveness: Liveness::none(alloc),
+            counts: Vec::new(alloc),
+            shapes: Vec::new(alloc),
             flows: Vec::new(alloc),
             results: Vec::new(alloc),
             said,
         };
-        ranges.renew(program, &[], state)?;
-        Ok(ranges)
+        match ranges.renew(program, &[], state) {
+            Ok(()) => Ok(ranges),
+            Err(fault) => Err(fault),
+        }
     }
 
-    /// Finds a function's ranges by what all calls give it, where an undefined word is 0.
+    /// Finds a function's ranges by what all calls give it.
     fn settle_function(
         &mut self,
         program: &Program,
         (number, function): (usize, &Function),
         state: &mut State,
     ) {
-        let mut given = None;
-        for flow in self.flows.as_slice() {
-            for call in flow.calls.as_slice() {
-                if call.callee == number {
-                    add_outs(&mut given, &call.given, ZERO);
-                }
+        let given = given_to(self.flows.as_slice(), number);
+        let (shapes, counts) = (self.shapes.as_slice(), self.counts.as_slice());
+        let (means, flows) = (&mut self.means, self.flows.as_mut_slice());
+        if (number < flows.len()) & (number < shapes.len()) & (number < counts.len()) {
+            let flow = &mut flows[number];
+            let (said, count) = (function.params.as_slice(), counts[number].params);
+            let memory = &mut means.memory;
+            if flow.takes(with_said(memory, said, &given, count)) {
+                let params = flow.params.as_slice();
+                let thresholds = thresholds_of(memory, program, function, params);
+                let setting = Setting {
+                    function,
+                    shape: &shapes[number],
+                    thresholds: &thresholds,
+                    results: self.results.as_slice(),
+                    said: at(self.said.as_slice(), number),
+                };
+                flow.settle(&setting, means, state);
             }
-        }
-        let means = &mut self.means;
-        let setting = Setting {
-            program,
-            function,
-            results: self.results.as_slice(),
-            said: at(self.said.as_slice(), number),
-        };
-        let flows = self.flows.as_mut_slice();
-        if number < flows.len() {
-            let count = self.liveness.asked.of(number).params;
-            let said = function.params.as_slice();
-            let params = with_said(&mut means.memory, said, &given, count);
-            flows[number].settle(params, &setting, means, state);
         }
     }
 
@@ -125,15 +134,15 @@ impl Ranges {
     /// rounds, and wider in all. Says whether it is.
     fn take_results(&mut self, number: usize, function: &Function, round: u32) -> bool {
         let flows = self.flows.as_mut_slice();
-        let results = self.results.as_mut_slice();
+        let (results, counts) = (self.results.as_mut_slice(), self.counts.as_slice());
         let mut is_new = false;
-        if (number < flows.len()) & (number < results.len()) {
+        if (number < flows.len()) & (number < results.len()) & (number < counts.len()) {
             let known = &mut results[number];
             let mut found = with_said(
                 &mut self.means.memory,
                 function.results.as_slice(),
                 &flows[number].returned,
-                self.liveness.asked.of(number).results,
+                counts[number].results,
             );
             is_new = if round < NARROWINGS {
                 *known != found
@@ -181,29 +190,35 @@ impl Ranges {
         changed: &[(usize, usize)],
         state: &mut State,
     ) -> Result<(), Fault> {
-        let liveness = Liveness::of(&mut self.means, program);
-        let are_new = self.liveness.asked.counts != liveness.asked.counts;
-        self.liveness = liveness;
+        let functions = program.functions.as_slice();
+        let mut shapes = Vec::new(self.means.memory.alloc);
+        for function in functions {
+            let shape = Shape::of(&mut self.means.memory, function);
+            self.means.memory.push(&mut shapes, shape);
+        }
+        let counts = find_live(&mut self.means, program, shapes.as_mut_slice());
+        let are_new = self.counts != counts;
         if are_new {
+            self.shapes.clear();
             self.flows.clear();
             self.results.clear();
         }
+        let before = mem::replace(&mut self.shapes, shapes);
         let memory = &mut self.means.memory;
-        let functions = program.functions.as_slice();
-        for number in 0..functions.len() {
+        for number in 0..counts.len() {
             if are_new {
                 let flow = Flow::nothing(memory.alloc);
                 memory.push(&mut self.flows, flow);
-                let count = self.liveness.asked.of(number).results;
-                let results = memory.repeat(all(0), usize::from(count));
+                let results = memory.repeat(all(0), usize::from(counts[number].results));
                 memory.push(&mut self.results, results);
             }
-            let (flows, live) = (self.flows.as_mut_slice(), self.liveness.of_function(number));
-            if number < flows.len() {
-                let named = (number, &functions[number]);
-                flows[number].renew(memory, named, live, changed);
+            let (flows, shapes) = (self.flows.as_mut_slice(), self.shapes.as_slice());
+            if (number < flows.len()) & (number < shapes.len()) {
+                let named = (number, &shapes[number]);
+                flows[number].renew(memory, named, before.as_slice(), changed);
             }
         }
+        self.counts = counts;
         self.settle(program, state)
     }
 
@@ -241,17 +256,24 @@ impl Ranges {
     /// Which ways of a block can be gone.
     pub fn open_ways(&self, function: usize, block: usize) -> (bool, bool) {
         let flows = self.flows.as_slice();
-        if function < flows.len() && block < flows[function].blocks.len() {
-            let known = &flows[function].blocks.as_slice()[block];
-            let [first, second] = &known.ways;
-            return (first.is_some(), second.is_some());
+        if function < flows.len() {
+            let blocks = flows[function].blocks.as_slice();
+            if block < blocks.len() {
+                let known = &blocks[block];
+                let [first, second] = &known.ways;
+                return (first.is_some(), second.is_some());
+            }
         }
         (false, false)
     }
 
     /// What is live where each block of a function begins.
     pub fn live(&self, function: usize) -> &[Locations] {
-        self.liveness.of_function(function)
+        if function < self.shapes.len() {
+            self.shapes[function].live.as_slice()
+        } else {
+            &[]
+        }
     }
 
     /// Begins a block in the verifier's domain, behind SAVE where it is a framed function's first one. Says whether
@@ -291,16 +313,16 @@ impl Ranges {
 
     /// A fault of the first block of which more cells are known than an image's block may list.
     pub fn check_limits(&self, program: &Program) -> Result<(), Fault> {
-        for (number, function) in program.functions.as_slice().iter().enumerate() {
-            for (place, block) in function.blocks.as_slice().iter().enumerate() {
-                if self.cells(number, place).unwrap_or(&[]).len() > CELLS {
-                    return Err(Fault::new(
-                        block.line,
-                        Reason::TooMany {
-                            what: "registers and frame words in use where a block begins",
-                            most: CELLS as u64,
-                        },
-                    ));
+        let functions = program.functions.as_slice();
+        for number in 0..functions.len() {
+            let blocks = functions[number].blocks.as_slice();
+            for block in 0..blocks.len() {
+                if let Some(cells) = self.cells(number, block)
+                    && cells.len() > CELLS
+                {
+                    let what = "registers and frame words in use where a block begins";
+                    let most = CELLS as u64;
+                    return Err(Fault::new(blocks[block].line, Reason::TooMany { what, most }));
                 }
             }
         }
@@ -310,9 +332,10 @@ impl Ranges {
     /// Writes down for each function what it is called with and what it gives back.
     pub fn store(&self, program: &mut Program) -> Result<(), AllocError> {
         let mut memory = self.means.memory;
-        for (number, function) in program.functions.iter_mut().enumerate() {
-            function.params = memory.copy(self.params(number));
-            function.results = memory.copy(at(self.results.as_slice(), number));
+        let functions = program.functions.as_mut_slice();
+        for number in 0..functions.len() {
+            functions[number].params = memory.copy(self.params(number));
+            functions[number].results = memory.copy(at(self.results.as_slice(), number));
         }
         memory.told(())
     }

@@ -90,13 +90,13 @@ impl Asking<'_> {
         origin: Option<Origin>,
     ) -> Option<Lack> {
         let (size, writes) = (bytes_in(transfer.size()), transfer.writes_memory());
-        let from = i64::from(range.lo);
-        let to = i64::from(range.hi).saturating_add(i64::from(size));
+        let from = range.lo as i64;
+        let to = range.hi as i64 + size as i64;
         let mut is_shown = false;
         // all of it has to lie in one region, which may be written where it writes
         for region in self.program.regions.as_slice() {
-            let start = i64::from(region.start);
-            let end = start.saturating_add(i64::from(region.length));
+            let start = region.start as i64;
+            let end = start + region.length as i64;
             is_shown |= (start <= from) & (to <= end) & !(writes & region.readonly);
         }
         is_shown &= needed_alignment(size) <= range.alignment;
@@ -107,7 +107,7 @@ impl Asking<'_> {
             && number < objects.len()
         {
             let object = &objects[number];
-            is_shown &= (i64::from(object.start) <= from) & (to <= end_of(object));
+            is_shown &= (object.start as i64 <= from) & (to <= end_of(object));
         }
         if is_shown {
             return None;

@@ -1,6 +1,6 @@
 //! Blocks in two.
 use fit_code::{Block, End, Line, Memory, Step};
-use v8_formats::Instr;
+use v8_formats::{Cond, Instr};
 
 /// Puts instructions that call nobody behind steps, those of them that are there.
 pub fn push_instrs(
@@ -31,16 +31,18 @@ pub fn insert_instr(
     instr: Instr,
     line: Line,
 ) {
-    let blocks = blocks.as_mut_slice();
-    if number < blocks.len() && place <= blocks[number].steps.len() {
-        let step = Step {
-            instr,
-            line,
-            callee: None,
-            object: None,
-            slot: None,
-        };
-        memory.is_refused |= blocks[number].steps.insert(place, step).is_err();
+    let step = Step {
+        instr,
+        line,
+        callee: None,
+        object: None,
+        slot: None,
+    };
+    if number < blocks.len() {
+        let steps = &mut blocks[number].steps;
+        if place <= steps.len() {
+            memory.is_refused |= steps.insert(place, step).is_err();
+        }
     }
 }
 
@@ -63,35 +65,43 @@ pub fn push_block(
     memory.push(blocks, block);
 }
 
-/// Puts a copy of a block's steps from a place on, and of its end, behind the other blocks.
-pub fn copy_block(memory: &mut Memory, blocks: &mut Vec<Block>, number: usize, place: usize) {
-    if number < blocks.len() {
-        let block = &blocks[number];
+/// The same with an end that goes to a block where a condition holds, and else on to the block that is made then.
+pub fn push_branch(
+    memory: &mut Memory,
+    blocks: &mut Vec<Block>,
+    instrs: &[Option<Instr>],
+    (cond, taken): (Cond, usize),
+    line: Line,
+) {
+    let next = blocks.len().saturating_add(1);
+    let end = End::Branch { cond, taken, next };
+    push_block(memory, blocks, instrs, (end, None), line);
+}
+
+/// Puts a copy of a block's steps from a place on, and of its end, behind the other blocks; gives its number. With
+/// `cuts` the block itself ends before that place then, and goes on to the copy.
+pub fn copy_block(
+    memory: &mut Memory,
+    blocks: &mut Vec<Block>,
+    (number, place): (usize, usize),
+    cuts: bool,
+) -> usize {
+    let rest = blocks.len();
+    if number < rest {
+        let block = &mut blocks[number];
+        let steps = block.steps.as_slice();
         let copied = Block {
-            steps: memory.copy(block.steps.get(place..).unwrap_or(&[])),
+            steps: memory.copy(&steps[place.min(steps.len())..]),
             end: block.end,
             slot: block.slot,
             line: block.line,
         };
+        if cuts {
+            block.steps.truncate(place);
+            block.end = End::Jump(rest);
+            block.slot = None;
+        }
         memory.push(blocks, copied);
-    }
-}
-
-/// Cuts a block before the step at a place. What was behind it stands in a new block, whose number this is, and to
-/// which the block goes on.
-pub fn cut_block(
-    memory: &mut Memory,
-    blocks: &mut Vec<Block>,
-    number: usize,
-    place: usize,
-) -> usize {
-    let rest = blocks.len();
-    copy_block(memory, blocks, number, place);
-    if number < blocks.len() {
-        let block = &mut blocks[number];
-        block.steps.truncate(place);
-        block.end = End::Jump(rest);
-        block.slot = None;
     }
     rest
 }

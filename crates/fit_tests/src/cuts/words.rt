@@ -1,5 +1,5 @@
 //! Steps by what they do.
-use v8_formats::{Instr, Operand, Reg, Three, Upper, decode, encode};
+use v8_formats::{Instr, Operand, Reg, Three, Upper};
 
 /// The register of a number from 0 to 31; %g0 for another one.
 pub fn register(number: u8) -> Reg {
@@ -37,10 +37,4 @@ pub fn clearing(location: u16) -> Instr {
         // word k stands at %sp + 64 + 4 k
         Instr::Store(by_immediate(0, 14, 4 * i32::from(location) - 64))
     }
-}
-
-/// A load or a store that goes by one register alone: its word says that register, an immediate, and 0.
-pub fn going_by(instr: &Instr, address: Reg) -> Instr {
-    let register = u32::from(address.number()) << 14;
-    decode(encode(instr) & !0x7_ffff | register | 1 << 13)
 }

@@ -1,13 +1,8 @@
-//! Run-time tests: what they ask for, as notes to the author, and their blocks, of an address, by the register that it
-//! is worked out from, and of a divisor.
-mod divide;
+//! Run-time tests: how what isn't shown is tested, what tests ask for, as notes to the author, and their blocks.
 mod insert;
 mod plan;
 mod shown;
-mod test;
 
-pub use divide::push_divisor_test;
-pub use insert::{Frame, subtracting};
-pub use plan::{Plan, Way, plan_in};
+pub use insert::{subtracting, take_division};
+pub use plan::{Kind, Plan, SUM, Test, Way, plan_of};
 pub use shown::Shown;
-pub use test::{Kind, Test};

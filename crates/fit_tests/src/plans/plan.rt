@@ -1,17 +1,52 @@
-//! How an address is tested.
-use fit_ranges::{Bounds, Origin};
+//! Tests, where the run ends if one fails, and how what isn't shown is tested.
+use crate::asks::{Access, Ask, Lack, needed_alignment};
+use crate::cuts::{CODES, SCRATCH, Y};
+use fit_code::{Line, Program};
+use fit_ranges::{Bounds, Origin, bounds_in_constants, bounds_of};
 use sbx_range::{Range, all};
+use v8_formats::Operand;
 
-/// What is asked of a register's word.
+/// What a test asks for. The exit word is 65,536 times its number and the line.
+#[derive(Clone, Copy)]
+pub enum Kind {
+    /// That an index lies in an object.
+    Index = 1,
+    /// That an address lies in the data.
+    Pointer = 2,
+    /// That a divisor isn't 0.
+    Divisor = 3,
+}
+
+impl Kind {
+    /// The exit word of a run that ends where a test in a line fails.
+    pub fn exit_word(self, line: Line) -> i32 {
+        self as i32 * 65_536 + line.number.min(0xffff) as i32
+    }
+}
+
+/// What is asked of a register's word, and where.
 #[derive(Clone, Copy)]
 pub struct Plan {
-    pub register: u8,
-    /// What is known of it.
+    pub kind: Kind,
+    /// What is known of the index, the address or the divisor.
     pub range: Range,
+    pub register: u8,
+    /// The word has to lie within these, which also name the object that an index is one of; of a divisor they say
+    /// nothing.
     pub bounds: Bounds,
     /// It has to be a multiple of 2 to this power, where that isn't known; else 0.
     pub alignment: u8,
+    /// Before the steps of these places of the block the register has that word: from the first to the last.
+    pub first: usize,
+    pub last: usize,
+    /// What may not be in use where the test stands.
+    pub changed: u64,
+    /// How it is seen that the word lies within its bounds; of a divisor this says nothing, too.
     pub way: Way,
+    /// The same among the constants, where a load that doesn't pass the first test may pass this one.
+    pub constants: Option<Way>,
+    /// Whether nothing can be said of the word that isn't known.
+    pub says_nothing: bool,
 }
 
 /// How it is seen that a word lies from `lo` to `hi`.
@@ -27,43 +62,150 @@ pub enum Way {
     Never,
 }
 
-/// How an access is tested by the register that its address is worked out from, whose word has to lie in bounds, where
-/// the address has to be a multiple of 2 to the power `needed`. The numbers that the word is compared with have to be
-/// signed words.
-pub fn plan_in(origin: &Origin, bounds: Bounds, needed: u8) -> Plan {
-    let range = origin.range.unwrap_or(all(0));
-    // So many low bits are 0 in each multiple of the factor.
-    let trailing = origin.times.trailing_zeros().min(3) as u8;
-    let needed = needed.saturating_sub(trailing);
-    let alignment = if range.alignment < needed { needed } else { 0 };
+/// A test that was put into a program.
+#[derive(Clone, Copy)]
+pub struct Test {
+    pub line: Line,
+    pub function: usize,
+    /// Where the run ends if it fails.
+    pub exit: usize,
+    /// The first block of the test, and the one to which control goes where the test isn't needed.
+    pub head: usize,
+    pub rest: usize,
+    /// What is tested.
+    pub plan: Plan,
+}
+
+/// The scratch register that the sum of an access's two parts is put into, %g7.
+pub const SUM: u8 = 7;
+
+/// Nothing is said of the bounds of a divisor.
+const NO_BOUNDS: Bounds = Bounds {
+    lo: 0,
+    hi: 0,
+    object: None,
+};
+
+/// How it is seen that a word of which this is known lies in bounds; `is_aligned` where it is made seen before that its
+/// low bits are 0. The numbers that the word is compared with have to be signed words.
+fn way_in(range: Range, bounds: Bounds, is_aligned: bool) -> Way {
     let Bounds { lo, hi, object } = bounds;
-    let (least, greatest) = (i64::from(range.lo), i64::from(range.hi));
+    let (least, greatest) = (range.lo as i64, range.hi as i64);
+    if hi < lo {
+        return Way::Never;
+    }
+    if (lo <= least) & (greatest <= hi) {
+        return Way::Known;
+    }
     let is_from_0 = (lo == 0) | (lo < 0) & (least >= 0);
     let first = if is_from_0 {
         0
-    } else if object.is_none() | (alignment > 0) {
+    } else if object.is_none() | is_aligned {
         // A multiple of 8 that isn't below.
         lo.saturating_add(7) & -8
     } else {
         lo
     };
-    let length = hi.saturating_sub(first);
-    let way = if hi < lo {
-        Way::Never
-    } else if (lo <= least) & (greatest <= hi) {
-        Way::Known
+    match (
+        i32::try_from(first),
+        i32::try_from(hi.saturating_sub(first)),
+    ) {
+        (Ok(_), Ok(hi)) if is_from_0 & (hi >= 0) => Way::Above(hi),
+        (Ok(lo), Ok(length)) if length >= 0 => Way::Within { lo, length },
+        _ => Way::Never,
+    }
+}
+
+/// How an access is tested by the register that its address is worked out from. A load that doesn't lie in the data
+/// that may be written may lie among the constants. A sum that stands in %g7 for the access alone is tested there: the
+/// other scratch registers weren't in use before it.
+fn plan_by(program: &Program, access: &Access, origin: &Origin) -> Plan {
+    let size = access.size as i64;
+    let known = origin.range.unwrap_or(all(0));
+    // So many low bits are 0 in each multiple of the factor.
+    let trailing = origin.times.trailing_zeros().min(3) as u8;
+    let needed = needed_alignment(access.size).saturating_sub(trailing);
+    let alignment = if known.alignment < needed { needed } else { 0 };
+    let bounds = bounds_of(program, origin, size);
+    let way = way_in(known, bounds, alignment > 0);
+    let is_known = matches!(way, Way::Known);
+    let mut constants = None;
+    if !(access.writes | bounds.object.is_some() | is_known)
+        && let Some(others) = bounds_in_constants(program, origin, size)
+    {
+        constants = Some(way_in(known, others, alignment > 0));
+    }
+    let (kind, range) = match bounds.object {
+        Some(_) => (Kind::Index, known),
+        None => (Kind::Pointer, access.range),
+    };
+    let (first, changed) = if origin.register == SUM {
+        (origin.last, CODES | Y)
     } else {
-        match (i32::try_from(first), i32::try_from(length)) {
-            (Ok(_), Ok(hi)) if is_from_0 & (hi >= 0) => Way::Above(hi),
-            (Ok(lo), Ok(length)) if length >= 0 => Way::Within { lo, length },
-            _ => Way::Never,
-        }
+        (origin.first, CODES | Y | SCRATCH)
     };
     Plan {
-        register: origin.register,
+        kind,
         range,
+        register: origin.register,
         bounds,
         alignment,
+        first,
+        last: origin.last,
+        changed,
         way,
+        constants,
+        says_nothing: is_known & (alignment == 0),
     }
+}
+
+/// How a divisor is tested that stands in a register at a place.
+fn plan_of_divisor(register: u8, range: Range, place: usize) -> Plan {
+    Plan {
+        kind: Kind::Divisor,
+        range,
+        register,
+        bounds: NO_BOUNDS,
+        alignment: 0,
+        first: place,
+        last: place,
+        changed: CODES,
+        way: Way::Never,
+        constants: None,
+        says_nothing: false,
+    }
+}
+
+/// How what isn't shown is tested, where it is a divisor or an address: that by what it is worked out from, if more can
+/// be known of that, else by the address itself, if one register has it.
+pub fn plan_of(program: &Program, ask: &Ask) -> Option<Plan> {
+    let access = match &ask.lack {
+        Lack::Placed(access) => access,
+        Lack::Divisible(Operand::Register(register), range) => {
+            return Some(plan_of_divisor(register.number(), *range, ask.place));
+        }
+        _ => return None,
+    };
+    let mut object = None;
+    if let Some(origin) = &access.origin {
+        let plan = plan_by(program, access, origin);
+        if !plan.says_nothing {
+            return Some(plan);
+        }
+        object = origin.object;
+    }
+    let (first, second) = access.parts;
+    if first.number() != SUM || !matches!(second, Operand::Immediate(0)) {
+        return None;
+    }
+    let origin = Origin {
+        register: SUM,
+        times: 1,
+        constant: 0,
+        first: ask.place,
+        last: ask.place,
+        range: Some(access.range),
+        object,
+    };
+    Some(plan_by(program, access, &origin))
 }

@@ -1,6 +1,7 @@
 //! Tests as notes to the author.
-use crate::plans::test::{Kind, Test};
+use crate::plans::plan::{Kind, Test};
 use fit_code::Program;
+use sbx_range::Range;
 use std::fmt::{Display, Error, Formatter, Write};
 
 /// A test as one line, with the name of its file.
@@ -21,7 +22,7 @@ impl Test {
 }
 
 /// What a note ends with, by the power of 2 of which a multiple is asked for.
-const ENDS: [&str; 4] = [
+static ENDS: [&str; 4] = [
     ": a test was added",
     ", and no multiple of 2: a test was added",
     ", and no multiple of 4: a test was added",
@@ -30,35 +31,36 @@ const ENDS: [&str; 4] = [
 
 impl Display for Shown<'_> {
     fn fmt<W: Write>(&self, f: &mut Formatter<W>) -> Result<(), Error> {
-        let (test, program) = (&self.test, self.program);
-        let place = match program.files.get(test.line.file) {
-            Some(file) if test.line.number > 0 => write!(f, "{file}:{}: ", test.line.number),
-            _ => Ok(()),
-        };
-        let objects = program.objects.as_slice();
+        let (line, plan, program) = (self.test.line, &self.test.plan, self.program);
+        let (files, objects) = (program.files.as_slice(), program.objects.as_slice());
+        let mut place = Ok(());
+        if (line.number > 0) & (line.file < files.len()) {
+            place = write!(f, "{}:{}: ", files[line.file], line.number);
+        }
         // What is tested may be an index with a number added.
         let mut first = 0;
-        let number = test.bounds.object.unwrap_or(objects.len());
+        let number = plan.bounds.object.unwrap_or(objects.len());
         let subject = if number < objects.len() {
-            first = test.bounds.lo;
+            first = plan.bounds.lo;
             let (name, bytes) = (&objects[number].name, objects[number].bytes.len());
             write!(f, "note: the index into {name} ({bytes} bytes) may be ")
-        } else if matches!(test.kind, Kind::Divisor) {
-            f.write_str("note: the divisor may be 0: it may be ")
         } else {
-            f.write_str("note: the address may be ")
+            f.write_str(match plan.kind {
+                Kind::Divisor => "note: the divisor may be 0: it may be ",
+                _ => "note: the address may be ",
+            })
         };
-        let range = test.range;
-        let lo = i64::from(range.lo).saturating_sub(first);
-        let hi = i64::from(range.hi).saturating_sub(first);
-        let numbers = if (range.lo == i32::MIN) & (range.hi == i32::MAX) {
+        let Range { lo, hi, .. } = plan.range;
+        let least = (lo as i64).saturating_sub(first);
+        let greatest = (hi as i64).saturating_sub(first);
+        let numbers = if (lo == i32::MIN) & (hi == i32::MAX) {
             f.write_str("any word")
         } else if lo == hi {
-            write!(f, "{lo}")
+            write!(f, "{least}")
         } else {
-            write!(f, "{lo} to {hi}")
+            write!(f, "{least} to {greatest}")
         };
-        let end = f.write_str(ENDS[usize::from(test.alignment % 4)]);
+        let end = f.write_str(ENDS[(plan.alignment % 4) as usize]);
         place.and(subject).and(numbers).and(end)
     }
 }

@@ -1,0 +1,96 @@
+//! All annotations that can be found of a source.
+use crate::additions::Found;
+use crate::finding::Finding;
+use crate::lines::Lines;
+use crate::program::Read;
+use fit_code::{Fault, Memory, Program};
+use fit_kept::Refusal;
+use fit_ranges::Ranges;
+use sbx_asm::assemble;
+use sbx_domain::State;
+use sbx_image::Image;
+use std::alloc::Global;
+use std::mem::replace;
+
+/// The same as `add_found`, where the source has these lines, and its image is read into `read`.
+fn add_read(
+    found: &mut Found,
+    source: &[u8],
+    lines: &Lines,
+    read: &mut Read,
+    image: &Image,
+    state: &mut State,
+) -> Result<(), Fault> {
+    read.take(source, lines, image)?;
+    let alloc = found.memory.alloc;
+    let said = replace(&mut read.said, Vec::new(alloc));
+    let ranges = Ranges::beside(alloc, &read.program, said, state)?;
+    let mut finding = Finding {
+        image,
+        program: &mut read.program,
+        state,
+        ranges,
+        spared: replace(&mut read.spared, Vec::new(alloc)),
+        totals: found.memory.repeat(None, image.functions().len()),
+    };
+    finding.look(lines.heads.as_slice(), lines.cells.as_slice(), found)
+}
+
+/// Adds what a source hasn't got of what is found of its program, by the image that the assembler makes of it; and
+/// notes of what isn't shown.
+///
+/// # Errors
+/// A word that has no place in a program, with its line; more cells of a block than an image may say; memory.
+fn add_found(found: &mut Found, source: &[u8], image: &Image) -> Result<(), Fault> {
+    let alloc = found.memory.alloc;
+    let mut state = State::new(alloc)?;
+    // nothing is read yet
+    let mut lines = Lines {
+        memory: found.memory,
+        words: Vec::new(alloc),
+        heads: Vec::new(alloc),
+        cells: Vec::new(alloc),
+    };
+    lines.add_lines(source);
+    let mut read = Read {
+        memory: lines.memory,
+        program: Program {
+            functions: Vec::new(alloc),
+            objects: Vec::new(alloc),
+            regions: Vec::new(alloc),
+            files: Vec::new(alloc),
+        },
+        spared: Vec::new(alloc),
+        said: Vec::new(alloc),
+        blocks: Vec::new(alloc),
+        slots: Vec::new(alloc),
+        weights: Vec::new(alloc),
+        steps: Vec::new(alloc),
+    };
+    add_read(found, source, &lines, &mut read, image, &mut state)
+}
+
+/// What a source hasn't got of all annotations that can be found: cells, fuel, params, results, where the source tells
+/// depths depths, and for each 0 that stands for a function's stack room or budget its number. What it says already
+/// stays, and is taken for granted. Of a function of which a block's fuel is said no other block's is found. What isn't
+/// shown is noted, by line, and the verifier would refuse it there.
+///
+/// # Errors
+/// `Source` as the assembler refuses the source. `Program` where a word has no place in a program, with its line, and
+/// where more is known of a block than an image may say. Asked of memory in each.
+pub fn find(alloc: Global, source: &[u8]) -> Result<Found, Refusal> {
+    let image = match assemble(alloc, source) {
+        Ok(image) => image,
+        Err(fault) => return Err(Refusal::Source(fault)),
+    };
+    let mut found = Found {
+        additions: Vec::new(alloc),
+        totals: Vec::new(alloc),
+        notes: Vec::new(alloc),
+        memory: Memory::new(alloc),
+    };
+    match add_found(&mut found, source, &image) {
+        Ok(()) => Ok(found),
+        Err(fault) => Err(Refusal::Program(fault)),
+    }
+}

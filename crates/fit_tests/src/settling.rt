@@ -1,0 +1,427 @@
+//! Tests put into a program until nothing is left that isn't shown: a compare, and a branch to an end of the run whose
+//! exit word tells kind and line. Nothing rests on them, since the verifier asks all again.
+use crate::asks::{Access, Ask, Asking, Lack, asks_of, live_behind, shorten_steps};
+use crate::cuts::{
+    CODES, SCRATCH, Y, clearing, copy_block, drop_compare, in_use, insert_instr, number_in,
+    push_block, register, set_codes_again,
+};
+use crate::plans::{Kind, Plan, SUM, Test, Way, plan_of, subtracting, take_division};
+use fit_code::{Block, End, Fault, Function, Memory, NO_LINE, Program, Reason};
+use fit_graph::{enter, range_in};
+use fit_ranges::Ranges;
+use sbx_domain::State;
+use sbx_range::excludes_zero;
+use std::alloc::{AllocError, Global};
+use v8_formats::{Instr, Operand, Three, decode, encode};
+
+/// What tests are made by.
+#[derive(Clone, Copy)]
+pub struct Options {
+    /// Whether an access has to lie in the object that its base names, and not only in the data.
+    pub by_object: bool,
+    /// Whether tests that turn out not to be needed go again.
+    pub drops: bool,
+}
+
+/// As many rounds as settling may take, and in so many of them tests that aren't needed go.
+const ROUNDS: u32 = 1_000;
+
+const DROPS: u32 = 4;
+
+/// The tests of a program.
+#[derive(Drop)]
+struct Tests {
+    by_object: bool,
+    /// How often tests that aren't needed may be taken out yet.
+    drops: u32,
+    list: Vec<Test>,
+    /// Locations that were cleared at the entry of a function, by its number.
+    cleared: Vec<(usize, u16)>,
+    /// Blocks that were changed since the ranges were found, by the number of their function and their own.
+    changed: Vec<(usize, usize)>,
+    /// Whether memory was refused for tests that were put in since it was asked.
+    memory: Memory,
+    /// What was answered last, and why that can't be tested, if it can't.
+    asked: Option<Ask>,
+    refused: Answer,
+}
+
+/// Nothing, where a test, or what has to come before it, is put in; else why something can't be tested.
+type Answer = Result<(), &'static str>;
+
+/// The register that is tested by, and the object in which an access has to lie, if one is known.
+type Key = (u8, Option<usize>);
+
+/// The register of the exit word, %o0.
+const EXIT_WORD: u8 = 8;
+
+/// Where a test may stand: before a step where the register has the word that is asked for, and nothing is in use that
+/// the test changes. What may be tested twice is so right before the access, if that may be, since the steps from there
+/// to it are to stand twice, too.
+fn place_of_test(frame: u32, block: &Block, plan: &Plan) -> Option<usize> {
+    let mut first = plan.first;
+    if plan.constants.is_some() && in_use(frame, block, plan.last) & plan.changed == 0 {
+        first = plan.last;
+    }
+    for place in first..plan.last.saturating_add(1) {
+        if in_use(frame, block, place) & plan.changed == 0 {
+            return Some(place);
+        }
+    }
+    None
+}
+
+/// Where a test goes that stands at a place, if an address doesn't lie within its bounds. That is the test of a load
+/// among the constants, if there is one: behind it the first steps of a block stand once more, so many that the load is
+/// the last of them, or all of them, where what they leave is in use behind.
+fn push_second(
+    memory: &mut Memory,
+    blocks: &mut Vec<Block>,
+    (ask, place): (&Ask, usize),
+    first: &Test,
+) -> usize {
+    let Some(way) = first.plan.constants else {
+        return first.exit;
+    };
+    let count = ask.place.saturating_add(1).saturating_sub(place);
+    if first.rest < blocks.len()
+        && in_use(ask.frame, &blocks[first.rest], count) & (CODES | Y | SCRATCH) == 0
+    {
+        copy_block(memory, blocks, (first.rest, count), true);
+    }
+    let rest = copy_block(memory, blocks, (first.rest, 0), false);
+    // gives back what the first test took from the register
+    let mut give_back = None;
+    if let Way::Within { lo, .. } = first.plan.way
+        && first.plan.register == SUM
+    {
+        [_, _, _, give_back] = subtracting(SUM, lo);
+    }
+    let head = blocks.len();
+    let behind = End::Jump(head.saturating_add(1));
+    push_block(memory, blocks, &[give_back], (behind, None), first.line);
+    let mut second = Test { rest, ..*first };
+    second.plan.way = way;
+    second.push_blocks(memory, blocks, first.exit);
+    head
+}
+
+/// Lets an access go by %g7; gives the sum of its two parts, which is to be put into that before, and may then be
+/// tested. Not of one that goes by %g7 already, and not where scratch registers are in use.
+fn join_address(blocks: &mut [Block], ask: &Ask, access: &Access) -> Option<Instr> {
+    let (rs1, operand2) = access.parts;
+    if ask.block < blocks.len()
+        && ask.place < blocks[ask.block].steps.len()
+        && in_use(ask.frame, &blocks[ask.block], ask.place) & SCRATCH == 0
+        && rs1.number() != SUM
+    {
+        let (rd, step) = (register(SUM), &mut blocks[ask.block].steps[ask.place]);
+        // its word says one register, an immediate, and 0
+        let parts = (SUM as u32) << 14 | 1 << 13;
+        step.instr = decode(encode(&step.instr) & !0x7_ffff | parts);
+        return Some(Instr::Add(Three { rd, rs1, operand2 }));
+    }
+    None
+}
+
+/// The block where the run ends if a test of a kind fails: tests of one kind in one line of a function have one, while
+/// one of them stands.
+fn exit_of(
+    memory: &mut Memory,
+    blocks: &mut Vec<Block>,
+    tests: &[Test],
+    ask: &Ask,
+    kind: Kind,
+) -> usize {
+    let mut exit = blocks.len();
+    for test in tests {
+        let is_there = (test.function == ask.function) & (test.line == ask.line);
+        if is_there & (test.plan.kind as i32 == kind as i32) {
+            exit = test.exit;
+        }
+    }
+    if exit == blocks.len() {
+        let word = number_in(EXIT_WORD, kind.exit_word(ask.line));
+        push_block(memory, blocks, &word, (End::Exit, None), ask.line);
+    }
+    exit
+}
+
+/// Whether a test isn't needed, by what is known where it begins.
+fn is_needless(test: &Test, ranges: &Ranges) -> bool {
+    let Some(cells) = ranges.cells(test.function, test.head) else {
+        return true;
+    };
+    let plan = &test.plan;
+    match range_in(cells, plan.register as u16) {
+        Some(range) if matches!(plan.kind, Kind::Divisor) => excludes_zero(range),
+        Some(range) => {
+            let is_above = plan.bounds.lo <= range.lo as i64;
+            let is_below = range.hi as i64 <= plan.bounds.hi;
+            is_above & is_below & (plan.alignment <= range.alignment)
+        }
+        None => false,
+    }
+}
+
+impl Tests {
+    /// Makes a location 0 at the entry of a function, where it may be read before it is written. Other steps of the
+    /// same round may have asked for it too.
+    fn clear_at_entry(&mut self, blocks: &mut Vec<Block>, ask: &Ask, location: u16) -> Answer {
+        let (key, entry) = ((ask.function, location), (ask.function, 0));
+        if !self.cleared.contains(&key) {
+            self.memory.push(&mut self.cleared, key);
+            self.memory.push(&mut self.changed, entry);
+            let clear = clearing(location);
+            insert_instr(&mut self.memory, blocks, (0, 0), clear, ask.line);
+        } else if !self.changed.contains(&entry) {
+            return Err("a register is read that a call has left undefined");
+        }
+        Ok(())
+    }
+
+    /// Cuts a block for a test, and puts that in. A division goes with its WRY to the test.
+    fn put_test(&mut self, blocks: &mut Vec<Block>, ask: &Ask, plan: &Plan) -> Answer {
+        let (memory, number, frame) = (&mut self.memory, ask.block, ask.frame);
+        if plan.says_nothing {
+            return Err("an address that can't be tested: a constant is stored to, or it wraps");
+        }
+        if number >= blocks.len() {
+            return Ok(());
+        }
+        let block = &mut blocks[number];
+        let Some(mut place) = place_of_test(frame, block, plan) else {
+            return set_codes_again(memory, frame, block);
+        };
+        let mut division = None;
+        if matches!(plan.kind, Kind::Divisor) {
+            division = Some(take_division(block, frame, place)?);
+            place = place.saturating_sub(1);
+        }
+        let mut test = Test {
+            line: ask.line,
+            function: ask.function,
+            exit: exit_of(memory, blocks, self.list.as_slice(), ask, plan.kind),
+            head: 0,
+            rest: copy_block(memory, blocks, (number, place), true),
+            plan: *plan,
+        };
+        let beyond = push_second(memory, blocks, (ask, place), &test);
+        test.head = blocks.len();
+        if let Some(steps) = &division {
+            test.push_division(memory, blocks, steps);
+            test.rest = blocks.len().saturating_sub(1);
+        } else {
+            test.push_blocks(memory, blocks, beyond);
+        }
+        if number < blocks.len() {
+            blocks[number].end = End::Jump(test.head);
+        }
+        memory.push(&mut self.list, test);
+        Ok(())
+    }
+
+    /// Answers one ask, unless its block is changed already, or its register and object are among those of which the
+    /// function has a test in this round, to which they are added. Tells why it can't be answered, if it can't.
+    fn answer(&mut self, program: &mut Program, ask: &Ask, keys: &mut Vec<Key>) -> Answer {
+        let plan = plan_of(program, ask);
+        if ask.function >= program.functions.len() {
+            return Ok(());
+        }
+        let blocks = &mut program.functions[ask.function].blocks;
+        if let Lack::Defined(location) = ask.lack {
+            return self.clear_at_entry(blocks, ask, location);
+        }
+        let at = (ask.function, ask.block);
+        if self.changed.contains(&at) {
+            return Ok(());
+        }
+        if let Lack::Placed(_) = ask.lack
+            && let Some(plan) = &plan
+        {
+            let key = (plan.register, plan.bounds.object);
+            if keys.contains(&key) {
+                return Ok(());
+            }
+            self.memory.push(keys, key);
+        }
+        self.memory.push(&mut self.changed, at);
+        let instr = match (&ask.lack, &plan) {
+            (_, Some(plan)) => return self.put_test(blocks, ask, plan),
+            (Lack::Divisible(..), None) => return Err("a division by 0"),
+            (Lack::Placed(access), None) => join_address(blocks.as_mut_slice(), ask, access),
+            // one that a step reads was answered at the entry
+            (Lack::Given(location) | Lack::Defined(location), None) => Some(clearing(*location)),
+        };
+        let Some(instr) = instr else {
+            return Err("an address that can't be tested");
+        };
+        let place = (ask.block, ask.place);
+        insert_instr(&mut self.memory, blocks, place, instr, ask.line);
+        Ok(())
+    }
+
+    /// Answers what isn't shown of a function, once in each of its blocks, and once for each register and object, up to
+    /// what can't be answered.
+    fn answer_function(
+        &mut self,
+        program: &mut Program,
+        ranges: &Ranges,
+        function: usize,
+        state: &mut State,
+    ) {
+        let asking = Asking {
+            alloc: self.memory.alloc,
+            program,
+            ranges,
+            by_object: self.by_object,
+        };
+        let Ok(asks) = asks_of(&asking, function, state) else {
+            self.memory.is_refused = true;
+            return;
+        };
+        let mut keys = Vec::new(self.memory.alloc);
+        for ask in asks.as_slice() {
+            if self.refused.is_ok() {
+                self.asked = Some(*ask);
+                self.refused = self.answer(program, ask, &mut keys);
+            }
+        }
+    }
+
+    /// Writes a function's sums in a way of which more is known, in the blocks to which control comes.
+    fn shorten(&mut self, code: &mut Function, ranges: &Ranges, number: usize, state: &mut State) {
+        let (frame, results) = (code.frame, ranges.results());
+        enter(code, ranges.params(number), state);
+        let blocks = code.blocks.as_mut_slice();
+        for place in 0..blocks.len() {
+            if let Some(cells) = ranges.cells(number, place) {
+                state.start(cells);
+            }
+            let live = live_behind(blocks[place].end, ranges.live(number));
+            let steps = blocks[place].steps.as_mut_slice();
+            if ranges.reaches(number, place) && shorten_steps(frame, results, steps, live, state) {
+                self.memory.push(&mut self.changed, (number, place));
+            }
+        }
+    }
+
+    /// Takes out the tests that aren't needed: control goes by them.
+    fn drop_needless(&mut self, program: &mut Program, ranges: &Ranges) {
+        let functions = program.functions.as_mut_slice();
+        for place in (0..self.list.len()).rev() {
+            // fewer tests are left than there were
+            if place < self.list.len() && is_needless(&self.list[place], ranges) {
+                let test = self.list.remove(place);
+                if test.function < functions.len() {
+                    let blocks = functions[test.function].blocks.as_mut_slice();
+                    if test.head < blocks.len() {
+                        let block = &mut blocks[test.head];
+                        block.steps.clear();
+                        block.end = End::Jump(test.rest);
+                    }
+                }
+                self.memory
+                    .push(&mut self.changed, (test.function, test.head));
+            }
+        }
+    }
+
+    /// Makes the branches of a function's blocks of which one way can't be gone go the other one alone.
+    fn close_ways(&mut self, blocks: &mut [Block], ranges: &Ranges, function: usize) {
+        for number in 0..blocks.len() {
+            let block = &mut blocks[number];
+            let (first, second) = ranges.open_ways(function, number);
+            if let End::Branch { taken, next, .. } = block.end
+                && first != second
+            {
+                block.end = End::Jump(if first { taken } else { next });
+                drop_compare(block);
+                self.memory.push(&mut self.changed, (function, number));
+            }
+        }
+    }
+
+    /// What is done in a round, where the ranges are those of the program as it stands: what isn't shown is answered,
+    /// or, where all is, ways that can't be gone are taken out.
+    fn round(&mut self, program: &mut Program, ranges: &Ranges, is_shown: bool, state: &mut State) {
+        for function in 0..program.functions.len() {
+            if is_shown && function < program.functions.len() {
+                let blocks = program.functions[function].blocks.as_mut_slice();
+                self.close_ways(blocks, ranges, function);
+            } else if self.refused.is_ok() {
+                self.answer_function(program, ranges, function, state);
+            }
+        }
+    }
+
+    /// Puts tests into a program, of which these are the ranges, until nothing is left that isn't shown. Tells what
+    /// can't be tested, where a division by 0 is one of any function, and of what there is more than there may be.
+    fn settle(
+        &mut self,
+        program: &mut Program,
+        ranges: &mut Ranges,
+        state: &mut State,
+    ) -> Result<(), Fault> {
+        for _ in 0..ROUNDS {
+            if !self.changed.is_empty() {
+                ranges.renew(program, self.changed.as_slice(), state)?;
+                self.changed.clear();
+            }
+            self.round(program, ranges, false, state);
+            if self.changed.is_empty() && self.drops > 0 {
+                self.drops -= 1;
+                self.drop_needless(program, ranges);
+                self.round(program, ranges, true, state);
+            }
+            if self.refused.is_err() | self.memory.is_refused | self.changed.is_empty() {
+                break;
+            }
+        }
+        if self.memory.is_refused {
+            return Err(Fault::from(AllocError));
+        }
+        if let (Some(ask), Err(what)) = (&self.asked, self.refused) {
+            let is_by_zero = matches!(ask.lack, Lack::Divisible(Operand::Immediate(_), _));
+            if is_by_zero || ask.function >= program.functions.len() {
+                return Err(Fault::new(ask.line, Reason::Unreadable(what)));
+            }
+            let function = program.functions[ask.function].name.clone()?;
+            return Err(Fault::new(ask.line, Reason::Form { function, what }));
+        }
+        if self.changed.is_empty() {
+            return ranges.check_limits(program);
+        }
+        let (what, most) = ("rounds of tests", u64::from(ROUNDS));
+        Err(Fault::new(NO_LINE, Reason::TooMany { what, most }))
+    }
+}
+
+/// Puts tests into a program, of which these are the ranges, until nothing is left that isn't shown. The ranges are
+/// then those of the program with its tests.
+pub fn add_tests(
+    alloc: Global,
+    options: Options,
+    program: &mut Program,
+    ranges: &mut Ranges,
+    state: &mut State,
+) -> Result<Vec<Test>, Fault> {
+    let mut tests = Tests {
+        by_object: options.by_object,
+        drops: if options.drops { DROPS } else { 0 },
+        list: Vec::new(alloc),
+        cleared: Vec::new(alloc),
+        changed: Vec::new(alloc),
+        memory: Memory::new(alloc),
+        asked: None,
+        refused: Ok(()),
+    };
+    let functions = program.functions.as_mut_slice();
+    for number in 0..functions.len() {
+        tests.shorten(&mut functions[number], ranges, number, state);
+    }
+    match tests.settle(program, ranges, state) {
+        Ok(()) => Ok(tests.list),
+        Err(fault) => Err(fault),
+    }
+}
