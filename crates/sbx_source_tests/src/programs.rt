@@ -6,7 +6,7 @@ use crate::told::are_told;
 /// block the words of its steps, as binutils assembles what they have to be, and where control goes: `!` ends the run.
 /// A region begins a page. It has 80 bytes before its first object, and 256 behind its last one, and is a multiple of
 /// 8 bytes long.
-static PROGRAMS: [(&str, &str); 11] = [
+static PROGRAMS: [(&str, &str); 12] = [
     // A slot's step stands before the return, and main's return ends the run.
     (
         " retl\n add %o0,1,%o0",
@@ -26,6 +26,12 @@ static PROGRAMS: [(&str, &str); 11] = [
     (
         " cmp %o0,5\n be .L1\n nop\n bg .L1\n mov 3,%o1\n mov 4,%o1\n.L1:\n retl\n nop",
         "rw 80000 320\nmain 0: 80a22005 ?3,1 80a22005 92102003 ?3,2 92102004 >3 !\n",
+    ),
+    // Behind a branch that asks for the sign alone, which a compare of the difference with 0 tells, one that asks for
+    // the carry gets the whole compare.
+    (
+        " subcc %o0,%o1,%o2\n be .L1\n nop\n bneg .L1\n nop\n bcs .L1\n mov 3,%o3\n mov 4,%o3\n.L1:\n retl\n nop",
+        "rw 80000 320\nmain 0: 94a20009 ?4,1 80a2a000 ?4,2 80a20009 96102003 ?4,3 96102004 >4 !\n",
     ),
     // Plainer forms.
     (

@@ -118,11 +118,9 @@ fn setter_of(
     }
 }
 
-/// Repeats compares in the blocks that read the codes of other blocks' ends. It is a fault where they can't be.
-pub fn repeat_compares(stops: &mut Stops, function: &mut Function) {
-    let before = stops.made(predecessors_of(stops.memory.alloc, function));
-    let before = before.as_slice();
-    let blocks = function.blocks.as_mut_slice();
+/// Repeats compares in the blocks that read the codes of other blocks' ends and that ask for zero and sign alone, or in
+/// all others. It is a fault where they can't be.
+fn repeat_those(stops: &mut Stops, blocks: &mut [Block], before: &[Vec<usize>], zero_alone: bool) {
     for number in 0..blocks.len() {
         let block = &blocks[number];
         let line = block.line;
@@ -136,8 +134,7 @@ pub fn repeat_compares(stops: &mut Stops, function: &mut Function) {
         );
         let is_branch = matches!(block.end, End::Branch { .. });
         let is_asked = codes.reads | (is_branch & (codes.setter == 0));
-        if is_asked & (number < before.len()) {
-            let zero_alone = is_zero & !codes.reads;
+        if is_asked & (number < before.len()) && zero_alone == (is_zero & !codes.reads) {
             let first = before[number].as_slice();
             let word = setter_of(&mut stops.memory, blocks, before, first, zero_alone);
             if word != 0 {
@@ -148,5 +145,15 @@ pub fn repeat_compares(stops: &mut Stops, function: &mut Function) {
                 stops.form(line, REFUSED);
             }
         }
+    }
+}
+
+/// Repeats compares in the blocks that read the codes of other blocks' ends. It is a fault where they can't be. What is
+/// put in for zero and sign alone does for no block that asks for more, so those come first.
+pub fn repeat_compares(stops: &mut Stops, function: &mut Function) {
+    let before = stops.made(predecessors_of(stops.memory.alloc, function));
+    let blocks = function.blocks.as_mut_slice();
+    for zero_alone in [false, true] {
+        repeat_those(stops, blocks, before.as_slice(), zero_alone);
     }
 }
