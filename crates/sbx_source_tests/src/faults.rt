@@ -6,7 +6,7 @@ use std::alloc::Global;
 use std::slice::from_ref;
 
 /// What stands behind `main:` in the fourth line, and why there is no program.
-static REFUSED: [(&str, &str); 20] = [
+static REFUSED: [(&str, &str); 21] = [
     (
         " save %sp,-96,%sp\n call main\n nop\n ret\n restore",
         "t.s:6: refused: recursion: main calls main",
@@ -38,6 +38,10 @@ static REFUSED: [(&str, &str); 20] = [
     (
         " jmp %o0\n nop",
         "t.s:5: refused: a jump through a register: compile without tables of jumps",
+    ),
+    (
+        " mov 1,%g7\n retl\n nop",
+        "t.s:5: refused: main: one of %g5 to %g7, which tests and meters work with",
     ),
     (
         " be .L1\n nop\n.L1:\n retl\n nop",

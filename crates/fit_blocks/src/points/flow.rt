@@ -1,11 +1,14 @@
 //! What an instruction does to the flow of control.
-use crate::points::fields::access_of;
+use crate::points::fields::{access_of, registers_of};
 use crate::points::points::Flow;
 use crate::stops::Stop;
 use v8_formats::{Instr, Operand, Three, bits_of, encode};
 use v8_word::{Cond, Reg};
 
 const NOT_ALLOWED: Stop = Stop::Form("an instruction that sandboxed code may not have");
+
+/// The registers that tests and meters work with, %g5 to %g7, a bit a register. Compilers leave them alone.
+const WORKING: u32 = 7 << 5;
 
 /// What a jump does, which has to be a return: to 8 or 12 bytes behind a call, whose address a register holds.
 fn jump(fields: &Three) -> Result<Flow, Stop> {
@@ -23,6 +26,10 @@ fn jump(fields: &Three) -> Result<Flow, Stop> {
 /// What an instruction does to the flow of control, of a branch to a point of its function; or why a program may not
 /// have it.
 pub fn flow_of(instr: &Instr, to: Option<usize>) -> Result<Flow, Stop> {
+    let named = registers_of(instr);
+    if (named.reads | named.writes) & WORKING != 0 {
+        return Err(Stop::Form("one of %g5 to %g7, which tests and meters work with"));
+    }
     match instr {
         Instr::Bicc(branch) => match to {
             Some(to) => Ok(Flow::Branch {
