@@ -150,7 +150,9 @@ impl Source {
                 self.memory.push(&mut code.items, item);
             }
         } else {
-            self.refuse("an instruction outside of a function");
+            self.refuse(
+                "an instruction outside of a function: write .type NAME,#function before its label",
+            );
         }
     }
 
