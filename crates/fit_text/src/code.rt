@@ -40,12 +40,16 @@ fn push_head(out: &mut Text, program: &Program, room: u64) {
     out.put("\n.stack ", &pages);
 }
 
-/// What is known where a block begins, and its fuel.
-fn push_notes(out: &mut Text, notes: &BlockNotes) {
+/// What is known where a block begins.
+fn push_cells(out: &mut Text, notes: &BlockNotes) {
     for cell in notes.cells.as_slice() {
         out.put("\n.cell ", &Location(cell.location));
         out.put(",", &Bounds(cell.range));
     }
+}
+
+/// A block's fuel.
+fn push_fuel(out: &mut Text, notes: &BlockNotes) {
     out.put("\n.fuel ", &notes.fuel);
     for term in notes.terms.as_slice() {
         out.put("\n.term ", &Location(term.location));
@@ -138,7 +142,8 @@ fn push_blocks(
             out.put(".", &number);
         }
         if number < notes.len() {
-            push_notes(out, &notes[number]);
+            push_cells(out, &notes[number]);
+            push_fuel(out, &notes[number]);
         }
         if (number == 0) & (function.frame > 0) {
             out.put("\n    save %sp,-", &function.frame);

@@ -2,7 +2,7 @@
 use crate::points::fields::{access_of, registers_of};
 use crate::points::points::Flow;
 use crate::stops::Stop;
-use v8_formats::{Instr, Operand, Three, bits_of, encode};
+use v8_formats::{Instr, Operand, Three, Trap, bits_of, encode};
 use v8_word::{Cond, Reg};
 
 const NOT_ALLOWED: Stop = Stop::Form("an instruction that sandboxed code may not have");
@@ -20,6 +20,16 @@ fn jump(fields: &Three) -> Result<Flow, Stop> {
         Err(Stop::CallThroughPointer)
     } else {
         Err(Stop::JumpThroughPointer)
+    }
+}
+
+/// What a trap does, which has to be a service that `ta n` asks for.
+fn service(trap: &Trap) -> Result<Flow, Stop> {
+    let is_service = (trap.rs1 == Reg::G0) & (trap.cond == Cond::Always);
+    match trap.operand2 {
+        Operand::Immediate(0) if is_service => Ok(Flow::Exit),
+        Operand::Immediate(1 | 2) if is_service => Ok(Flow::On),
+        _ => Err(NOT_ALLOWED),
     }
 }
 
@@ -44,15 +54,7 @@ pub fn flow_of(instr: &Instr, to: Option<usize>) -> Result<Flow, Stop> {
         Instr::Save(_) => Ok(Flow::Save),
         Instr::Restore(fields) => Ok(Flow::Restore(*fields)),
         Instr::Unimp(_) => Ok(Flow::Mark),
-        // A service that `ta n` asks for.
-        Instr::Ticc(trap) => {
-            let is_service = (trap.rs1 == Reg::G0) & (trap.cond == Cond::Always);
-            match trap.operand2 {
-                Operand::Immediate(0) if is_service => Ok(Flow::Exit),
-                Operand::Immediate(1 | 2) if is_service => Ok(Flow::On),
-                _ => Err(NOT_ALLOWED),
-            }
-        }
+        Instr::Ticc(trap) => service(trap),
         // SETHI of %g0 is NOP.
         Instr::Sethi(upper) if upper.rd == Reg::G0 => Ok(Flow::Nothing),
         Instr::Sethi(_) | Instr::ReadY(_) | Instr::WriteY(_) => Ok(Flow::On),

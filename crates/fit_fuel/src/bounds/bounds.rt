@@ -88,17 +88,11 @@ fn bound_by(memory: &mut Memory, within: &Loop, counter: &Counter, ways: &[Way])
     })
 }
 
-/// The bound of a loop by the counter that changes by one number and gives the fewest rounds, else by another; none
-/// where no location counts.
-fn bound_of(
-    setting: &Setting<'_>,
-    within: &Loop,
-    state: &mut State,
-    memory: &mut Memory,
-) -> Option<Bound> {
-    let (ranges, number) = (setting.task.ranges, setting.task.number);
+/// The locations that may count a loop: all of which something is known where its head begins.
+fn counters_of(memory: &mut Memory, task: &Task<'_>, within: &Loop) -> Vec<Counter> {
     let mut counters = Vec::new(memory.alloc);
-    for cell in ranges.cells(number, within.head).unwrap_or(&[]) {
+    let cells = task.ranges.cells(task.number, within.head);
+    for cell in cells.unwrap_or(&[]) {
         let counter = Counter {
             cell: *cell,
             falls: true,
@@ -107,6 +101,18 @@ fn bound_of(
         };
         memory.push(&mut counters, counter);
     }
+    counters
+}
+
+/// The bound of a loop by the counter that changes by one number and gives the fewest rounds, else by another; none
+/// where no location counts.
+fn bound_of(
+    setting: &Setting<'_>,
+    within: &Loop,
+    state: &mut State,
+    memory: &mut Memory,
+) -> Option<Bound> {
+    let mut counters = counters_of(memory, setting.task, within);
     let mut ways = Vec::new(memory.alloc);
     let counters = counters.as_mut_slice();
     add_ways(setting, within, counters, &mut ways, state, memory);

@@ -14,9 +14,23 @@ const EMPTY: u32 = 4 << 16;
 /// The greatest number that a meter may begin with.
 const GREATEST: u64 = 0x7fff_ffff;
 
+/// Leaves of the heads of loops with bounds only those behind a loop without one, and in no loop.
+fn drop_bounded(heads: &mut [bool], bounds: &Bounds) {
+    let loops = bounds.loops.as_slice();
+    let mut is_behind = false;
+    for number in 0..loops.len() {
+        let within = &loops[number];
+        // a loop stands behind those before it
+        is_behind |= bounds.at(number).is_none();
+        if bounds.at(number).is_some() && within.head < heads.len() {
+            heads[within.head] = is_behind & within.parent.is_none();
+        }
+    }
+}
+
 /// Which blocks of a function get a place of the meter on each way to them: those that control goes back to, as an
 /// order of the blocks has it, since each round of a loop comes through one of them; but of the heads of loops with
-/// bounds only those behind a loop without one, and in no loop.
+/// bounds only some.
 fn heads_of(memory: &mut Memory, function: &Function, bounds: &Bounds) -> Vec<bool> {
     let mut heads = memory.repeat(false, function.blocks.len());
     let order = Graph::of(memory, function).order;
@@ -32,16 +46,7 @@ fn heads_of(memory: &mut Memory, function: &Function, bounds: &Bounds) -> Vec<bo
             are_heads[to] |= order.place(to) <= Some(place);
         }
     }
-    let loops = bounds.loops.as_slice();
-    let mut is_behind = false;
-    for number in 0..loops.len() {
-        let within = &loops[number];
-        // a loop stands behind those before it
-        is_behind |= bounds.at(number).is_none();
-        if bounds.at(number).is_some() && within.head < are_heads.len() {
-            are_heads[within.head] = is_behind & within.parent.is_none();
-        }
-    }
+    drop_bounded(are_heads, bounds);
     heads
 }
 
@@ -137,21 +142,24 @@ fn put_place(
     push_block(memory, blocks, &instrs, (end, word_move(meter, true)), line);
 }
 
-/// Puts places of a meter before the heads among a function's blocks, and before loops that go without the meter in
-/// one that has it, on the ways into them, so that what comes before pays for the way there alone, and not for their
-/// rounds.
-fn put_places(
+/// Puts places of a meter before the heads among a function's blocks.
+fn put_at_heads(memory: &mut Memory, blocks: &mut Vec<Block>, meter: &Meter, heads: &[bool]) {
+    for head in 0..heads.len() {
+        if heads[head] {
+            put_place(memory, blocks, meter, head, &[]);
+        }
+    }
+}
+
+/// Puts places of a meter before loops that go without it in one that has it, on the ways into them, so that what comes
+/// before pays for the way there alone, and not for their rounds.
+fn put_at_entries(
     memory: &mut Memory,
     blocks: &mut Vec<Block>,
     meter: &Meter,
     loops: &[Loop],
     heads: &[bool],
 ) {
-    for head in 0..heads.len() {
-        if heads[head] {
-            put_place(memory, blocks, meter, head, &[]);
-        }
-    }
     for within in loops {
         let head = within.head;
         if let Some(parent) = within.parent
@@ -184,8 +192,9 @@ pub fn insert_meter(
         meter = meter_for(function, turns);
     }
     if let Some(meter) = &meter {
+        put_at_heads(memory, &mut function.blocks, meter, heads);
         let loops = bounds.loops.as_slice();
-        put_places(memory, &mut function.blocks, meter, loops, heads);
+        put_at_entries(memory, &mut function.blocks, meter, loops, heads);
         let [high, low] = number_in(meter.register, meter.count);
         for instr in &[word_move(meter, true), low, high] {
             if let Some(instr) = *instr {

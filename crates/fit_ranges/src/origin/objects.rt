@@ -26,14 +26,20 @@ pub fn end_of(object: &Object) -> i64 {
     i64::from(object.start).saturating_add(object.bytes.len().min(0x7fff_ffff) as i64)
 }
 
-/// The object that an address of the data belongs to: in which it lies, or a little before which.
-fn object_at(program: &Program, address: i64) -> Option<usize> {
-    let mut is_in_data = false;
+/// Whether an address lies in the data.
+fn is_in_data(program: &Program, address: i64) -> bool {
+    let mut is_in = false;
     for region in program.regions.as_slice() {
         let start = i64::from(region.start);
         let end = start.saturating_add(i64::from(region.length));
-        is_in_data |= (start <= address) & (address < end);
+        is_in |= (start <= address) & (address < end);
     }
+    is_in
+}
+
+/// The object that an address of the data belongs to: in which it lies, or a little before which.
+fn object_at(program: &Program, address: i64) -> Option<usize> {
+    let is_in_data = is_in_data(program, address);
     let objects = program.objects.as_slice();
     for number in 0..objects.len() {
         let object = &objects[number];

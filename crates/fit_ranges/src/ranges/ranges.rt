@@ -46,6 +46,16 @@ fn with_said(
     ranges
 }
 
+/// The shapes of a program's functions.
+fn shapes_of(memory: &mut Memory, program: &Program) -> Vec<Shape> {
+    let mut shapes = Vec::new(memory.alloc);
+    for function in program.functions.as_slice() {
+        let shape = Shape::of(memory, function);
+        memory.push(&mut shapes, shape);
+    }
+    shapes
+}
+
 /// What all calls of a function give it, if control comes to one.
 fn given_to(flows: &[Flow], callee: usize) -> Option<[Range; 6]> {
     let mut given = None;
@@ -190,12 +200,7 @@ impl Ranges {
         changed: &[(usize, usize)],
         state: &mut State,
     ) -> Result<(), Fault> {
-        let functions = program.functions.as_slice();
-        let mut shapes = Vec::new(self.means.memory.alloc);
-        for function in functions {
-            let shape = Shape::of(&mut self.means.memory, function);
-            self.means.memory.push(&mut shapes, shape);
-        }
+        let mut shapes = shapes_of(&mut self.means.memory, program);
         let counts = find_live(&mut self.means, program, shapes.as_mut_slice());
         let are_new = self.counts != counts;
         if are_new {
