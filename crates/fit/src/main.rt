@@ -5,11 +5,11 @@ mod annotate;
 mod files;
 mod words;
 
+use cmd_files::command_words;
 use files::{NO_MEMORY, bytes_of, failed, refused, write_source};
 use fit_gas::Source;
 use fit_legal::program_of;
 use fit_passes::{Fault, Made, Plan, Reason, make};
-use sbx_files::command_words;
 use std::alloc::Global;
 use std::process::ExitCode;
 use words::{TURNS, USAGE, Words};

@@ -2,10 +2,10 @@
 use crate::additions::{Found, Known};
 use crate::lines::{CellLine, Head};
 use crate::notes::{Asked, NO_CALLEE, NO_WAY};
+use fit_checks::{Asking, asks_of};
 use fit_code::{Fault, Program, Reason};
 use fit_fuel::{Task, Total, bounds_of, declare_function, total_of};
 use fit_ranges::Ranges;
-use fit_tests::{Asking, asks_of};
 use fit_text::BlockNotes;
 use sbx_domain::State;
 use sbx_image::{Function, Image};

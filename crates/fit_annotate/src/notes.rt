@@ -1,8 +1,8 @@
 //! What isn't shown of a source, as notes to its author.
+use fit_checks::{Access, Lack, needed_alignment};
 use fit_code::Fault;
-use fit_tests::{Access, Lack, needed_alignment};
 use fit_text::Why;
-use sbx_declare::Location;
+use inspect_image::Location;
 use sbx_image::Range;
 use std::fmt::{self, Error, Formatter, Write};
 

@@ -4,7 +4,7 @@ use crate::data::push_data;
 use crate::names::names_of;
 use crate::text::Text;
 use fit_code::{Block, End, Fault, Function, Line, Memory, NO_LINE, Program, Range, Reason, Step};
-use sbx_declare::{Bounds, Location};
+use inspect_image::{Bounds, Location};
 use std::alloc::{AllocError, Global};
 use v8_formats::{Instr, encode};
 use v8_forms::suffixes;

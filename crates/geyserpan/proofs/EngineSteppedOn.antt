@@ -1,11 +1,11 @@
 -- A step of the engine into the front of a room.
 use Rattle.std.proofs.Common.{◌≡◌, ◌≢◌, ◌-◌, ◌≤◌, ℕ, ◌+◌, Bool, List, Some, refl, ◌++◌, drop, length, take, sym, ap, subst, ◌∙◌, arith, length-append}
 use Rattle.sbx_flat.specs.Runs.{budget}
-use Rattle.sbx_engine.specs.Going.{IsAllOf, IsFrontOf}
-use Rattle.sbx_engine.specs.Steps.{Goes, IsStep, StandsSo, turns_of}
-use Rattle.sbx_engine.specs.declared.paced.Stand.{Stand}
-use Rattle.sbx_engine.specs.declared.paced.Stand.TheVariants.{Ended, Full, Lost, Paused, Wants}
-use Rattle.sbx_engine.specs.declared.paced.Step.{Step}
+use Rattle.engine_runs.specs.Going.{IsAllOf, IsFrontOf}
+use Rattle.engine_runs.specs.Steps.{Goes, IsStep, StandsSo, turns_of}
+use Rattle.engine_runs.specs.declared.paced.Stand.{Stand}
+use Rattle.engine_runs.specs.declared.paced.Stand.TheVariants.{Ended, Full, Lost, Paused, Wants}
+use Rattle.engine_runs.specs.declared.paced.Step.{Step}
 use Rattle.geyserpan.proofs.Fronts.{behind_same, longer, written_same}
 use Rattle.geyserpan.specs.Engines.{GoesOn, StepsSo, is_last}
 use Rattle.geyserpan.specs.declared.engine_slot.EngineRun.{EngineRun}

@@ -1,8 +1,8 @@
 -- What a run on the engine leaves with its caller.
 use Rattle.std.specs.Prelude.{◌≡◌, ℕ, ◌<◌, ◌≤◌, List, [], ◌∷◌, length, Some}
 use Rattle.sbx_image.specs.Parts.{Parts}
-use Rattle.sbx_engine.specs.Answer.{IsAnswer}
-use Rattle.sbx_engine.specs.declared.runs.Finished.{Finished}
+use Rattle.engine_runs.specs.Answer.{IsAnswer}
+use Rattle.engine_runs.specs.declared.runs.Finished.{Finished}
 use Rattle.geyserpan.specs.Reports.{Hands}
 use Rattle.geyserpan.specs.declared.image_slot.ImageSlot.{ImageSlot}
 use Rattle.geyserpan.specs.declared.image_slot.Kept.{Kept}

@@ -3,8 +3,8 @@ use Rattle.std.specs.Prelude.{ℕ, ◌≡◌, ◌≢◌, ◌+◌, ◌≤◌, ◌
 use Rattle.std.specs.Prelude.{Some}
 use Rattle.sbx_image.specs.Parts.{Parts}
 use Rattle.sbx_flat.specs.Runs.{budget}
-use Rattle.sbx_engine.specs.Going.{IsAllOf, IsFrontOf}
-use Rattle.sbx_engine.specs.Steps.{Goes, IsBegun, allowed, turns_of}
+use Rattle.engine_runs.specs.Going.{IsAllOf, IsFrontOf}
+use Rattle.engine_runs.specs.Steps.{Goes, IsBegun, allowed, turns_of}
 use Rattle.geyserpan.specs.declared.engine_slot.EngineRun.{EngineRun}
 use Rattle.geyserpan.specs.declared.engine_slot.EngineSlot.{EngineSlot}
 use Rattle.geyserpan.specs.declared.image_slot.ImageSlot.{ImageSlot}

@@ -6,7 +6,7 @@ use crate::room::hand_on;
 use crate::running::Report;
 use crate::statuses::{MEMORY, OK, OUTPUT, ROOM, WINDOWS};
 use crate::terms::{LEAST_WINDOWS, Terms};
-use sbx_engine::{Finished, run_flat};
+use engine_runs::{Finished, run_flat};
 use sbx_run::Accepted;
 use std::alloc::Global;
 

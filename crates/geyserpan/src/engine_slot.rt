@@ -5,7 +5,7 @@ use crate::image_slot::Kept;
 use crate::run_slot::Done;
 use crate::statuses::{ENDED, FULL, HANDLE, LOST, MEMORY, OK, OUTPUT, PAUSED, WANTS, WINDOWS};
 use crate::terms::LEAST_WINDOWS;
-use sbx_engine::{Paced, Stand};
+use engine_runs::{Paced, Stand};
 use std::alloc::Global;
 
 /// A run that counts on as many windows as its image's terms say, and how many bytes of output it is still granted.

@@ -5,7 +5,7 @@ use Rattle.sbx_port.specs.Streams.{Streamed}
 use Rattle.sbx_stream.specs.Finished.{Finished}
 use Rattle.sbx_stream.specs.RunFault.{RunFault}
 use Rattle.sbx_stream.specs.Streams.{IsFront, IsStreamed}
-use Rattle.sbx_command.specs.Streaming.{RunGives}
+use Rattle.cmd_command.specs.Streaming.{RunGives}
 
 pub run_at : (n windows : ℕ) (parts : Parts) (a b c d : Option (List ℕ)) (result : Result Finished RunFault) → windows ≡ n
     → IfOk result (λ finished. Streamed a b c d (IsStreamed parts n finished)) → IfErr result (λ fault. Streamed a b c d (IsFront parts fault))

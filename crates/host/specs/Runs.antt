@@ -4,9 +4,9 @@ use Rattle.sbx_image.specs.Parts.{Parts}
 use Rattle.sbx_port.specs.Streams.{Streamed}
 use Rattle.sbx_stream.specs.Finished.{Finished}
 use Rattle.sbx_stream.specs.RunFault.{RunFault}
-use Rattle.sbx_command.specs.Streaming.{RunGives}
-use Rattle.sbx_flow.specs.Flows.{IsCutOff, IsFlowed}
-use Rattle.sbx_flow.specs.declared.flow.Flowed.{Flowed}
+use Rattle.cmd_command.specs.Streaming.{RunGives}
+use Rattle.engine_stream.specs.Flows.{IsCutOff, IsFlowed}
+use Rattle.engine_stream.specs.declared.flow.Flowed.{Flowed}
 use Rattle.host.specs.declared.running.Told.{Told}
 
 -- what is told of a run on a board, and on the flat machine

@@ -1,6 +1,6 @@
 //! Why the host stops, and its line on standard error.
-use sbx_command::Full;
-use sbx_files::FileFault;
+use cmd_command::Full;
+use cmd_files::FileFault;
 use std::alloc::AllocError;
 use std::fmt::{self, Display, Formatter, Write};
 use want::Want;

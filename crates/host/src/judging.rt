@@ -3,7 +3,7 @@ ghost use Rattle.std.specs.Prelude.{◌≡◌, IfErr, IfOk, IfSome, IsNone, ◌+
 ghost use Rattle.host.specs.Policies.{AddsAdmitted, DeniesRightly};
 
 use crate::policy::{Denial, Policy, admit};
-use sbx_command::{ReadFault, read_whole};
+use cmd_command::{ReadFault, read_whole};
 use sbx_run::Accepted;
 use std::alloc::Global;
 use std::io::Read;

@@ -22,11 +22,11 @@ mod telling;
 mod tests;
 mod words;
 
+use cmd_command::{Full, ReadFault, read_whole};
+use cmd_files::{FileFault, command_words, hold_streams, open_file};
 use faults::Fault;
 use judging::{MOST, judge};
 use running::{Halt, Ran, Source, converse};
-use sbx_command::{Full, ReadFault, read_whole};
-use sbx_files::{FileFault, command_words, hold_streams, open_file};
 use sbx_run::Accepted;
 use std::fs::File;
 use std::io::{Cursor, Read};

@@ -1,15 +1,15 @@
 //! Runs of admitted images.
 ghost use Rattle.std.specs.Prelude.{◌≡◌, ◌≤◌};
-ghost use Rattle.sbx_command.specs.Streaming.{RunGives};
+ghost use Rattle.cmd_command.specs.Streaming.{RunGives};
 ghost use Rattle.host.specs.Runs.{EngineGives, RunsSo, told_of, told_of_flow};
 
 use crate::bounding::Bounded;
 use crate::words::Terms;
-use sbx_command::Full;
+use cmd_command::Full;
+use cmd_files::{Counted, Hearer, Speaker};
+use cmd_jobs::Windows;
+use engine_stream::{Flowed, run_over};
 use sbx_counts::on_windows;
-use sbx_files::{Counted, Hearer, Speaker};
-use sbx_flow::{Flowed, run_over};
-use sbx_jobs::Windows;
 use sbx_stream::{Accepted, Finished, RunFault, run_stream};
 use std::alloc::Global;
 use std::cell::RefCell;

@@ -3,7 +3,7 @@ use crate::bounding::Bounded;
 use crate::judging::{MOST, judge};
 use crate::policy::{Denial, POLICY, Policy};
 use crate::words::{Asked, Lack, Name, Report, Terms, read_words};
-use sbx_command::ReadFault;
+use cmd_command::ReadFault;
 use sbx_run::Services;
 use std::io::{self, Read, Write};
 

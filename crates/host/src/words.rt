@@ -5,7 +5,7 @@ ghost use Rattle.std.specs.Str.Parse.{IsNumeral, digits_value};
 
 use crate::policy::{POLICY, Policy};
 use bitflags::Flags;
-use sbx_jobs::{Windows, decimal, window_count};
+use cmd_jobs::{Windows, decimal, window_count};
 use sbx_run::Services;
 use std::alloc::Global;
 use std::convert::AsStr;

@@ -1,7 +1,7 @@
 -- What is told of a source is told of all that its file has.
 use Rattle.std.proofs.Common.{◌≡◌, List, ℕ, Option, None, Some, IfSome, subst, ◌∙◌}
 use Rattle.std.specs.Io.KnownBytes.{Appends}
-use Rattle.sbx_named.specs.declared.checking.Verdict.{Verdict}
+use Rattle.inspect_names.specs.declared.checking.Verdict.{Verdict}
 use Rattle.sbx_raw.specs.Fronts.{Wrote}
 use Rattle.inspect.specs.declared.words.Form.{Form}
 use Rattle.inspect.specs.Sources.{CheckTold}

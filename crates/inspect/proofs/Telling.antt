@@ -5,10 +5,10 @@ use Rattle.sbx_image.specs.Parts.{Parts}
 use Rattle.sbx_image.specs.Reading.{reading}
 use Rattle.sbx_rules.specs.declared.cause.Refusal.{Refusal}
 use Rattle.sbx_rules.specs.Verdicts.{Checked, IsFirst}
-use Rattle.sbx_tell.specs.declared.run.Run.{Run}
-use Rattle.sbx_tell.specs.Runs.{IsRun}
+use Rattle.inspect_run.specs.declared.run.Run.{Run}
+use Rattle.inspect_run.specs.Runs.{IsRun}
 use Rattle.sbx_raw.specs.Fronts.{Wrote}
-use Rattle.sbx_tell.specs.Watched.{IsWatched}
+use Rattle.inspect_run.specs.Watched.{IsWatched}
 use Rattle.inspect.specs.declared.words.Form.{Form}
 use Rattle.inspect.specs.Told.{Explained, IsImageReport, IsRunReport, IsVerdict, IsVerdictReport, Ran, Shown, TellsRun, Traced}
 

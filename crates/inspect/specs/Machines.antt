@@ -1,12 +1,12 @@
 -- What is told of a machine, where the bytes of its binary and of its file are known.
 use Rattle.std.specs.Prelude.{◌≡◌, ℕ, List, Option, Result, Ok, Err}
-use Rattle.sbx_command.specs.Stops.{stop_of_run}
+use Rattle.cmd_command.specs.Stops.{stop_of_run}
 use Rattle.sbx_raw.specs.Fronts.{Wrote}
 use Rattle.sbx_raw.specs.declared.fault.RunFault.{RunFault}
-use Rattle.sbx_start.specs.declared.start.Start.{Start}
-use Rattle.sbx_start.specs.Starts.{IsFit}
-use Rattle.sbx_start.specs.Files.{IsFault, Spells}
-use Rattle.sbx_machine.specs.Told.{BeginsTold, IsOwnFault, IsTold}
+use Rattle.inspect_start.specs.declared.start.Start.{Start}
+use Rattle.inspect_start.specs.Starts.{IsFit}
+use Rattle.inspect_start.specs.Files.{IsFault, Spells}
+use Rattle.inspect_machine.specs.Told.{BeginsTold, IsOwnFault, IsTold}
 use Rattle.inspect.specs.declared.machine.MachineFault.{MachineFault}
 use Rattle.inspect.specs.declared.machine.MachineFault.TheVariants as faults
 

@@ -1,10 +1,10 @@
 -- What is told of a source.
 use Rattle.std.specs.Prelude.{ℕ, List}
-use Rattle.sbx_named.specs.declared.checking.Verdict.{Verdict}
-use Rattle.sbx_named.specs.declared.findings.Finding.{Finding}
-use Rattle.sbx_named.specs.Findings.{IsCheck}
-use Rattle.sbx_objects.specs.Objects.{IsLine}
-use Rattle.sbx_objects.specs.Findings.{check_json}
+use Rattle.inspect_names.specs.declared.checking.Verdict.{Verdict}
+use Rattle.inspect_names.specs.declared.findings.Finding.{Finding}
+use Rattle.inspect_names.specs.Findings.{IsCheck}
+use Rattle.inspect_json.specs.Objects.{IsLine}
+use Rattle.inspect_json.specs.Findings.{check_json}
 use Rattle.inspect.specs.declared.words.Form.{Form}
 use Rattle.inspect.specs.declared.words.Form.TheVariants.{Text, Json}
 

@@ -4,17 +4,17 @@ use Rattle.sbx_image.specs.Parts.{Parts}
 use Rattle.sbx_image.specs.Reading.{reading}
 use Rattle.sbx_rules.specs.declared.cause.Refusal.{Refusal}
 use Rattle.sbx_rules.specs.Verdicts.{Checked, IsFirst}
-use Rattle.sbx_declare.specs.Images.{image_text}
-use Rattle.sbx_explain.specs.Refusals.{Tells}
+use Rattle.inspect_image.specs.Images.{image_text}
+use Rattle.inspect_refusal.specs.Refusals.{Tells}
 use Rattle.sbx_raw.specs.Fronts.{Wrote}
-use Rattle.sbx_tell.specs.declared.run.Run.{Run}
-use Rattle.sbx_tell.specs.Reports.{run_text}
-use Rattle.sbx_tell.specs.Runs.{IsRun}
-use Rattle.sbx_tell.specs.Watched.{IsWatched}
-use Rattle.sbx_objects.specs.Objects.{IsLine}
-use Rattle.sbx_objects.specs.Images.{image_json}
-use Rattle.sbx_objects.specs.Runs.{run_json}
-use Rattle.sbx_objects.specs.Verdicts.{verdict_json}
+use Rattle.inspect_run.specs.declared.run.Run.{Run}
+use Rattle.inspect_run.specs.Reports.{run_text}
+use Rattle.inspect_run.specs.Runs.{IsRun}
+use Rattle.inspect_run.specs.Watched.{IsWatched}
+use Rattle.inspect_json.specs.Objects.{IsLine}
+use Rattle.inspect_json.specs.Images.{image_json}
+use Rattle.inspect_json.specs.Runs.{run_json}
+use Rattle.inspect_json.specs.Verdicts.{verdict_json}
 use Rattle.inspect.specs.declared.words.Form.{Form}
 use Rattle.inspect.specs.declared.words.Form.TheVariants.{Text, Json}
 

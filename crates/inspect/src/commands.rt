@@ -1,19 +1,19 @@
 //! What is told of the image of a file.
 ghost use Rattle.std.specs.Prelude.{◌≡◌, ◌⊎◌, IfErr, IfOk, IfSome, OnOk};
 ghost use Rattle.std.specs.Io.KnownBytes.{Appends};
-ghost use Rattle.sbx_command.specs.Stops.{IsOfTrace, IsTrueOfImage};
+ghost use Rattle.cmd_command.specs.Stops.{IsOfTrace, IsTrueOfImage};
 ghost use Rattle.sbx_raw.specs.Fronts.{Wrote};
-ghost use Rattle.sbx_tell.specs.Watched.{IsWatched};
+ghost use Rattle.inspect_run.specs.Watched.{IsWatched};
 ghost use Rattle.inspect.specs.Told.{Explained, IsImageReport, IsRunReport, Ran, Shown, TellsRun, Traced};
 ghost use Rattle.want.specs.Wants.{refused};
 
 use crate::reports::{image_report, run_report, why_report};
 use crate::words::Form;
-use sbx_command::{CommandStop, Windows, image_in, input_of};
+use cmd_command::{CommandStop, Windows, image_in, input_of};
+use inspect_run::{Progress, Run, run_windows, watch_windows};
 use sbx_image::Image;
 use sbx_put::put_through;
 use sbx_rules::Refusal;
-use sbx_tell::{Progress, Run, run_windows, watch_windows};
 use std::alloc::Global;
 use std::io::{Read, Write};
 use want::Want;

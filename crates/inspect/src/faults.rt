@@ -1,7 +1,7 @@
 //! Why nothing is told, and how that is told.
-use sbx_command::CommandStop;
-use sbx_files::FileFault;
-use sbx_start::{Cause, StartFault};
+use cmd_command::CommandStop;
+use cmd_files::FileFault;
+use inspect_start::{Cause, StartFault};
 use std::io::Write;
 
 /// The status where a file or a stream fails.

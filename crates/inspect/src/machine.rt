@@ -3,10 +3,10 @@ ghost use Rattle.inspect.specs.Machines.{MachineOf};
 
 use crate::faults::Fault;
 use crate::opened;
-use sbx_command::{CommandStop, MOST, ReadFault, Windows, read_whole};
-use sbx_files::FileFault;
-use sbx_machine::machine_windows;
-use sbx_start::{StartFault, read_start};
+use cmd_command::{CommandStop, MOST, ReadFault, Windows, read_whole};
+use cmd_files::FileFault;
+use inspect_machine::machine_windows;
+use inspect_start::{StartFault, read_start};
 use std::alloc::Global;
 use std::io::{BufWriter, Write};
 

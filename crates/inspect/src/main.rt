@@ -13,13 +13,13 @@ mod sources;
 mod states;
 mod words;
 
+use cmd_command::{CommandStop, Full, MOST};
+use cmd_files::{Counted, FileFault, command_words, hold_streams, open_file};
 use commands::{explain_image, run_image, show_image, trace_image};
 use faults::Fault;
+use inspect_run::Progress;
 use machine::run_machine;
 use progress::Lines;
-use sbx_command::{CommandStop, Full, MOST};
-use sbx_files::{Counted, FileFault, command_words, hold_streams, open_file};
-use sbx_tell::Progress;
 use states::state_image;
 use std::alloc::{AllocError, Global};
 use std::fs::File;

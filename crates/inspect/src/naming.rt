@@ -2,13 +2,13 @@
 use crate::commands::put_out;
 use crate::sources::digest_of;
 use crate::words::Job;
+use cmd_command::{CommandStop, Windows, image_in, input_of};
+use inspect_image::push_image;
+use inspect_names::{MapText, NamedWriter, Names, Told, names_in, push_renamed, read_map};
+use inspect_refusal::push_why;
+use inspect_run::{Progress, watch_windows};
 use sbx_asm::assemble;
-use sbx_command::{CommandStop, Windows, image_in, input_of};
-use sbx_declare::push_image;
-use sbx_explain::push_why;
 use sbx_image::Image;
-use sbx_named::{MapText, NamedWriter, Names, Told, names_in, push_renamed, read_map};
-use sbx_tell::{Progress, watch_windows};
 use std::alloc::{AllocError, Global};
 use std::io::{Read, Write};
 use want::Want;

@@ -1,5 +1,5 @@
 //! How far a run has come, on standard error.
-use sbx_tell::Progress;
+use inspect_run::Progress;
 use std::time::Instant;
 
 /// A line on standard error each second, from the first on.

@@ -1,17 +1,17 @@
 //! What is told of an image, a run or a verdict, in the form that was asked for.
 ghost use Rattle.std.specs.Prelude.{◌≡◌, [], IfOk, string_bytes};
-ghost use Rattle.sbx_declare.specs.Images.{image_text};
-ghost use Rattle.sbx_explain.specs.Refusals.{Tells};
-ghost use Rattle.sbx_tell.specs.Reports.{run_text};
+ghost use Rattle.inspect_image.specs.Images.{image_text};
+ghost use Rattle.inspect_refusal.specs.Refusals.{Tells};
+ghost use Rattle.inspect_run.specs.Reports.{run_text};
 ghost use Rattle.inspect.specs.Told.{IsImageReport, IsRunReport, IsVerdict, IsVerdictReport};
 
 use crate::words::Form;
-use sbx_declare::push_image;
-use sbx_explain::push_why;
+use inspect_image::push_image;
+use inspect_json::{image_line, run_line, verdict_line};
+use inspect_refusal::push_why;
+use inspect_run::{Run, push_run};
 use sbx_image::Image;
-use sbx_objects::{image_line, run_line, verdict_line};
 use sbx_rules::Refusal;
-use sbx_tell::{Run, push_run};
 use std::alloc::{AllocError, Global};
 
 /// The text of what an image declares.

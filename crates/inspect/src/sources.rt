@@ -5,11 +5,11 @@ ghost use Rattle.inspect.specs.Sources.{CheckTold, IsCheckReport};
 
 use crate::commands::put_out;
 use crate::words::Form;
+use cmd_command::{CommandStop, MOST, ReadFault, read_whole};
+use inspect_json::check_line;
+use inspect_names::{Check, Verdict, check_source, push_map};
 use sbx_asm::assemble;
-use sbx_command::{CommandStop, MOST, ReadFault, read_whole};
 use sbx_image::{Image, write};
-use sbx_named::{Check, Verdict, check_source, push_map};
-use sbx_objects::check_line;
 use sha2::{Digest, Sha256};
 use std::alloc::{AllocError, Global};
 use std::io::{Read, Write};

@@ -1,13 +1,13 @@
 //! The states of a run of the image of a file.
 ghost use Rattle.std.specs.Prelude.{IfErr, IfSome, OnOk};
-ghost use Rattle.sbx_command.specs.Stops.{IsOfTrace, IsTrueOfImage};
+ghost use Rattle.cmd_command.specs.Stops.{IsOfTrace, IsTrueOfImage};
 ghost use Rattle.sbx_raw.specs.Fronts.{Wrote};
-ghost use Rattle.sbx_image_states.specs.Told.{IsStated};
+ghost use Rattle.inspect_image_states.specs.Told.{IsStated};
 ghost use Rattle.inspect.specs.States.{StatesOf};
 
-use sbx_command::{CommandStop, Windows, image_in, input_of};
+use cmd_command::{CommandStop, Windows, image_in, input_of};
+use inspect_image_states::state_windows;
 use sbx_image::Image;
-use sbx_image_states::state_windows;
 use std::alloc::Global;
 use std::io::{Read, Write};
 

@@ -3,8 +3,8 @@ ghost use Rattle.std.specs.Prelude.{IfSome};
 ghost use Rattle.inspect.specs.Jobs.{IsInRange};
 
 use crate::machine::Setting;
-use sbx_command::{Windows, turns, window_count};
-use sbx_start::address;
+use cmd_command::{Windows, turns, window_count};
+use inspect_start::address;
 use std::convert::AsStr;
 
 /// What is told is for people, or for programs.

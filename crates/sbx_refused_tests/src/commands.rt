@@ -8,7 +8,7 @@ mod words;
 
 use self::words::{Given, are_read};
 use crate::passing::passes;
-use sbx_command::{Ended, Job, Windows, command, exit_status};
+use cmd_command::{Ended, Job, Windows, command, exit_status};
 use std::alloc::Global;
 use std::io::{self, Read, Write};
 use std::process::Abort;

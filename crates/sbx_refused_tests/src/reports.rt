@@ -4,9 +4,9 @@ ghost use Rattle.std.specs.Prelude.{◌≤◌};
 use crate::images::{FOREVER, HELLO, image_of};
 use crate::passing::passes;
 use crate::sheet::Sheet;
+use inspect_run::{Progress, Run, push_run, run_windows, watch_windows};
 use sbx_image::Image;
 use sbx_raw::RunFault;
-use sbx_tell::{Progress, Run, push_run, run_windows, watch_windows};
 use std::alloc::Global;
 
 /// How often a run said how far it had come.

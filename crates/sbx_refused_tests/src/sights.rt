@@ -1,16 +1,16 @@
 //! What is known at words of whole images, worked out by hand. Where a growth of memory is refused, a call is made once
 //! more.
 ghost use Rattle.std.specs.Prelude.{IfOk};
-ghost use Rattle.sbx_inspect.specs.Sights.{IsSeen};
+ghost use Rattle.inspect_known.specs.Sights.{IsSeen};
 
 use crate::images::image_of;
 use crate::passing::passes;
-use sbx_domain::State;
-use sbx_image::Image;
-use sbx_inspect::{
+use inspect_known::{
     BudgetSides, Fuel, FuelSides, NotKnown, RoomSides, Sight, after, budget_sides, call_room,
     entry_room, fuel_sides, known_at, stack_room,
 };
+use sbx_domain::State;
+use sbx_image::Image;
 use sbx_known::{Course, Going};
 use std::alloc::{AllocError, Global};
 use std::process::Abort;

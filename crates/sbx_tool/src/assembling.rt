@@ -1,7 +1,7 @@
 //! The command `asm` on files.
 use crate::files::{done_on, is_same_file, stored};
-use sbx_command::CommandStop;
-use sbx_words::Job;
+use cmd_command::CommandStop;
+use cmd_words::Job;
 
 /// Assembles the source at a path. The object is opened only where the source means an image; the source itself is no
 /// object.

@@ -1,10 +1,10 @@
-//! A run's standard streams, as a conversation ([`sbx_files::Hearer`], [`sbx_files::Speaker`]): what was put out is
+//! A run's standard streams, as a conversation ([`cmd_files::Hearer`], [`cmd_files::Speaker`]): what was put out is
 //! there to be read before an answer to it is waited for. What is left at the end goes on by the job's own flush,
 //! and where a job stops before it, as the writer is dropped.
 use crate::files::done_on;
-use sbx_command::CommandStop;
-use sbx_files::{Hearer, Speaker};
-use sbx_words::Job;
+use cmd_command::CommandStop;
+use cmd_files::{Hearer, Speaker};
+use cmd_words::Job;
 use std::cell::RefCell;
 use std::io::{BufReader, LineWriter};
 

@@ -1,6 +1,6 @@
 //! Files by their paths.
-use sbx_command::{CommandStop, exit_status};
-use sbx_words::Job;
+use cmd_command::{CommandStop, exit_status};
+use cmd_words::Job;
 use std::fs::File;
 use std::io::{Read, Write};
 use std::os::unix::fs::MetadataExt;

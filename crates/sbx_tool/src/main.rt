@@ -6,11 +6,11 @@ mod conversing;
 mod files;
 
 use assembling::assemble_to;
+use cmd_command::{CommandStop, Full};
+use cmd_files::{command_words, hold_streams};
+use cmd_words::{Job, Usage, read_words};
 use conversing::converse;
 use files::done_on;
-use sbx_command::{CommandStop, Full};
-use sbx_files::{command_words, hold_streams};
-use sbx_words::{Job, Usage, read_words};
 use std::alloc::AllocError;
 use std::io::BufWriter;
 use std::process::ExitCode;

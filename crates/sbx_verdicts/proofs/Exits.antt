@@ -4,11 +4,11 @@ use Rattle.sbx_image.specs.Parts.{Parts}
 use Rattle.sbx_flat.specs.declared.path.Place.{Place}
 use Rattle.sbx_flat.specs.Runs.{IsStart}
 use Rattle.sbx_flat.specs.States.{State}
-use Rattle.sbx_plain.specs.Comes.{IsRan}
-use Rattle.sbx_plain.specs.Shows.{Shows}
-use Rattle.sbx_plain.specs.declared.machine.Plain.{Plain}
-use Rattle.sbx_plain.specs.declared.runs.Ending.{Ending}
-use Rattle.sbx_plain.specs.declared.runs.Ending.TheVariants.{Exit}
+use Rattle.flat_plain.specs.Comes.{IsRan}
+use Rattle.flat_plain.specs.Shows.{Shows}
+use Rattle.flat_plain.specs.declared.machine.Plain.{Plain}
+use Rattle.flat_plain.specs.declared.runs.Ending.{Ending}
+use Rattle.flat_plain.specs.declared.runs.Ending.TheVariants.{Exit}
 use Rattle.sbx_verdicts.specs.Runs.{ExitsSo}
 use Rattle.sbx_verdicts.specs.declared.runs.Run.{Run}
 

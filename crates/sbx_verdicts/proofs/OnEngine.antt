@@ -1,8 +1,8 @@
 -- What a run on the fast flat machine answers, beside a line.
 use Rattle.std.proofs.Common.{◌≡◌, ◌↔◌, ℕ, Bool, IsTrue, List, subst}
 use Rattle.sbx_image.specs.Parts.{Parts}
-use Rattle.sbx_engine.specs.Answer.{IsAnswer}
-use Rattle.sbx_engine.specs.declared.runs.Finished.{Finished}
+use Rattle.engine_runs.specs.Answer.{IsAnswer}
+use Rattle.engine_runs.specs.declared.runs.Finished.{Finished}
 use Rattle.sbx_verdicts.specs.Engine.{EngineRunsSo, IsRun}
 use Rattle.sbx_verdicts.specs.declared.runs.Run.{Run}
 

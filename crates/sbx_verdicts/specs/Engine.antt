@@ -1,8 +1,8 @@
 -- What it means that a run on the fast flat machine is the one of a line.
 use Rattle.std.specs.Prelude.{◌≡◌}
 use Rattle.sbx_image.specs.Parts.{Parts}
-use Rattle.sbx_engine.specs.Answer.{IsAnswer}
-use Rattle.sbx_engine.specs.declared.runs.Finished.{Finished}
+use Rattle.engine_runs.specs.Answer.{IsAnswer}
+use Rattle.engine_runs.specs.declared.runs.Finished.{Finished}
 use Rattle.sbx_verdicts.specs.declared.runs.Counts.{Counts}
 use Rattle.sbx_verdicts.specs.declared.runs.Run.{Run}
 

@@ -3,7 +3,7 @@ ghost use Rattle.std.specs.Prelude.{◌≡◌, ◌↔◌, IfOk, IsTrue};
 ghost use Rattle.sbx_verdicts.specs.Engine.{EngineRunsSo, IsRun, counts_told};
 
 use crate::runs::{Counts, Run};
-use sbx_engine::{Accepted, Finished, run_flat};
+use engine_runs::{Accepted, Finished, run_flat};
 use std::alloc::{AllocError, Global};
 
 /// The counts of a run that has ended.

@@ -1,7 +1,7 @@
 //! The programs of `examples`: what the sandbox's commands do with them, in memory. Each command is printed, with what
 //! it tells and its status: a source is assembled, its image verified and run. Of an image that is kept beside its
 //! source it is told where it is another than the assembled one.
-use sbx_command::{Job, Windows, exit_status};
+use cmd_command::{Job, Windows, exit_status};
 use std::io::{Read, Write};
 use std::{fs, io};
 

@@ -3,9 +3,9 @@ ghost use Rattle.std.specs.Prelude.{◌≡◌, ◌<◌, ◌≤◌, ◌^◌, ◌�
 ghost use Rattle.sbx_verdicts.specs.Runs.{ExitsSo, FlatRunsSo, comes_to};
 
 use crate::runs::{Counts, Run};
+use flat_plain::{Ending, Plain, Ran, traffic};
 use sbx_flat::Place;
 use sbx_image::Image;
-use sbx_plain::{Ending, Plain, Ran, traffic};
 use std::alloc::{AllocError, Global};
 
 /// The most steps that a run of so many turns has: each takes a turn or more. One more shows the exit.

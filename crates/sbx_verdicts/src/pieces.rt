@@ -1,7 +1,7 @@
 //! Runs of an accepted image on the fast flat machine in pieces, beside a line's run.
 
 use crate::runs::{Counts, Run};
-use sbx_engine::{Accepted, Paced, Stand};
+use engine_runs::{Accepted, Paced, Stand};
 use sbx_flat::Traffic;
 use std::alloc::{AllocError, Global};
 

@@ -1,8 +1,8 @@
 //! Whole programs on the plain flat machine.
 use crate::rows::{LOOPS, ROWS, Row};
+use flat_plain::{Ending, Plain, Ran, traffic, weight};
 use sbx_flat::Place;
 use sbx_image::Image;
-use sbx_plain::{Ending, Plain, Ran, traffic, weight};
 use std::alloc::Global;
 use std::process::Abort;
 use std::test::Fail;

@@ -3,8 +3,8 @@
 ghost use Rattle.std.specs.Prelude.{◌≡◌, ◌+◌, ◌*◌, ◌%◌, ◌≤◌};
 
 use crate::rows::{ROWS, Row};
+use flat_plain::{Plain, Turned};
 use sbx_image::Image;
-use sbx_plain::{Plain, Turned};
 use sbx_raw::{SlicePort, begun};
 use std::alloc::{AllocError, Global};
 use std::test::Fail;

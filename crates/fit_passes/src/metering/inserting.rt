@@ -2,10 +2,10 @@
 //! loops is one, but for those that a counter bounds. A loop so bounded that stands behind a loop without bound, and in
 //! no loop, has one all the same: else each round of that loop would pay for it, since the run may go on there.
 use crate::metering::registers::free_register;
+use fit_checks::{insert_instr, push_block, register};
 use fit_code::{Block, End, Function, Memory, NO_LINE};
 use fit_fuel::{Bounds, Meter, counting, number_in};
 use fit_graph::{Graph, Loop, successors_in};
-use fit_tests::{insert_instr, push_block, register};
 use v8_formats::{Cond, Instr, Operand, Reg, Three};
 
 /// The exit word of a run whose meter is empty, but for the line.

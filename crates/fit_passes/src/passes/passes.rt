@@ -1,10 +1,10 @@
 //! From compiler-made assembly to an annotated source.
 use crate::metering::insert_meter;
 use crate::placing::{fill, place};
+use fit_checks::{Options, Test, add_tests};
 use fit_code::{Fault, Function, Memory, NO_LINE, Program, Reason};
 use fit_fuel::{Meter, bounds_of, declare, refused};
 use fit_ranges::Ranges;
-use fit_tests::{Options, Test, add_tests};
 use fit_text::source_of;
 use sbx_domain::State;
 use std::alloc::{AllocError, Global};

@@ -1,7 +1,7 @@
 //! Filling delay slots, and what becomes of blocks that control doesn't come to.
+use fit_checks::{CODES, Kind, Y, number_in, push_instrs, use_of};
 use fit_code::{Block, End, Memory, Program, Step};
 use fit_ranges::Ranges;
-use fit_tests::{CODES, Kind, Y, number_in, push_instrs, use_of};
 use v8_meaning::{Operation, Transfer, operation_of};
 
 /// The register of the exit word, %o0.

@@ -1,7 +1,7 @@
 //! An order of a function's blocks in which control mostly goes on to the next one.
+use fit_checks::{insert_instr, push_block};
 use fit_code::{Block, End, Function, Memory, opposite};
 use fit_graph::Graph;
-use fit_tests::{insert_instr, push_block};
 use std::mem;
 use v8_formats::{Instr, Reg, Upper};
 

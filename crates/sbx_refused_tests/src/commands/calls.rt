@@ -4,7 +4,7 @@ use super::streams::ECHO;
 use super::words::job_named;
 use super::{HELLO, Told, answer_of};
 use crate::passing::passes;
-use sbx_command::Job;
+use cmd_command::Job;
 use std::alloc::Global;
 use std::process::Abort;
 

@@ -1,6 +1,6 @@
 //! A chain of calls that is deeper than any count of windows, from its source to its run and its trace.
 use super::{Writer, status_on};
-use sbx_command::{Job, Windows};
+use cmd_command::{Job, Windows};
 use std::alloc::Global;
 use std::io::{self, Write};
 

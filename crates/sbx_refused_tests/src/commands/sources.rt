@@ -1,7 +1,7 @@
 //! Sources that mean an image, and others.
 use super::{End, HELLO, Reader, Told, Writer, has_ends};
 use crate::passing::passes;
-use sbx_command::Job;
+use cmd_command::Job;
 use std::alloc::Global;
 use std::process::Abort;
 

@@ -1,6 +1,6 @@
 //! The line of a stop over a writer that takes a byte a call, and fails at one.
 use super::Writer;
-use sbx_command::CommandStop;
+use cmd_command::CommandStop;
 use sbx_rules::{Cause, Refusal};
 
 /// The longest stop: a refusal at the last word of the last function.

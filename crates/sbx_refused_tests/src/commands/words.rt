@@ -3,9 +3,9 @@
 use super::sources::ASM;
 use super::{LIST, RUN, Reader, TRACE, VERIFY};
 use crate::passing::passes;
-use sbx_command::{ReadFault, read_whole};
-use sbx_jobs::{decimal, turns, window_count};
-use sbx_words::{Job, Usage, Windows, read_words};
+use cmd_command::{ReadFault, read_whole};
+use cmd_jobs::{decimal, turns, window_count};
+use cmd_words::{Job, Usage, Windows, read_words};
 use std::alloc::Global;
 use std::process::Abort;
 

@@ -1,4 +1,4 @@
-use Rattle.sbx_command.proofs.Traces.{stop_of_trace}
+use Rattle.cmd_command.proofs.Traces.{stop_of_trace}
 use Rattle.inspect.proofs.Telling.{traced_if}
 use Rattle.inspect.proofs.commands.trace_image.Goals as goal
 

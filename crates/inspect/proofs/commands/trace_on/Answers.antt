@@ -1,4 +1,4 @@
-use Rattle.sbx_command.proofs.Traces.{of_run}
+use Rattle.cmd_command.proofs.Traces.{of_run}
 use Rattle.inspect.proofs.Telling.{wrote_on}
 use Rattle.inspect.proofs.commands.trace_on.Goals as goal
 

@@ -1,7 +1,7 @@
 use Rattle.std.proofs.lemmas.Result.{err_from_is_err_and}
-use Rattle.sbx_command.proofs.Traces.{of_input}
+use Rattle.cmd_command.proofs.Traces.{of_input}
 use Rattle.sbx_raw.specs.Fronts.{Wrote}
-use Rattle.sbx_tell.specs.Watched.{IsWatched}
+use Rattle.inspect_run.specs.Watched.{IsWatched}
 use Rattle.inspect.proofs.Telling.{on_all}
 use Rattle.inspect.proofs.commands.trace_read.Goals as goal
 

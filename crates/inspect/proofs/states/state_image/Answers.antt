@@ -1,4 +1,4 @@
-use Rattle.sbx_command.proofs.Traces.{stop_of_trace}
+use Rattle.cmd_command.proofs.Traces.{stop_of_trace}
 use Rattle.inspect.proofs.Stated.{stated_if}
 use Rattle.inspect.proofs.states.state_image.Goals as goal
 

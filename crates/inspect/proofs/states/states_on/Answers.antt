@@ -1,4 +1,4 @@
-use Rattle.sbx_command.proofs.Traces.{of_run}
+use Rattle.cmd_command.proofs.Traces.{of_run}
 use Rattle.inspect.proofs.Stated.{stated_on}
 use Rattle.inspect.proofs.states.states_on.Goals as goal
 

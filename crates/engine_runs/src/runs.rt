@@ -1,0 +1,99 @@
+//! Runs of accepted images to their end, of a whole input.
+ghost use Rattle.std.specs.Prelude.{◌≢◌, ◌<◌, ◌≤◌, ◌^◌, IfOk, length};
+ghost use Rattle.sbx_flat.specs.Runs.{AreBytes};
+ghost use Rattle.engine_runs.specs.Answer.{IsAnswer, Serves};
+ghost use Rattle.engine_runs.specs.Halts.{HaltsSo};
+
+use crate::course::{Course, Halt, MOST};
+use sbx_verify::Accepted;
+use std::alloc::{AllocError, Global};
+
+/// What a run gave: the exit word, the bytes written, the turns that it would make on a machine with the windows that
+/// were asked for, and how often that would have no window to save to or to restore from.
+#[derive(Drop)]
+pub struct Finished {
+    pub status: u32,
+    pub output: Vec<u8>,
+    pub turns: u64,
+    pub overflows: u64,
+    pub underflows: u64,
+}
+
+/// Tells that the elements are bytes, which is known of each one that is read.
+fn tells_bytes(bytes: &[u8])
+    ensures { AreBytes bytes.now }
+{
+    let _ = bytes;
+}
+
+/// Does what a run halted for, with its whole input, of which so many bytes are read, and its output so far; or gives
+/// the exit word.
+#[tactic(auto, using(crate::proofs::Stepping::byte_asks, crate::proofs::Stepping::room_asks, crate::proofs::Stepping::ended_exits, crate::proofs::Stepping::not_short))]
+fn serve(
+    course: &mut Course,
+    halt: Halt,
+    input: &[u8],
+    read: &mut usize,
+    output: &mut Vec<u8>,
+) -> Result<Option<u32>, AllocError>
+    requires halts { HaltsSo (2 ^ 62) course.old halt }
+    requires few { course.old.tally.traffic.turns < 2 ^ 40 }
+    requires found { halt ≢ Halt.Lost }
+    requires within { read.old ≤ length input.now }
+    ensures { IfOk result (Serves input.now read.old output.old.items course.old read.new output.new.items course.new) }
+{
+    match halt {
+        Halt::Byte(after) => {
+            if *read < input.len() {
+                course.take_byte(input[*read], after);
+                *read += 1;
+                return Ok(None);
+            }
+            course.take_end(after);
+            Ok(None)
+        }
+        Halt::Room(after) => {
+            output.push(course.give_byte(after))?;
+            Ok(None)
+        }
+        Halt::Ended(status) => Ok(Some(status)),
+        Halt::Refused(want) => Err(AllocError::from(want)),
+        Halt::Short => unreachable!(),
+        Halt::Lost => unreachable!(),
+    }
+}
+
+/// Runs an accepted image on an input to its end, on the flat machine. The output and the status are those of every run
+/// on the flat machine, and so of `run_accepted`; turns, overflows and underflows are those of a board of so many
+/// windows, 2 or more, which are counted and not made. The only fault is want of memory.
+pub fn run_flat(
+    alloc: Global,
+    accepted: &Accepted,
+    windows: u32,
+    input: &[u8],
+) -> Result<Finished, AllocError>
+    requires { 2 ≤ windows }
+    ensures { IfOk result (λ finished. IsAnswer accepted.now windows input.now finished) }
+{
+    tells_bytes(input);
+    let mut course = Course::new(alloc, accepted, windows)?;
+    let mut output = Vec::new(alloc);
+    let mut read = 0;
+    'rounds: for _round in 0..u64::MAX {
+        let halt = course.advance(MOST);
+        match serve(&mut course, halt, input, &mut read, &mut output)? {
+            None => {}
+            Some(status) => {
+                let counts = course.tally.traffic;
+                return Ok(Finished {
+                    status,
+                    output,
+                    turns: counts.turns,
+                    overflows: counts.overflows,
+                    underflows: counts.underflows,
+                });
+            }
+        }
+    }
+    unreachable!()
+}

@@ -1,5 +1,0 @@
-use Rattle.sbx_command.proofs.Streamed.{known_inputs_are_answered}
-use Rattle.sbx_command.proofs.laws.known_inputs_are_answered.Goals as goal
-
-pub returns : goal.returns
-returns c = known_inputs_are_answered

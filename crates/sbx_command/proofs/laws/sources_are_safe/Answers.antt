@@ -1,5 +1,0 @@
-use Rattle.sbx_command.proofs.Safe.{sources_are_safe}
-use Rattle.sbx_command.proofs.laws.sources_are_safe.Goals as goal
-
-pub returns : goal.returns
-returns c = sources_are_safe

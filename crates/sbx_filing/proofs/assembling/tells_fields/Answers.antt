@@ -1,4 +1,0 @@
-use Rattle.sbx_filing.proofs.assembling.tells_fields.Goals as goal
-
-pub returns : goal.returns
-returns c = c.keeps_its_format.ensures.typed

@@ -1,5 +1,0 @@
-use Rattle.sbx_filing.proofs.Pieces.{Joined}
-use Rattle.sbx_filing.proofs.images.feed_all.Given as goal
-
-abbrev pub invariant-loop : goal.invariant-loop
-invariant-loop g l = Joined (g.F.Read.remaining l.fn.file) (g.F.Read.remaining l.file) l.reader

@@ -1,7 +1,0 @@
-use Rattle.std.proofs.Common.{◌≤◌, vec_len}
-use Rattle.std.specs.Io.KnownBytes.{Consumes}
-use Rattle.sbx_filing.proofs.reading.read_whole.Given as goal
-
-abbrev pub invariant-loop : goal.invariant-loop
-invariant-loop g l = (vec_len l.bytes ≤ l.most)
-    × Consumes (g.R.Read.remaining l.fn.from) (g.R.Read.remaining l.from) l.bytes.items

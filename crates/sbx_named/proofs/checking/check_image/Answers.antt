@@ -1,8 +1,0 @@
-use Rattle.sbx_named.proofs.Judging.{accepted_by}
-use Rattle.sbx_named.proofs.checking.check_image.Goals as goal
-
-pub returns : goal.returns
-returns c = (
-  accepted_by c.args.source.now c.args.image c.in_ok-found.found c.requires c.in_ok-found.ensures.accepted c.in-None.is,
-  c.new.ensures.items,
-)

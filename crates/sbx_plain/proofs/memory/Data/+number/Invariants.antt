@@ -1,4 +1,0 @@
-use Rattle.sbx_plain.proofs.memory.Data.+number.Given as goal
-
-abbrev pub decreases-number : goal.decreases-number
-decreases-number l = l.count

@@ -1,7 +1,0 @@
-use Rattle.std.proofs.Common.{◌≡◌, ◌++◌, string_bytes}
-use Rattle.sbx_tell.specs.Heads.{blanks}
-use Rattle.sbx_tell.proofs.sheet.pad.Given as goal
-
--- the blanks so far
-abbrev pub invariant-loop : goal.invariant-loop
-invariant-loop l = string_bytes l.line ≡ string_bytes l.fn.line ++ blanks l.counter
