@@ -1,6 +1,6 @@
 //! What an instruction does to the flow of control.
+use crate::points::Flow;
 use crate::points::fields::{access_of, registers_of};
-use crate::points::points::Flow;
 use crate::stops::Stop;
 use v8_formats::{Instr, Operand, Three, Trap, bits_of, encode};
 use v8_word::{Cond, Reg};

@@ -1,7 +1,7 @@
 //! Which ways go back, and to which heads.
-use crate::graph::graph::{Listed, Order, list, order_in, successors_in};
 use crate::graph::loops::{Loop, last_around};
 use crate::graph::reach::{is_held, reach};
+use crate::graph::{Listed, Order, list, order_in, successors_in};
 use fit_code::{Function, Memory};
 
 /// The blocks of a function, and where control comes from to each of them.

@@ -1,5 +1,5 @@
 //! Where the words of an address's register have to lie.
-use crate::origin::origin::Origin;
+use crate::origin::Origin;
 use fit_code::{Object, Program, Region};
 
 /// The numbers of a register with which an access lies where it has to: from `lo` to `hi`, both as signed words; none

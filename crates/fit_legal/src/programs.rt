@@ -1,4 +1,5 @@
-//! The program of a source.
+//! Makes a program of code that compilers wrote: blocks without delay slots, what the rules forbid put otherwise,
+//! data laid out, functions in the order of their calls.
 use crate::calls::order_of_calls;
 use crate::frames::place_frame;
 use fit_blocks::{

@@ -1,5 +1,8 @@
-//! Instructions in forms of which more is known.
+//! Steps that compilers wrote, in forms of which more is known.
+mod steps;
+
 use fit_code::{Memory, Step};
+pub use steps::step_of;
 use v8_formats::{Instr, Operand, Three};
 use v8_word::Reg;
 

@@ -1,4 +1,7 @@
-//! An order of a function's blocks in which control mostly goes on to the next one.
+//! Where blocks stand in a function, and what stands in delay slots.
+mod filling;
+
+pub use filling::fill;
 use fit_checks::{insert_instr, push_block};
 use fit_code::{Block, End, Function, Memory, opposite};
 use fit_graph::Graph;

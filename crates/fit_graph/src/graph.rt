@@ -1,6 +1,16 @@
-//! Which blocks follow which.
+//! What the ends of a function's blocks say: which blocks follow which, which stand on each way to others, and its
+//! loops.
+mod back;
+mod loops;
+mod reach;
+mod tangles;
+
+pub use back::Graph;
 use fit_code::{Function, Memory};
+pub use loops::Loop;
+pub use reach::reached_from;
 use std::alloc::{AllocError, Global};
+pub use tangles::{Tangle, tangle_of};
 
 /// The blocks that can be reached from the first one, each before those that follow it but where a loop goes back.
 #[derive(Drop)]

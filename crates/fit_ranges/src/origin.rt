@@ -1,8 +1,14 @@
-//! What an access's address is worked out from, by the steps of its own block.
-use crate::origin::trace::{Operands, Trace, operands_of};
+//! What an access's address is worked out from, by the steps of its own block, and where the word that it is worked
+//! out from has to lie.
+mod objects;
+mod trace;
+
+use crate::origin::trace::Operands;
 use fit_code::{Block, Step};
 use fit_graph::effects_in;
+pub use objects::{Bounds, bounds_in_constants, bounds_of, end_of, named_object};
 use sbx_range::{Range, is_single};
+pub use trace::{Trace, operands_of, trace_of};
 use v8_formats::Operand;
 use v8_meaning::{Op, Operation, operation_of};
 

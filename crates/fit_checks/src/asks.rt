@@ -1,9 +1,13 @@
-//! What isn't shown of a function's steps.
+//! What the verifier would ask of a program's steps, and isn't shown: of locations, of accesses, of divisors. And sums
+//! of which more is known if they are written in another way.
+mod shifted;
+
 use fit_code::{Block, Function, Line, Memory, Program, Step};
 use fit_graph::{effects_of, read_at_end, return_from, run_to_call};
 use fit_ranges::{Origin, Ranges, Trace, end_of, named_object, origin_of, trace_of};
 use sbx_domain::State;
 use sbx_range::{Range, excludes_zero, range_of_address};
+pub use shifted::{live_behind, shorten_steps};
 use std::alloc::{AllocError, Global};
 use v8_formats::{Instr, Operand, Reg};
 use v8_meaning::{Operation, Transfer, bytes_in, operation_of};

@@ -1,7 +1,15 @@
-//! Lists of cells, by location: what several ways have in common.
-use crate::cells::thresholds::Growth;
+//! Blocks in the verifier's domain, `sbx_domain`: how their steps run, what several ways that lead to one have in
+//! common, and how far a range that grows may grow at once.
+mod compared;
+mod run;
+mod shape;
+mod thresholds;
+
 use fit_code::hull;
+pub use run::{enter, go_along, return_from, run_step, run_to_call};
 use sbx_range::{Cell, Range};
+pub use shape::Shape;
+pub use thresholds::{Growth, Thresholds, thresholds_of};
 
 /// The range of a location among cells that stand by location.
 pub fn range_in(cells: &[Cell], location: u16) -> Option<Range> {

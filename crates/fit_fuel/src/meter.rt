@@ -1,4 +1,5 @@
-//! The places of a meter, and what they take.
+//! A meter in turns: a register, or a word of the frame, that a function counts down at places which stand on each
+//! round of its loops; and what those places take.
 use fit_code::{Block, End, Function, Memory, Step};
 use v8_formats::{Cond, Instr, Operand, Reg, Three, Upper};
 

@@ -1,4 +1,7 @@
-//! The counters of loops.
+//! Loops whose rounds are bounded by a counter of the program: a location that changes one way in each round, and lies
+//! in a range.
+mod changes;
+
 use crate::bounds::changes::{Counter, add_ways};
 use crate::task::{Setting, Task};
 use crate::ways::{Way, constant_at, settle};

@@ -1,4 +1,9 @@
-//! What a fitted program declares.
+//! Fuel: what each block of a fitted program declares, so that a run is shown to end.
+mod dearest;
+mod limits;
+mod metering;
+mod terms;
+
 use crate::bounds::{Bounds, bounds_of};
 use crate::declaring::dearest::dearest_loop;
 use crate::declaring::limits::check_limits;

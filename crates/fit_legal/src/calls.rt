@@ -1,4 +1,4 @@
-//! Which functions call which.
+//! Which functions that compilers wrote call which.
 use fit_blocks::{Stop, Stops, name_of};
 use fit_code::{Line, NO_LINE, Naming};
 use fit_gas::{Linked, Part, Source, SymbolPlace, owned};

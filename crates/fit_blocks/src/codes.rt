@@ -1,10 +1,15 @@
-//! Condition codes are set in the block that reads them: a compare whose branch stands in a later block is repeated
-//! there.
+//! The blocks of a function once they are made: each reached, each loop with one entry, and each block with the compare
+//! of its branch. A compare whose branch stands in a later block is repeated there.
+mod entries;
+mod pruning;
+
 use crate::plain::{against_zero, step_of};
 use crate::points::{bit_of, operands_read, registers_of};
 use crate::stops::Stops;
+pub use entries::give_one_entry;
 use fit_code::{Block, End, Function, Memory, Step};
 use fit_graph::predecessors_of;
+pub use pruning::prune;
 use v8_formats::{bits_of, decode, encode, three_of};
 use v8_word::Cond;
 

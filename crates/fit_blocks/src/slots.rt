@@ -1,7 +1,11 @@
-//! Slots that may run before their branches.
+//! The instructions of a function that a compiler wrote, by their places: which slots may run before their branches,
+//! where blocks begin, and the frame.
+mod starts;
+
 use crate::codes::codes_of;
 use crate::points::{bit_of, operands_read};
 use fit_code::Step;
+pub use starts::{frame_and_start, leads_of, number_marked};
 use std::slice;
 use v8_formats::three_of;
 

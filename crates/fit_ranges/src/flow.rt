@@ -1,5 +1,7 @@
-//! The ranges of one function: what is known where its blocks begin, found by going along all ways until nothing new
-//! comes.
+//! The ranges of one function: what is known where its blocks begin, found by running blocks in the verifier's own
+//! domain along all ways until nothing new comes. What callees give back and what the function is called with is told.
+mod known;
+
 use crate::flow::known::{Known, replace, touched_in};
 use fit_code::{End, Function, Memory, hull};
 use fit_graph::{

@@ -1,9 +1,15 @@
-//! The instructions of a function with their numbers filled in, and what each does to the flow of control.
+//! The instructions of the functions that compilers wrote: data laid out, numbers filled in, what each instruction
+//! reads and writes, and what it does to the flow of control.
+mod fields;
+mod flow;
+mod layout;
+
 use crate::plain::step_of;
 use crate::points::flow::flow_of;
-use crate::points::layout::Layout;
+pub use fields::{Access, access_of, bit_of, operands_read, registers_of, signed};
 use fit_code::Step;
 use fit_gas::{Code, Part, SymbolPlace, with_part};
+pub use layout::{Layout, layout_of, name_of};
 use v8_formats::{Three, decode};
 use v8_word::Cond;
 

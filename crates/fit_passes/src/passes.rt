@@ -1,8 +1,9 @@
-//! From compiler-made assembly to an annotated source.
+//! All passes over a program, one after the other: from compiler-made code to an annotated source.
 use crate::metering::insert_meter;
 use crate::placing::{fill, place};
 use fit_checks::{Options, Test, add_tests};
-use fit_code::{Fault, Function, Memory, NO_LINE, Program, Reason};
+pub use fit_code::{Fault, Reason};
+use fit_code::{Function, Memory, NO_LINE, Program};
 use fit_fuel::{Meter, bounds_of, declare, refused};
 use fit_ranges::Ranges;
 use fit_text::source_of;

@@ -1,4 +1,4 @@
-//! Places in a function's frame: what its instructions say of them by %sp and %fp.
+//! Places in the frames of functions that compilers wrote.
 use crate::arguments::{scratch, with_operands};
 use fit_blocks::{Access, access_of, bit_of, signed};
 use fit_code::Step;

@@ -1,4 +1,5 @@
-//! The ranges of a program: of the cells of its blocks, and of what its functions are called with and give back.
+//! What is known of a program's locations where its blocks begin: in what ranges they lie. Nothing rests on it, since
+//! the verifier asks all again.
 use crate::flow::{Flow, Setting, add_outs, at};
 use fit_code::{Fault, Function, Memory, NO_LINE, Program, Reason};
 use fit_graph::{Counts, Locations, Means, Shape, find_live, thresholds_of};
