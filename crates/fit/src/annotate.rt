@@ -1,8 +1,8 @@
 //! `fit annotate`: a source in the project's own language gets the annotations that it hasn't got.
 use crate::files::{NO_MEMORY, REFUSED, bytes_of, refused, write_source};
-use crate::words::Words;
+use crate::words::Arguments;
 use fit_annotate::{Note, find};
-use fit_kept::{Refusal, annotate};
+use fit_kept::{AnnotationRefusal, annotate};
 use sbx_asm::{AsmFault, Cause};
 use std::slice::from_ref;
 use v8_syntax::SyntaxFault;
@@ -27,11 +27,11 @@ fn meaning(cause: Cause) -> &'static str {
 
 /// Tells why a source without annotations to give is refused, a fault of its own or of what would be made of it, and
 /// gives the exit status.
-fn tell_refusal(rt: &HostRuntime, path: &str, refusal: &Refusal) -> u8 {
+fn tell_refusal(rt: &HostRuntime, path: &str, refusal: &AnnotationRefusal) -> u8 {
     let (made, fault) = match refusal {
-        Refusal::Source(fault) => ("", fault),
-        Refusal::Made(fault) => (" with its annotations", fault),
-        Refusal::Program(fault) => {
+        AnnotationRefusal::Source(fault) => ("", fault),
+        AnnotationRefusal::Made(fault) => (" with its annotations", fault),
+        AnnotationRefusal::Program(fault) => {
             return match String::from_str(rt.alloc(), path) {
                 Ok(file) => refused(rt, fault, from_ref(&file)),
                 Err(_error) => NO_MEMORY,
@@ -48,7 +48,7 @@ fn tell_refusal(rt: &HostRuntime, path: &str, refusal: &Refusal) -> u8 {
 }
 
 /// Gives the source at a path its annotations, tells each note, and gives the exit status.
-pub fn perform(rt: &HostRuntime, words: &Words<'_>, path: &str) -> u8 {
+pub fn perform(rt: &HostRuntime, words: &Arguments<'_>, path: &str) -> u8 {
     let bytes = match bytes_of(rt, path) {
         Ok(bytes) => bytes,
         Err(status) => return status,

@@ -1,5 +1,5 @@
 //! Files that are read and written, and what is told where there is no source.
-use crate::words::Words;
+use crate::words::Arguments;
 use fit_passes::{Fault, Reason};
 use fit_text::FaultLine;
 use sbx_put::put_through;
@@ -57,7 +57,7 @@ pub fn bytes_of(rt: &HostRuntime, path: &str) -> Result<Vec<u8>, u8> {
 /// Writes a source to the file that words name, or to standard output where they name none or `-`, and gives the exit
 /// status; what is wrong with the file is told. Where something isn't shown, and the words say that this is an error,
 /// none is written.
-pub fn write_source(rt: &HostRuntime, words: &Words<'_>, has_lacks: bool, text: &[u8]) -> u8 {
+pub fn write_source(rt: &HostRuntime, words: &Arguments<'_>, has_lacks: bool, text: &[u8]) -> u8 {
     if words.is_strict && has_lacks {
         return 1;
     }

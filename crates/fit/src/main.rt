@@ -7,15 +7,15 @@ mod words;
 
 use cmd_files::command_words;
 use files::{NO_MEMORY, bytes_of, failed, refused, write_source};
-use fit_gas::Source;
+use fit_gas::Assembly;
 use fit_legal::program_of;
-use fit_passes::{Fault, Made, Plan, Reason, make};
+use fit_passes::{Fault, FitPlan, Made, Reason, make};
 use std::alloc::Global;
 use std::process::ExitCode;
-use words::{TURNS, USAGE, Words};
+use words::{Arguments, TURNS, USAGE};
 
 /// Reads the sources that words name. What is wrong with one is told: the exit status of that.
-fn read_sources(rt: &HostRuntime, words: &Words<'_>, source: &mut Source) -> Result<(), u8> {
+fn read_sources(rt: &HostRuntime, words: &Arguments<'_>, source: &mut Assembly) -> Result<(), u8> {
     for path in words.sources.as_slice() {
         let bytes = bytes_of(rt, path)?;
         if let Err(fault) = source.read(path, bytes.as_slice()) {
@@ -26,16 +26,16 @@ fn read_sources(rt: &HostRuntime, words: &Words<'_>, source: &mut Source) -> Res
 }
 
 /// Makes an annotated source of assembly.
-fn attempt(alloc: Global, source: &Source, plan: Plan) -> Result<Made, Fault> {
+fn attempt(alloc: Global, source: &Assembly, plan: FitPlan) -> Result<Made, Fault> {
     let program = program_of(alloc, source, "main")?;
     make(alloc, program, plan)
 }
 
 /// Makes an annotated source of assembly: with the counters of its loops or, where these ask for more turns than there
 /// are to be, by the meter alone.
-fn make_source(alloc: Global, source: &Source, words: &Words<'_>) -> Result<Made, Fault> {
+fn make_source(alloc: Global, source: &Assembly, words: &Arguments<'_>) -> Result<Made, Fault> {
     let turns = words.turns.unwrap_or(TURNS);
-    let plan = Plan {
+    let plan = FitPlan {
         turns,
         by_object: !words.by_region,
         has_bounds: true,
@@ -50,11 +50,11 @@ fn make_source(alloc: Global, source: &Source, words: &Words<'_>) -> Result<Made
         return made;
     }
     let has_bounds = false;
-    attempt(alloc, source, Plan { has_bounds, ..plan })
+    attempt(alloc, source, FitPlan { has_bounds, ..plan })
 }
 
 /// Tells each test, and writes the source; gives the exit status.
-fn finish(rt: &HostRuntime, words: &Words<'_>, made: &Made) -> u8 {
+fn finish(rt: &HostRuntime, words: &Arguments<'_>, made: &Made) -> u8 {
     for test in made.tests.as_slice() {
         let _ = rt.eprintln(&test.shown(&made.program));
     }
@@ -62,8 +62,8 @@ fn finish(rt: &HostRuntime, words: &Words<'_>, made: &Made) -> u8 {
 }
 
 /// Makes one source of assembly, and gives the exit status.
-fn perform(rt: &HostRuntime, words: &Words<'_>) -> u8 {
-    let mut source = Source::new(rt.alloc());
+fn perform(rt: &HostRuntime, words: &Arguments<'_>) -> u8 {
+    let mut source = Assembly::new(rt.alloc());
     match read_sources(rt, words, &mut source) {
         Ok(()) => match &make_source(rt.alloc(), &source, words) {
             Ok(made) => finish(rt, words, made),
@@ -79,7 +79,7 @@ fn answer(rt: &HostRuntime, all: &[String]) -> u8 {
         [first, others @ ..] if first.as_str() == "annotate" => (true, others),
         _ => (false, all),
     };
-    let mut words = Words {
+    let mut words = Arguments {
         sources: Vec::new(rt.alloc()),
         lacks: false,
         out: None,

@@ -30,7 +30,7 @@ Status 0: made. 1: a test would be added, or something isn't shown, and --strict
 
 /// What words give, each but sources at most once.
 #[derive(Drop)]
-pub struct Words<'a> {
+pub struct Arguments<'a> {
     pub sources: Vec<&'a str>,
     /// Whether memory was refused, so that a source lacks.
     pub lacks: bool,
@@ -42,7 +42,7 @@ pub struct Words<'a> {
 
 /// What the next word is.
 #[derive(Clone, Copy)]
-enum Next {
+enum NextWord {
     Any,
     Out,
     Turns,
@@ -50,34 +50,34 @@ enum Next {
     Nothing,
 }
 
-impl<'a> Words<'a> {
+impl<'a> Arguments<'a> {
     /// Takes a word, and says what the one after it is.
-    fn take_word(&mut self, next: Next, word: &'a str) -> Next {
+    fn take_word(&mut self, next: NextWord, word: &'a str) -> NextWord {
         match next {
-            Next::Any => match word {
-                "-o" => return Next::Out,
-                "--turns" => return Next::Turns,
+            NextWord::Any => match word {
+                "-o" => return NextWord::Out,
+                "--turns" => return NextWord::Turns,
                 "--strict" => self.is_strict = true,
                 "--region" => self.by_region = true,
-                _ if matches!(word.as_bytes(), [b'-', ..]) => return Next::Nothing,
+                _ if matches!(word.as_bytes(), [b'-', ..]) => return NextWord::Nothing,
                 source => self.lacks |= self.sources.push(source).is_err(),
             },
-            Next::Out if self.out.is_none() => self.out = Some(word),
-            Next::Turns if self.turns.is_none() => match word.parse::<u64>() {
+            NextWord::Out if self.out.is_none() => self.out = Some(word),
+            NextWord::Turns if self.turns.is_none() => match word.parse::<u64>() {
                 Ok(turns) if 0 < turns && turns <= MOST => self.turns = Some(turns),
-                _ => return Next::Nothing,
+                _ => return NextWord::Nothing,
             },
-            _ => return Next::Nothing,
+            _ => return NextWord::Nothing,
         }
-        Next::Any
+        NextWord::Any
     }
 
     /// Takes the words after the program's name, or those after `annotate`; says whether each has a place.
     pub fn take(&mut self, words: &'a [String]) -> bool {
-        let mut next = Next::Any;
+        let mut next = NextWord::Any;
         for word in words {
             next = self.take_word(next, word.as_str());
         }
-        matches!(next, Next::Any)
+        matches!(next, NextWord::Any)
     }
 }

@@ -1,16 +1,16 @@
 //! The annotations that a source hasn't got yet, and where they stand; and what isn't shown of it.
 use crate::lines::{CellLine, Head};
-use crate::notes::{Asked, Note};
-use fit_code::Memory;
-use fit_fuel::Total as Taken;
-use fit_kept::{Addition, Annotation, Total, Value};
+use crate::notes::{Note, Unproved};
+use fit_code::Heap;
+use fit_fuel::CallTotal;
+use fit_kept::{Addition, Annotation, FunctionTotal, Value};
 use fit_ranges::Ranges;
 use fit_text::BlockNotes;
 use sbx_image::{Cell, Function, Range};
 
 /// What is known of a function of a program.
 #[derive(Clone, Copy)]
-pub struct Known<'k> {
+pub struct FunctionKnown<'k> {
     /// Where its blocks begin in the source, and where the source's cells stand.
     pub heads: &'k [Head],
     pub cells: &'k [CellLine],
@@ -21,20 +21,20 @@ pub struct Known<'k> {
     pub said: &'k Function,
     pub tells_depths: bool,
     /// What it takes.
-    pub taken: Taken,
+    pub taken: CallTotal,
     /// What is found of its blocks; nothing where its fuel isn't found, or where the source says it.
     pub blocks: &'k [BlockNotes],
 }
 
 /// What is put into a source, and what its author is told.
 #[derive(Drop)]
-pub struct Found {
+pub struct Annotated {
     /// Both ascend by line, and so do the notes.
     pub additions: Vec<Addition>,
-    pub totals: Vec<Total>,
+    pub totals: Vec<FunctionTotal>,
     pub notes: Vec<Note>,
     /// Of which some was refused where something lacks.
-    pub memory: Memory,
+    pub memory: Heap,
 }
 
 /// The line before which the cell of a location stands in a block, beside those of the source, or none where the source
@@ -49,9 +49,9 @@ fn place_of_cell(head: &Head, cells: &[CellLine], location: u16) -> Option<u32> 
     Some(head.last_cell.saturating_add(1))
 }
 
-impl Found {
+impl Annotated {
     /// Notes what isn't shown at a line.
-    pub fn note(&mut self, line: u32, asked: Asked) {
+    pub fn note(&mut self, line: u32, asked: Unproved) {
         self.memory.push(&mut self.notes, Note { line, asked });
     }
 
@@ -62,7 +62,7 @@ impl Found {
             return least;
         }
         if said < least {
-            self.note(line, Asked::More { what, least });
+            self.note(line, Unproved::More { what, least });
         }
         said
     }
@@ -110,12 +110,12 @@ impl Found {
     /// Adds what one function hasn't got: the numbers of its line, where the source says 0; its depth, where the source
     /// tells depths and not this one; what it takes for granted and gives back, as far as the source hasn't got it; and
     /// what it hasn't got of each block. What stands before one line stands in the order in which it is added.
-    pub fn add_function(&mut self, known: &Known<'_>) {
+    pub fn add_function(&mut self, known: &FunctionKnown<'_>) {
         let (said, taken, ranges) = (known.said, known.taken, known.ranges);
         if let [head, ..] = known.heads {
             let (line, room, budget) = (head.line as usize, taken.room, taken.budget.unwrap_or(0));
             if (said.budget != budget) | (u64::from(said.stack_room) != room) {
-                let total = Total { line, room, budget };
+                let total = FunctionTotal { line, room, budget };
                 self.memory.push(&mut self.totals, total);
             }
             if known.tells_depths & (taken.depth > 0) & !head.says_depth {

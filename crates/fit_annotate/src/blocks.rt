@@ -1,6 +1,6 @@
 //! The steps of a block, and what ends it.
-use crate::program::Read;
-use fit_code::{Block, End, Line, Step};
+use crate::program::ReadImage;
+use fit_code::{Block, End, SourceLine, Step};
 use sbx_image::{Function, Image, Kind};
 use std::mem::replace;
 use v8_formats::{Branch, Cond, Instr, Operand, Reg, Three, Trap, decode};
@@ -9,7 +9,7 @@ use v8_meaning::{Operation, is_admitted, is_ret, operation_of, target};
 
 /// A block of an image that is read.
 #[derive(Clone, Copy)]
-struct Reading<'r> {
+struct BlockReading<'r> {
     image: &'r Image,
     function: &'r Function,
     /// Of each word of the code its line.
@@ -50,7 +50,7 @@ pub static TOLD: [&str; 9] = [
 
 /// The address of what has no place in a program, and what it is. What would be read from there on is of no use.
 #[derive(Clone, Copy)]
-struct Wrong(u32, What);
+struct Misplaced(u32, What);
 
 /// What a word of a block is.
 #[derive(Clone, Copy)]
@@ -86,12 +86,12 @@ fn is_plain(instr: &Instr) -> bool {
         )
 }
 
-impl Reading<'_> {
+impl BlockReading<'_> {
     /// The line of the word at an address.
-    fn line(&self, address: u32) -> Line {
+    fn line(&self, address: u32) -> SourceLine {
         let place = address.wrapping_sub(CODE_START) / 4;
         let number = self.lines.get(place as usize).copied().unwrap_or(0);
-        Line { file: 0, number }
+        SourceLine { file: 0, number }
     }
 
     /// The instruction at an address of the block.
@@ -107,19 +107,19 @@ impl Reading<'_> {
 
     /// The instruction in the slot of a transfer at an address; none where it does nothing. That of a return may be
     /// any.
-    fn slot(&self, address: u32, returns: bool) -> Result<Option<Instr>, Wrong> {
+    fn slot(&self, address: u32, returns: bool) -> Result<Option<Instr>, Misplaced> {
         let behind = address.saturating_add(4);
         match self.instr(behind) {
             Some(Instr::Sethi(fields)) if fields.rd == Reg::G0 => Ok(None),
             Some(instr) if returns | is_plain(&instr) => Ok(Some(instr)),
-            Some(_) => Err(Wrong(behind, What::Slot)),
-            None => Err(Wrong(address, What::NoSlot)),
+            Some(_) => Err(Misplaced(behind, What::Slot)),
+            None => Err(Misplaced(address, What::NoSlot)),
         }
     }
 
     /// A branch at an address. A jump to the next block is the way on, which has no words of its own, so one that is
     /// always taken has two ways there.
-    fn branch(&self, address: u32, branch: Branch) -> Result<Word, Wrong> {
+    fn branch(&self, address: u32, branch: Branch) -> Result<Word, Misplaced> {
         let (to, blocks) = (
             target(address, branch.displacement),
             self.function.blocks.as_slice(),
@@ -132,7 +132,7 @@ impl Reading<'_> {
         }
         if taken == 0 {
             // no branch goes to the first one
-            return Err(Wrong(address, What::Branch));
+            return Err(Misplaced(address, What::Branch));
         }
         let mut slot = self.slot(address, false)?;
         let Branch { cond, annul, .. } = branch;
@@ -145,13 +145,13 @@ impl Reading<'_> {
             return Ok(Word::End(End::Jump(taken), slot, false));
         }
         if next >= blocks.len() {
-            return Err(Wrong(address, What::Past));
+            return Err(Misplaced(address, What::Past));
         }
         Ok(Word::End(End::Branch { cond, taken, next }, slot, annul))
     }
 
     /// A return at an address.
-    fn returned(&self, address: u32, framed: bool) -> Result<Word, Wrong> {
+    fn returned(&self, address: u32, framed: bool) -> Result<Word, Misplaced> {
         let is_framed = self.function.frame > 0;
         let slot = self.slot(address, true)?;
         let mut is_wrong = framed | is_framed;
@@ -164,13 +164,13 @@ impl Reading<'_> {
             is_wrong |= !is_plain(instr);
         }
         if is_wrong {
-            return Err(Wrong(address, What::Return));
+            return Err(Misplaced(address, What::Return));
         }
         Ok(Word::End(End::Return(NO_FIELDS), slot, false))
     }
 
     /// A call at an address, with its slot.
-    fn call(&self, address: u32, displacement: u32) -> Result<Word, Wrong> {
+    fn call(&self, address: u32, displacement: u32) -> Result<Word, Misplaced> {
         let to = target(address, displacement);
         let mut callee = 0;
         for (number, function) in self.image.functions().iter().enumerate() {
@@ -179,7 +179,7 @@ impl Reading<'_> {
             }
         }
         if callee <= self.own {
-            return Err(Wrong(address, What::Call));
+            return Err(Misplaced(address, What::Call));
         }
         Ok(Word::Step(Step {
             instr: Instr::Call(0),
@@ -192,18 +192,18 @@ impl Reading<'_> {
 
     /// An instruction at an address. The function's first word has to be what its kind asks for: SAVE of a framed one,
     /// which has a frame with it.
-    fn word(&self, address: u32, instr: Instr) -> Result<Word, Wrong> {
+    fn word(&self, address: u32, instr: Instr) -> Result<Word, Misplaced> {
         let function = self.function;
         let operation = operation_of(&instr);
         let saves = matches!(operation, Operation::Save(_));
         let is_first = address == function.entry;
         let framed = function.kind == Kind::Framed;
         if is_first & ((framed != saves) | (framed != (function.frame > 0))) {
-            return Err(Wrong(address, What::First));
+            return Err(Misplaced(address, What::First));
         }
         let is_elsewhere = matches!(operation, Operation::Restore(_)) | (saves & !is_first);
         if !is_admitted(&operation) | is_elsewhere {
-            return Err(Wrong(address, What::Instruction));
+            return Err(Misplaced(address, What::Instruction));
         }
         match operation {
             Operation::BranchOnCondition(branch) => self.branch(address, branch),
@@ -236,7 +236,7 @@ impl Reading<'_> {
         &self,
         address: u32,
         (mut end, mut slot, is_apart): (End, Option<Instr>, bool),
-        read: &mut Read,
+        read: &mut ReadImage,
     ) {
         let (alloc, line) = (read.memory.alloc, self.line(address));
         let mut spared = 0;
@@ -273,7 +273,7 @@ impl Reading<'_> {
 
     /// Reads a block from its first word on, at an address. Where control goes on there has to be a next one, and where
     /// its end has words, another block has to begin behind them.
-    fn read_block(&self, first: u32, read: &mut Read) -> Result<(), Wrong> {
+    fn read_block(&self, first: u32, read: &mut ReadImage) -> Result<(), Misplaced> {
         let mut address = first;
         for _ in 0..self.stop.saturating_sub(first) / 4 {
             let Some(instr) = self.instr(address) else {
@@ -292,7 +292,7 @@ impl Reading<'_> {
                     let width = if matches!(end, End::Exit) { 4 } else { 8 };
                     let behind = address.saturating_add(width);
                     if behind < self.stop {
-                        return Err(Wrong(behind, What::Block));
+                        return Err(Misplaced(behind, What::Block));
                     }
                     self.end_block(address, (end, slot, is_apart), read);
                     return Ok(());
@@ -303,7 +303,7 @@ impl Reading<'_> {
         // it goes on behind its last word
         let (next, last) = (self.number.saturating_add(1), self.stop.saturating_sub(4));
         if next >= self.function.blocks.len() {
-            return Err(Wrong(last, What::Past));
+            return Err(Misplaced(last, What::Past));
         }
         self.end_block(last, (End::Jump(next), None, false), read);
         Ok(())
@@ -313,11 +313,11 @@ impl Reading<'_> {
 /// Reads the blocks of a function, which has a number. Those that are slots come apart: such a slot counts at both
 /// places, so that blocks weigh less. Gives the first word that has no place in a program, by its line.
 pub fn read_function(
-    read: &mut Read,
+    read: &mut ReadImage,
     lines: &[u32],
     image: &Image,
     (own, function): (usize, &Function),
-) -> Option<(Line, What)> {
+) -> Option<(SourceLine, What)> {
     let (functions, next) = (image.functions(), own.saturating_add(1));
     let behind = if next < functions.len() {
         functions[next].entry
@@ -332,7 +332,7 @@ pub fn read_function(
         } else {
             behind
         };
-        let reading = Reading {
+        let reading = BlockReading {
             image,
             function,
             lines,
@@ -340,7 +340,7 @@ pub fn read_function(
             number,
             stop,
         };
-        if let Err(Wrong(address, what)) = reading.read_block(block.address, read) {
+        if let Err(Misplaced(address, what)) = reading.read_block(block.address, read) {
             return Some((reading.line(address), what));
         }
     }

@@ -1,10 +1,10 @@
 //! What is found of a source's program beside what the source says of it.
-use crate::additions::{Found, Known};
+use crate::additions::{Annotated, FunctionKnown};
 use crate::lines::{CellLine, Head};
-use crate::notes::{Asked, NO_CALLEE, NO_WAY};
+use crate::notes::{NO_CALLEE, NO_WAY, Unproved};
 use fit_checks::{Asking, asks_of};
 use fit_code::{Fault, Program, Reason};
-use fit_fuel::{Task, Total, bounds_of, declare_function, total_of};
+use fit_fuel::{CallTotal, Task, bounds_of, declare_function, total_of};
 use fit_ranges::Ranges;
 use fit_text::BlockNotes;
 use sbx_domain::State;
@@ -13,7 +13,7 @@ use sbx_image::{Function, Image};
 /// A source's program, and what is known of it. Its functions are looked at from the last one on, since each calls
 /// those behind it alone.
 #[derive(Drop)]
-pub struct Finding<'i, 'p, 's> {
+pub struct AnnotationSearch<'i, 'p, 's> {
     pub image: &'i Image,
     pub program: &'p mut Program,
     pub state: &'s mut State,
@@ -21,17 +21,17 @@ pub struct Finding<'i, 'p, 's> {
     /// Of each function the turns that its blocks weigh less than their steps and their ends.
     pub spared: Vec<Vec<u64>>,
     /// What each function declares that was looked at; calls are paid for by its budget, where it is known.
-    pub totals: Vec<Option<Total>>,
+    pub totals: Vec<Option<CallTotal>>,
 }
 
 /// Whether a function of a program calls one whose budget isn't known.
-fn is_waiting(program: &Program, number: usize, totals: &[Option<Total>]) -> bool {
+fn is_waiting(program: &Program, number: usize, totals: &[Option<CallTotal>]) -> bool {
     if number < program.functions.len() {
         for block in program.functions[number].blocks.as_slice() {
             for step in block.steps.as_slice() {
                 if let Some(callee) = step.callee
                     && callee < totals.len()
-                    && let Some(Total { budget: None, .. }) = totals[callee]
+                    && let Some(CallTotal { budget: None, .. }) = totals[callee]
                 {
                     return true;
                 }
@@ -41,9 +41,9 @@ fn is_waiting(program: &Program, number: usize, totals: &[Option<Total>]) -> boo
     false
 }
 
-impl Finding<'_, '_, '_> {
+impl AnnotationSearch<'_, '_, '_> {
     /// Notes what isn't shown of a function's steps.
-    fn note_asks(&mut self, number: usize, found: &mut Found) {
+    fn note_asks(&mut self, number: usize, found: &mut Annotated) {
         let asking = Asking {
             alloc: found.memory.alloc,
             program: self.program,
@@ -53,7 +53,7 @@ impl Finding<'_, '_, '_> {
         match asks_of(&asking, number, self.state) {
             Ok(asks) => {
                 for ask in asks.as_slice() {
-                    found.note(ask.line.number, Asked::Shown(ask.lack));
+                    found.note(ask.line.number, Unproved::Shown(ask.lack));
                 }
             }
             Err(_refused) => found.memory.is_refused = true,
@@ -61,7 +61,7 @@ impl Finding<'_, '_, '_> {
     }
 
     /// Notes the loops of a function, whose blocks begin here, that no counter bounds; says whether there are some.
-    fn note_loops(&mut self, number: usize, heads: &[Head], found: &mut Found) -> bool {
+    fn note_loops(&mut self, number: usize, heads: &[Head], found: &mut Annotated) -> bool {
         let before = found.notes.len();
         let alloc = found.memory.alloc;
         match bounds_of(alloc, self.program, &self.ranges, number, self.state) {
@@ -73,7 +73,7 @@ impl Finding<'_, '_, '_> {
                         } else {
                             0
                         };
-                        found.note(line, Asked::Counter);
+                        found.note(line, Unproved::Counter);
                     }
                 }
             }
@@ -91,10 +91,10 @@ impl Finding<'_, '_, '_> {
         line: u32,
         heads: &[Head],
         blocks: &mut Vec<BlockNotes>,
-        found: &mut Found,
+        found: &mut Annotated,
     ) -> Option<u64> {
         if is_waiting(self.program, number, self.totals.as_slice()) {
-            found.note(line, Asked::Told(NO_CALLEE));
+            found.note(line, Unproved::Told(NO_CALLEE));
             return None;
         }
         if number >= self.spared.len() {
@@ -116,7 +116,7 @@ impl Finding<'_, '_, '_> {
             Err(fault) => {
                 found.memory.is_refused |= matches!(fault.reason, Reason::Memory(_));
                 if !self.note_loops(number, heads, found) {
-                    found.note(line, Asked::Fuel(fault));
+                    found.note(line, Unproved::Fuel(fault));
                 }
                 None
             }
@@ -130,9 +130,9 @@ impl Finding<'_, '_, '_> {
         line: u32,
         said: &Function,
         budget: Option<u64>,
-        found: &mut Found,
-    ) -> Total {
-        let mut total = Total {
+        found: &mut Annotated,
+    ) -> CallTotal {
+        let mut total = CallTotal {
             budget,
             room: 0,
             depth: 0,
@@ -170,7 +170,7 @@ impl Finding<'_, '_, '_> {
         said: &Function,
         heads: &[Head],
         cells: &[CellLine],
-        found: &mut Found,
+        found: &mut Annotated,
     ) {
         let line = match heads {
             [first, ..] => first.line,
@@ -179,7 +179,7 @@ impl Finding<'_, '_, '_> {
         let mut says_fuel = false;
         for (block, head) in heads.iter().enumerate() {
             if !self.ranges.reaches(number, block) {
-                found.note(head.line, Asked::Told(NO_WAY));
+                found.note(head.line, Unproved::Told(NO_WAY));
             }
             says_fuel |= head.says_fuel;
         }
@@ -190,7 +190,7 @@ impl Finding<'_, '_, '_> {
             _ => self.budget_of(number, line, heads, &mut blocks, found),
         };
         let taken = self.settle(number, line, said, budget, found);
-        let known = Known {
+        let known = FunctionKnown {
             heads,
             cells,
             ranges: &self.ranges,
@@ -212,7 +212,7 @@ impl Finding<'_, '_, '_> {
         &mut self,
         heads: &[Head],
         cells: &[CellLine],
-        found: &mut Found,
+        found: &mut Annotated,
     ) -> Result<(), Fault> {
         self.ranges.check_limits(self.program)?;
         let (functions, mut heads) = (self.image.functions(), heads);

@@ -1,10 +1,10 @@
 //! All annotations that can be found of a source.
-use crate::additions::Found;
-use crate::finding::Finding;
-use crate::lines::Lines;
-use crate::program::Read;
-use fit_code::{Fault, Memory, Program};
-use fit_kept::Refusal;
+use crate::additions::Annotated;
+use crate::finding::AnnotationSearch;
+use crate::lines::SourceLines;
+use crate::program::ReadImage;
+use fit_code::{Fault, Heap, Program};
+use fit_kept::AnnotationRefusal;
 use fit_ranges::Ranges;
 use sbx_asm::assemble;
 use sbx_domain::State;
@@ -14,10 +14,10 @@ use std::mem::replace;
 
 /// The same as `add_found`, where the source has these lines, and its image is read into `read`.
 fn add_read(
-    found: &mut Found,
+    found: &mut Annotated,
     source: &[u8],
-    lines: &Lines,
-    read: &mut Read,
+    lines: &SourceLines,
+    read: &mut ReadImage,
     image: &Image,
     state: &mut State,
 ) -> Result<(), Fault> {
@@ -25,7 +25,7 @@ fn add_read(
     let alloc = found.memory.alloc;
     let said = replace(&mut read.said, Vec::new(alloc));
     let ranges = Ranges::beside(alloc, &read.program, said, state)?;
-    let mut finding = Finding {
+    let mut finding = AnnotationSearch {
         image,
         program: &mut read.program,
         state,
@@ -41,18 +41,18 @@ fn add_read(
 ///
 /// # Errors
 /// A word that has no place in a program, with its line; more cells of a block than an image may say; memory.
-fn add_found(found: &mut Found, source: &[u8], image: &Image) -> Result<(), Fault> {
+fn add_found(found: &mut Annotated, source: &[u8], image: &Image) -> Result<(), Fault> {
     let alloc = found.memory.alloc;
     let mut state = State::new(alloc)?;
     // nothing is read yet
-    let mut lines = Lines {
+    let mut lines = SourceLines {
         memory: found.memory,
         words: Vec::new(alloc),
         heads: Vec::new(alloc),
         cells: Vec::new(alloc),
     };
     lines.add_lines(source);
-    let mut read = Read {
+    let mut read = ReadImage {
         memory: lines.memory,
         program: Program {
             functions: Vec::new(alloc),
@@ -78,19 +78,19 @@ fn add_found(found: &mut Found, source: &[u8], image: &Image) -> Result<(), Faul
 /// # Errors
 /// `Source` as the assembler refuses the source. `Program` where a word has no place in a program, with its line, and
 /// where more is known of a block than an image may say. Asked of memory in each.
-pub fn find(alloc: Global, source: &[u8]) -> Result<Found, Refusal> {
+pub fn find(alloc: Global, source: &[u8]) -> Result<Annotated, AnnotationRefusal> {
     let image = match assemble(alloc, source) {
         Ok(image) => image,
-        Err(fault) => return Err(Refusal::Source(fault)),
+        Err(fault) => return Err(AnnotationRefusal::Source(fault)),
     };
-    let mut found = Found {
+    let mut found = Annotated {
         additions: Vec::new(alloc),
         totals: Vec::new(alloc),
         notes: Vec::new(alloc),
-        memory: Memory::new(alloc),
+        memory: Heap::new(alloc),
     };
     match add_found(&mut found, source, &image) {
         Ok(()) => Ok(found),
-        Err(fault) => Err(Refusal::Program(fault)),
+        Err(fault) => Err(AnnotationRefusal::Program(fault)),
     }
 }

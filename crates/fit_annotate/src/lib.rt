@@ -10,6 +10,6 @@ mod lines;
 mod notes;
 mod program;
 
-pub use additions::Found;
+pub use additions::Annotated;
 pub use found::find;
-pub use notes::{Asked, Note};
+pub use notes::{Note, Unproved};

@@ -1,5 +1,5 @@
 //! Where the words, the blocks and the annotations of a source stand.
-use fit_code::Memory;
+use fit_code::Heap;
 use sbx_asm::first_line;
 use sbx_directives::{Directive, Name, Statement, label_count, read_statement};
 use sbx_text::{Token, tokens};
@@ -32,8 +32,8 @@ pub struct Head {
 
 /// The lines of a source that has no fault, told by their numbers from 1.
 #[derive(Drop)]
-pub struct Lines {
-    pub memory: Memory,
+pub struct SourceLines {
+    pub memory: Heap,
     /// Of each word of the code its line.
     pub words: Vec<u32>,
     /// Where its functions and their further blocks begin, in their order.
@@ -41,7 +41,7 @@ pub struct Lines {
     pub cells: Vec<CellLine>,
 }
 
-impl Lines {
+impl SourceLines {
     /// Begins a function or a block of a name.
     fn begin(&mut self, line: u32, name: Name) {
         let head = Head {

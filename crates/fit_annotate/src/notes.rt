@@ -1,16 +1,16 @@
 //! What isn't shown of a source, as notes to its author.
-use fit_checks::{Access, Lack, needed_alignment};
+use fit_checks::{Unshown, UnshownAccess, needed_alignment};
 use fit_code::Fault;
-use fit_text::Why;
+use fit_text::FaultWords;
 use inspect_image::Location;
 use sbx_image::Range;
 use std::fmt::{self, Error, Formatter, Write};
 
 /// What the verifier asks for, and isn't shown.
 #[derive(Drop)]
-pub enum Asked {
+pub enum Unproved {
     /// Of a step or an end.
-    Shown(Lack),
+    Shown(Unshown),
     /// A counter of the loop that a block begins.
     Counter,
     /// A function's fuel.
@@ -25,14 +25,14 @@ pub enum Asked {
 #[derive(Drop)]
 pub struct Note {
     pub line: u32,
-    pub asked: Asked,
+    pub asked: Unproved,
 }
 
 /// A range in words.
 #[derive(Clone, Copy)]
-struct Words(Range);
+struct RangeWords(Range);
 
-impl fmt::Display for Words {
+impl fmt::Display for RangeWords {
     fn fmt<W: Write>(&self, f: &mut Formatter<W>) -> Result<(), Error> {
         let (lo, hi) = (self.0.lo, self.0.hi);
         if (lo == i32::MIN) & (hi == i32::MAX) {
@@ -44,8 +44,8 @@ impl fmt::Display for Words {
 }
 
 /// An address that isn't shown to lie in the data.
-fn write_access<W: Write>(f: &mut Formatter<W>, access: &Access) -> Result<(), Error> {
-    let (words, size) = (Words(access.range), access.size);
+fn write_access<W: Write>(f: &mut Formatter<W>, access: &UnshownAccess) -> Result<(), Error> {
+    let (words, size) = (RangeWords(access.range), access.size);
     let asked = if access.writes {
         "it isn't shown to lie in data that may be written; compare what it is worked out from with its bounds before"
     } else {
@@ -79,32 +79,32 @@ pub const NO_WAY: &str =
 pub const NO_CALLEE: &str =
     "no fuel is given, since that of a function that it calls isn't known: see the notes of that one";
 
-impl fmt::Display for Asked {
+impl fmt::Display for Unproved {
     fn fmt<W: Write>(&self, f: &mut Formatter<W>) -> Result<(), Error> {
         match self {
-            Asked::Shown(Lack::Defined(location)) => {
+            Unproved::Shown(Unshown::Defined(location)) => {
                 let location = Location(*location);
                 write!(
                     f,
                     "{location} is read, and may be undefined: give it a value on each way here"
                 )
             }
-            Asked::Shown(Lack::Given(location)) => {
+            Unproved::Shown(Unshown::Given(location)) => {
                 let location = Location(*location);
                 write!(f, "{location} {GIVEN}")
             }
-            Asked::Shown(Lack::Placed(access)) => write_access(f, access),
-            Asked::Shown(Lack::Divisible(_, range)) => {
-                let words = Words(*range);
+            Unproved::Shown(Unshown::Placed(access)) => write_access(f, access),
+            Unproved::Shown(Unshown::Divisible(_, range)) => {
+                let words = RangeWords(*range);
                 write!(f, "the divisor may be 0: it may be {words}; {DIVISOR}")
             }
-            Asked::Fuel(fault) => {
-                let reason = Why(&fault.reason);
+            Unproved::Fuel(fault) => {
+                let reason = FaultWords(&fault.reason);
                 write!(f, "no fuel is given: {reason}")
             }
-            Asked::More { what, least } => write!(f, "{what} has to be at least {least}"),
-            Asked::Counter => f.write_str(NO_COUNTER),
-            Asked::Told(what) => f.write_str(what),
+            Unproved::More { what, least } => write!(f, "{what} has to be at least {least}"),
+            Unproved::Counter => f.write_str(NO_COUNTER),
+            Unproved::Told(what) => f.write_str(what),
         }
     }
 }

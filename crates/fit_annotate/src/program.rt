@@ -1,7 +1,7 @@
 //! A source's image as a program.
 use crate::blocks::{TOLD, read_function};
-use crate::lines::{Head, Lines};
-use fit_code::{Block, Fault, Function, Line, Memory, Object, Program, Reason, Region, Step};
+use crate::lines::{Head, SourceLines};
+use fit_code::{Block, Fault, Function, Heap, Object, Program, Reason, Region, SourceLine, Step};
 use sbx_directives::text_of;
 use sbx_image::{Cell, Image};
 use std::mem::replace;
@@ -11,8 +11,8 @@ const SLOT: u64 = 2;
 
 /// An image that is read.
 #[derive(Drop)]
-pub struct Read {
-    pub memory: Memory,
+pub struct ReadImage {
+    pub memory: Heap,
     /// Each of its functions has the blocks of the source first, in their order, and behind them such as are delay
     /// slots.
     pub program: Program,
@@ -28,7 +28,7 @@ pub struct Read {
     pub steps: Vec<Step>,
 }
 
-impl Read {
+impl ReadImage {
     /// Takes over the data of an image, as regions and one object each.
     fn add_data(&mut self, image: &Image) {
         for (index, region) in image.regions().iter().enumerate() {
@@ -68,7 +68,7 @@ impl Read {
             blocks,
             params: self.memory.copy(function.params.as_slice()),
             results: self.memory.copy(function.results.as_slice()),
-            line: Line {
+            line: SourceLine {
                 file: 0,
                 number: head.line,
             },
@@ -89,7 +89,7 @@ impl Read {
     /// The first word that has no place in a program, with its line: of an instruction that sandboxed code may not
     /// have, a transfer that ends no block or goes nowhere, a function that doesn't begin or return as its kind asks
     /// for. Want of memory.
-    pub fn take(&mut self, source: &[u8], lines: &Lines, image: &Image) -> Result<(), Fault> {
+    pub fn take(&mut self, source: &[u8], lines: &SourceLines, image: &Image) -> Result<(), Fault> {
         self.add_data(image);
         let (heads, mut first) = (lines.heads.as_slice(), 0usize);
         for function in image.functions().iter().enumerate() {

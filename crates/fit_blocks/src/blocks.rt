@@ -2,11 +2,11 @@
 //! which it is.
 use crate::codes::prune;
 use crate::plain::step_of;
-use crate::points::{Flow, Layout, Point, name_of, points_of};
+use crate::points::{ControlFlow, Layout, Point, name_of, points_of};
 use crate::slots::{frame_and_start, leads_of, may_go_before, number_marked};
 use crate::stops::Stops;
-use fit_code::{Block, End, Function, Line, Step};
-use fit_gas::{Code, owned};
+use fit_code::{Block, End, Function, SourceLine, Step};
+use fit_gas::{CodeBody, owned};
 use std::mem;
 use v8_formats::{Instr, Operand, Three};
 use v8_word::{Cond, Reg, reg_at};
@@ -39,7 +39,7 @@ struct Builder<'s, 'p> {
 
 impl Builder<'_, '_> {
     /// The block that a transfer goes to.
-    fn at(&mut self, place: usize, line: Line) -> usize {
+    fn at(&mut self, place: usize, line: SourceLine) -> usize {
         let mut number = 0;
         if place < self.numbers.len() {
             number = self.numbers[place].unwrap_or(0);
@@ -67,14 +67,14 @@ impl Builder<'_, '_> {
     }
 
     /// What stands in the delay slot behind a place, if it does something.
-    fn slot(&mut self, place: usize, line: Line) -> Option<Step> {
+    fn slot(&mut self, place: usize, line: SourceLine) -> Option<Step> {
         let behind = place.saturating_add(1);
         let mut what = "a transfer without a delay slot";
         if behind < self.points.len() {
             let point = self.points[behind];
             match point.flow {
-                Flow::On => return Some(point.step),
-                Flow::Nothing => return None,
+                ControlFlow::On => return Some(point.step),
+                ControlFlow::Nothing => return None,
                 _ => what = "a transfer in a delay slot",
             }
         }
@@ -83,7 +83,7 @@ impl Builder<'_, '_> {
     }
 
     /// Ends the block that is made.
-    fn finish(&mut self, end: End, line: Line) {
+    fn finish(&mut self, end: End, line: SourceLine) {
         let block = Block {
             steps: mem::replace(&mut self.steps, Vec::new(self.stops.memory.alloc)),
             end,
@@ -94,7 +94,14 @@ impl Builder<'_, '_> {
     }
 
     /// The end by a branch on a condition, whose slot runs where it isn't annulled.
-    fn branch(&mut self, place: usize, line: Line, cond: Cond, annul: bool, to: usize) -> End {
+    fn branch(
+        &mut self,
+        place: usize,
+        line: SourceLine,
+        cond: Cond,
+        annul: bool,
+        to: usize,
+    ) -> End {
         let mut taken = self.at(to, line);
         let mut next = self.at(place.saturating_add(2), line);
         if let Some(slot) = self.slot(place, line) {
@@ -113,34 +120,34 @@ impl Builder<'_, '_> {
     /// Ends the block that is made by the transfer at a place, which is no call; it is a fault where it isn't
     /// compilers'. In a function with a window a return is a jump by %i7 with RESTORE in its slot, or RESTORE and
     /// behind it a jump by %o7 with nothing in its slot; in another one it is a jump by %o7.
-    fn end(&mut self, place: usize, line: Line, flow: Flow) {
+    fn end(&mut self, place: usize, line: SourceLine, flow: ControlFlow) {
         let behind = place.saturating_add(1);
-        let mut next = Flow::Exit;
+        let mut next = ControlFlow::Exit;
         if behind < self.points.len() {
             next = self.points[behind].flow;
         }
         let end = match flow {
-            Flow::Branch { cond, annul, to } => match cond {
+            ControlFlow::Branch { cond, annul, to } => match cond {
                 Cond::Never => Err("a branch that is never taken"),
                 Cond::Always => Ok(End::Jump(self.at(to, line))),
                 _ => Ok(self.branch(place, line, cond, annul, to)),
             },
-            Flow::Return { framed: true } => match next {
-                Flow::Restore(fields) => Ok(End::Return(fields)),
+            ControlFlow::Return { framed: true } => match next {
+                ControlFlow::Restore(fields) => Ok(End::Return(fields)),
                 _ => Err("a return without RESTORE in its slot"),
             },
-            Flow::Return { framed: false } if self.framed => {
+            ControlFlow::Return { framed: false } if self.framed => {
                 Err("a jump by %o7 without RESTORE before it")
             }
-            Flow::Return { framed: false } => Ok(End::Return(PLAIN)),
-            Flow::Restore(fields) => match next {
-                Flow::Return { framed: false } if self.slot(behind, line).is_none() => {
+            ControlFlow::Return { framed: false } => Ok(End::Return(PLAIN)),
+            ControlFlow::Restore(fields) => match next {
+                ControlFlow::Return { framed: false } if self.slot(behind, line).is_none() => {
                     Ok(End::Return(fields))
                 }
                 _ => Err("RESTORE that isn't beside a return"),
             },
-            Flow::Exit => Ok(End::Exit),
-            Flow::Mark => Err("UNIMP that isn't behind a call"),
+            ControlFlow::Exit => Ok(End::Exit),
+            ControlFlow::Mark => Err("UNIMP that isn't behind a call"),
             _ => Err("a second SAVE, or one that isn't first"),
         };
         match end {
@@ -151,7 +158,7 @@ impl Builder<'_, '_> {
 
     /// Makes the block that begins at a place. What stands in the slot of a call, a jump or a leaf's return is done
     /// before it.
-    fn fill(&mut self, start: usize, line: Line) {
+    fn fill(&mut self, start: usize, line: SourceLine) {
         let (points, numbers) = (self.points, self.numbers);
         let mut next = start;
         for place in start..points.len() {
@@ -165,20 +172,21 @@ impl Builder<'_, '_> {
                 return self.finish(End::Jump(number), step.line);
             }
             let does_slot = match flow {
-                Flow::Call => true,
-                Flow::Branch { cond, annul, .. } => !annul & (cond == Cond::Always),
-                Flow::Return { framed } => !framed & !self.framed,
+                ControlFlow::Call => true,
+                ControlFlow::Branch { cond, annul, .. } => !annul & (cond == Cond::Always),
+                ControlFlow::Return { framed } => !framed & !self.framed,
                 _ => false,
             };
             if does_slot && let Some(slot) = self.slot(place, step.line) {
                 self.stops.memory.push(&mut self.steps, slot);
             }
             match flow {
-                Flow::On => self.stops.memory.push(&mut self.steps, step),
-                Flow::Nothing => {}
+                ControlFlow::On => self.stops.memory.push(&mut self.steps, step),
+                ControlFlow::Nothing => {}
                 // Behind a call and its slot it is a constant that says a struct is given.
-                Flow::Mark if place >= 2 && matches!(points[place - 2].flow, Flow::Call) => {}
-                Flow::Call => {
+                ControlFlow::Mark
+                    if place >= 2 && matches!(points[place - 2].flow, ControlFlow::Call) => {}
+                ControlFlow::Call => {
                     self.stops.memory.push(&mut self.steps, step);
                     next = place.saturating_add(2);
                 }
@@ -197,7 +205,7 @@ pub fn result_register() -> Reg {
 }
 
 /// What leaves 0 as a run's exit word.
-fn no_result(line: Line) -> Step {
+fn no_result(line: SourceLine) -> Step {
     let instr = Instr::Or(Three {
         rd: result_register(),
         rs1: Reg::G0,
@@ -209,7 +217,7 @@ fn no_result(line: Line) -> Step {
 /// A function of the source, by its number there, in blocks. Calls have the numbers of the source's functions. Each
 /// block can be reached, and none goes to the first one. What stops it is noted: what `points_of` notes, and a form
 /// that isn't compilers', as a transfer in a delay slot, SAVE that isn't first, a return without RESTORE.
-pub fn function_of(layout: &mut Layout, number: usize, code: &Code) -> Function {
+pub fn function_of(layout: &mut Layout, number: usize, code: &CodeBody) -> Function {
     let points = points_of(layout, number, code);
     let name = name_of(layout.source, code.symbol);
     let stops = &mut layout.stops;

@@ -7,7 +7,7 @@ use crate::plain::{against_zero, step_of};
 use crate::points::{bit_of, operands_read, registers_of};
 use crate::stops::Stops;
 pub use entries::give_one_entry;
-use fit_code::{Block, End, Function, Memory, Step};
+use fit_code::{Block, End, Function, Heap, Step};
 use fit_graph::predecessors_of;
 pub use pruning::prune;
 use v8_formats::{bits_of, decode, encode, three_of};
@@ -83,7 +83,7 @@ pub fn codes_of(steps: &[Step]) -> Codes {
 /// there is none. The blocks before it are those of `first`, and each one's those of `before`; `zero_alone` says that
 /// zero and sign alone matter.
 fn setter_of(
-    memory: &mut Memory,
+    memory: &mut Heap,
     blocks: &[Block],
     before: &[Vec<usize>],
     first: &[usize],

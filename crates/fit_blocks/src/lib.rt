@@ -13,6 +13,7 @@ pub use blocks::{function_of, result_register};
 pub use codes::{give_one_entry, repeat_compares};
 pub use plain::{push_plain, step_of};
 pub use points::{
-    Access, Layout, access_of, bit_of, layout_of, name_of, operands_read, registers_of, signed,
+    Layout, MemoryAccess, access_of, bit_of, layout_of, name_of, operands_read, registers_of,
+    signed,
 };
-pub use stops::{Stop, Stops};
+pub use stops::{Obstacle, Stops};

@@ -1,7 +1,7 @@
 //! Steps that compilers wrote, in forms of which more is known.
 mod steps;
 
-use fit_code::{Memory, Step};
+use fit_code::{Heap, Step};
 pub use steps::step_of;
 use v8_formats::{Instr, Operand, Three};
 use v8_word::Reg;
@@ -44,7 +44,7 @@ fn place_in(order: &[usize], code: usize) -> usize {
 /// Pushes a step in forms of which more is known: `tst r` as `cmp r,0`, `orcc a,0,d` as a move and a compare of `d`
 /// with 0, and a number added to itself as a shift. A call gets the number of its callee in the program, of whose
 /// functions `order` has the numbers in the source.
-pub fn push_plain(memory: &mut Memory, steps: &mut Vec<Step>, step: &Step, order: &[usize]) {
+pub fn push_plain(memory: &mut Heap, steps: &mut Vec<Step>, step: &Step, order: &[usize]) {
     let callee = match step.callee {
         Some(callee) => Some(place_in(order, callee)),
         None => None,

@@ -6,16 +6,16 @@ mod layout;
 
 use crate::plain::step_of;
 use crate::points::flow::flow_of;
-pub use fields::{Access, access_of, bit_of, operands_read, registers_of, signed};
+pub use fields::{MemoryAccess, access_of, bit_of, operands_read, registers_of, signed};
 use fit_code::Step;
-use fit_gas::{Code, Part, SymbolPlace, with_part};
+use fit_gas::{AddressPart, CodeBody, SymbolPlace, with_part};
 pub use layout::{Layout, layout_of, name_of};
 use v8_formats::{Three, decode};
 use v8_word::Cond;
 
 /// What an instruction does to the flow of control.
 #[derive(Clone, Copy)]
-pub enum Flow {
+pub enum ControlFlow {
     /// Nothing: control goes on.
     On,
     /// Nothing, and the instruction does nothing else.
@@ -36,13 +36,13 @@ pub enum Flow {
 #[derive(Clone, Copy)]
 pub struct Point {
     pub step: Step,
-    pub flow: Flow,
+    pub flow: ControlFlow,
 }
 
 /// The instructions of a function, by its number in the source. What stops it is noted: an instruction that sandboxed
 /// code may not have; a jump that is no return; a branch out of the function; a name that stands nowhere, or is a
 /// function's where an object's is wanted.
-pub fn points_of(layout: &mut Layout, number: usize, code: &Code) -> Vec<Point> {
+pub fn points_of(layout: &mut Layout, number: usize, code: &CodeBody) -> Vec<Point> {
     layout.stops.symbol = code.symbol;
     let mut points = Vec::new(layout.stops.memory.alloc);
     for item in code.items.as_slice() {
@@ -50,7 +50,7 @@ pub fn points_of(layout: &mut Layout, number: usize, code: &Code) -> Vec<Point> 
         let mut to = None;
         if let Some(reference) = item.reference {
             let symbol = reference.symbol;
-            if !matches!(reference.part, Part::Target) {
+            if !matches!(reference.part, AddressPart::Target) {
                 let (object, address) = layout.reach(symbol, reference.offset, item.line);
                 step.instr = decode(with_part(item.word, reference.part, address));
                 step.object = Some(object);
@@ -66,7 +66,7 @@ pub fn points_of(layout: &mut Layout, number: usize, code: &Code) -> Vec<Point> 
             Ok(flow) => flow,
             Err(stop) => {
                 layout.stops.note(item.line, stop);
-                Flow::Nothing
+                ControlFlow::Nothing
             }
         };
         layout.stops.memory.push(&mut points, Point { step, flow });

@@ -1,12 +1,14 @@
 //! What stops the making of a program: it is noted where it is found, and told once.
 use crate::points::name_of;
-use fit_code::{CALL_THROUGH_POINTER, Fault, JUMP_THROUGH_POINTER, Line, Memory, Naming, Reason};
-use fit_gas::{Source, owned};
+use fit_code::{
+    CALL_THROUGH_POINTER, Fault, Heap, JUMP_THROUGH_POINTER, Naming, Reason, SourceLine,
+};
+use fit_gas::{Assembly, owned};
 use std::alloc::AllocError;
 
 /// Why there is no program, but want of memory.
 #[derive(Clone, Copy)]
-pub enum Stop {
+pub enum Obstacle {
     /// What the function does that is made, and may not.
     Form(&'static str),
     /// What was told before a name, and that of a symbol.
@@ -21,23 +23,23 @@ pub enum Stop {
 /// counts for nothing.
 #[derive(Clone, Copy)]
 pub struct Stops {
-    pub memory: Memory,
+    pub memory: Heap,
     /// The symbol of the function that is made. No other one is made once something is noted.
     pub symbol: usize,
-    pub first: Option<(Line, Stop)>,
+    pub first: Option<(SourceLine, Obstacle)>,
 }
 
 impl Stops {
     /// Notes what stops at a line, of which the first one is told.
-    pub fn note(&mut self, line: Line, stop: Stop) {
+    pub fn note(&mut self, line: SourceLine, stop: Obstacle) {
         if self.first.is_none() {
             self.first = Some((line, stop));
         }
     }
 
     /// Notes what the function that is made does and may not.
-    pub fn form(&mut self, line: Line, what: &'static str) {
-        self.note(line, Stop::Form(what))
+    pub fn form(&mut self, line: SourceLine, what: &'static str) {
+        self.note(line, Obstacle::Form(what))
     }
 
     /// A list that was made; an empty one where memory was refused, which is noted.
@@ -53,23 +55,23 @@ impl Stops {
 
     /// What is told of it, if something stopped: want of memory, else what was noted first, with some text before the
     /// name of a symbol.
-    pub fn fault(self, source: &Source, before: &str) -> Option<Fault> {
+    pub fn fault(self, source: &Assembly, before: &str) -> Option<Fault> {
         let mut memory = self.memory;
         let mut fault = None;
         if let Some((line, stop)) = self.first {
             let reason = match stop {
-                Stop::Form(what) => Reason::Form {
+                Obstacle::Form(what) => Reason::Form {
                     function: owned(&mut memory, name_of(source, self.symbol)),
                     what,
                 },
-                Stop::Named(naming, symbol) => {
+                Obstacle::Named(naming, symbol) => {
                     let mut name = owned(&mut memory, before);
                     memory.take(name.push_str(name_of(source, symbol)));
                     Reason::Named(naming, name)
                 }
-                Stop::TooMany(what, most) => Reason::TooMany { what, most },
-                Stop::CallThroughPointer => Reason::Unreadable(CALL_THROUGH_POINTER),
-                Stop::JumpThroughPointer => Reason::Unreadable(JUMP_THROUGH_POINTER),
+                Obstacle::TooMany(what, most) => Reason::TooMany { what, most },
+                Obstacle::CallThroughPointer => Reason::Unreadable(CALL_THROUGH_POINTER),
+                Obstacle::JumpThroughPointer => Reason::Unreadable(JUMP_THROUGH_POINTER),
             };
             fault = Some(Fault::new(line, reason));
         }

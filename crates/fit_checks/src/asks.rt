@@ -2,7 +2,7 @@
 //! of which more is known if they are written in another way.
 mod shifted;
 
-use fit_code::{Block, Function, Line, Memory, Program, Step};
+use fit_code::{Block, Function, Heap, Program, SourceLine, Step};
 use fit_graph::{effects_of, read_at_end, return_from, run_to_call};
 use fit_ranges::{Origin, Ranges, Trace, end_of, named_object, origin_of, trace_of};
 use sbx_domain::State;
@@ -14,7 +14,7 @@ use v8_meaning::{Operation, Transfer, bytes_in, operation_of};
 
 /// An access that isn't shown to lie where it has to.
 #[derive(Clone, Copy)]
-pub struct Access {
+pub struct UnshownAccess {
     /// Its addresses.
     pub range: Range,
     /// How many bytes it moves.
@@ -28,13 +28,13 @@ pub struct Access {
 
 /// What isn't shown.
 #[derive(Clone, Copy)]
-pub enum Lack {
+pub enum Unshown {
     /// That a location is defined which is read.
     Defined(u16),
     /// That a location is defined which a callee takes for granted.
     Given(u16),
     /// That an access lies where it has to, at a multiple of its size.
-    Placed(Access),
+    Placed(UnshownAccess),
     /// That a divisor isn't 0, and what is known of it.
     Divisible(Operand, Range),
 }
@@ -47,8 +47,8 @@ pub struct Ask {
     pub frame: u32,
     pub block: usize,
     pub place: usize,
-    pub line: Line,
-    pub lack: Lack,
+    pub line: SourceLine,
+    pub lack: Unshown,
 }
 
 /// A program and what is known of it.
@@ -65,14 +65,14 @@ pub struct Asking<'a> {
 const RESERVED: u32 = 0xc000_c000;
 
 /// The first register that isn't defined of some that are read, or that are given to a callee; each has a bit.
-fn lack_of_registers(registers: u32, is_given: bool, state: &State) -> Option<Lack> {
+fn lack_of_registers(registers: u32, is_given: bool, state: &State) -> Option<Unshown> {
     let asked = registers & !RESERVED;
     for register in 1..32u16 {
         if asked >> register & 1 == 1 && state.range(register).is_none() {
             return Some(if is_given {
-                Lack::Given(register)
+                Unshown::Given(register)
             } else {
-                Lack::Defined(register)
+                Unshown::Defined(register)
             });
         }
     }
@@ -92,7 +92,7 @@ impl Asking<'_> {
         parts: (Reg, Operand),
         range: Range,
         origin: Option<Origin>,
-    ) -> Option<Lack> {
+    ) -> Option<Unshown> {
         let (size, writes) = (bytes_in(transfer.size()), transfer.writes_memory());
         let from = range.lo as i64;
         let to = range.hi as i64 + size as i64;
@@ -116,7 +116,7 @@ impl Asking<'_> {
         if is_shown {
             return None;
         }
-        Some(Lack::Placed(Access {
+        Some(Unshown::Placed(UnshownAccess {
             range,
             size,
             writes,
@@ -134,7 +134,7 @@ impl Asking<'_> {
         trace: &Trace,
         (place, step): (usize, &Step),
         state: &mut State,
-    ) -> Option<Lack> {
+    ) -> Option<Unshown> {
         if let Some(callee) = step.callee {
             run_to_call(frame, step, state);
             let params = self.ranges.params(callee).len().min(6) as u32;
@@ -146,14 +146,14 @@ impl Asking<'_> {
         let effects = effects_of(frame, &step.instr);
         // a frame word before registers
         let mut lack = match effects.word_read {
-            Some(word) if state.range(word).is_none() => Some(Lack::Defined(word)),
+            Some(word) if state.range(word).is_none() => Some(Unshown::Defined(word)),
             _ => lack_of_registers(effects.reads, false, state),
         };
         if lack.is_none() {
             let [first, second] = trace.at(place);
             lack = match (operation_of(&step.instr), first, second) {
                 (Operation::Divide(_, fields), _, Some(range)) if !excludes_zero(range) => {
-                    Some(Lack::Divisible(fields.operand2, range))
+                    Some(Unshown::Divisible(fields.operand2, range))
                 }
                 (Operation::Transfer(transfer, fields), Some(first), Some(second)) => {
                     let range = range_of_address(first, second);
@@ -174,7 +174,7 @@ impl Asking<'_> {
         (number, block): (usize, &Block),
         state: &mut State,
         asks: &mut Vec<Ask>,
-        memory: &mut Memory,
+        memory: &mut Heap,
     ) {
         let (program, ranges, frame) = (self.program, self.ranges, code.frame);
         if !ranges.begin_block(program, function, number, state) {
@@ -216,7 +216,7 @@ pub fn asks_of(
     state: &mut State,
 ) -> Result<Vec<Ask>, AllocError> {
     let mut asks = Vec::new(asking.alloc);
-    let mut memory = Memory::new(asking.alloc);
+    let mut memory = Heap::new(asking.alloc);
     let (functions, results) = (asking.program.functions.as_slice(), asking.ranges.results());
     if function < functions.len() && function < results.len() {
         let count = results[function].len().min(6) as u8;

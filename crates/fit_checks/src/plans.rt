@@ -4,5 +4,5 @@ mod plan;
 mod shown;
 
 pub use insert::{subtracting, take_division};
-pub use plan::{Kind, Plan, SUM, Test, Way, plan_of};
-pub use shown::Shown;
+pub use plan::{SUM, Test, TestKind, TestPlan, TestWay, plan_of};
+pub use shown::TestLine;

@@ -1,12 +1,12 @@
 //! Tests put into a program until nothing is left that isn't shown: a compare, and a branch to an end of the run whose
 //! exit word tells kind and line. Nothing rests on them, since the verifier asks all again.
-use crate::asks::{Access, Ask, Asking, Lack, asks_of, live_behind, shorten_steps};
+use crate::asks::{Ask, Asking, Unshown, UnshownAccess, asks_of, live_behind, shorten_steps};
 use crate::cuts::{
     CODES, SCRATCH, Y, clearing, copy_block, drop_compare, in_use, insert_instr, number_in,
     push_block, register, set_codes_again,
 };
-use crate::plans::{Kind, Plan, SUM, Test, Way, plan_of, subtracting, take_division};
-use fit_code::{Block, End, Fault, Function, Memory, NO_LINE, Program, Reason};
+use crate::plans::{SUM, Test, TestKind, TestPlan, TestWay, plan_of, subtracting, take_division};
+use fit_code::{Block, End, Fault, Function, Heap, NO_LINE, Program, Reason};
 use fit_graph::{enter, range_in};
 use fit_ranges::Ranges;
 use sbx_domain::State;
@@ -16,7 +16,7 @@ use v8_formats::{Instr, Operand, Three, decode, encode};
 
 /// What tests are made by.
 #[derive(Clone, Copy)]
-pub struct Options {
+pub struct TestOptions {
     /// Whether an access has to lie in the object that its base names, and not only in the data.
     pub by_object: bool,
     /// Whether tests that turn out not to be needed go again.
@@ -40,7 +40,7 @@ struct Tests {
     /// Blocks that were changed since the ranges were found, by the number of their function and their own.
     changed: Vec<(usize, usize)>,
     /// Whether memory was refused for tests that were put in since it was asked.
-    memory: Memory,
+    memory: Heap,
     /// What was answered last, and why that can't be tested, if it can't.
     asked: Option<Ask>,
     refused: Answer,
@@ -58,7 +58,7 @@ const EXIT_WORD: u8 = 8;
 /// Where a test may stand: before a step where the register has the word that is asked for, and nothing is in use that
 /// the test changes. What may be tested twice is so right before the access, if that may be, since the steps from there
 /// to it are to stand twice, too.
-fn place_of_test(frame: u32, block: &Block, plan: &Plan) -> Option<usize> {
+fn place_of_test(frame: u32, block: &Block, plan: &TestPlan) -> Option<usize> {
     let mut first = plan.first;
     if plan.constants.is_some() && in_use(frame, block, plan.last) & plan.changed == 0 {
         first = plan.last;
@@ -75,7 +75,7 @@ fn place_of_test(frame: u32, block: &Block, plan: &Plan) -> Option<usize> {
 /// among the constants, if there is one: behind it the first steps of a block stand once more, so many that the load is
 /// the last of them, or all of them, where what they leave is in use behind.
 fn push_second(
-    memory: &mut Memory,
+    memory: &mut Heap,
     blocks: &mut Vec<Block>,
     (ask, place): (&Ask, usize),
     first: &Test,
@@ -92,7 +92,7 @@ fn push_second(
     let rest = copy_block(memory, blocks, (first.rest, 0), false);
     // gives back what the first test took from the register
     let mut give_back = None;
-    if let Way::Within { lo, .. } = first.plan.way
+    if let TestWay::Within { lo, .. } = first.plan.way
         && first.plan.register == SUM
     {
         [_, _, _, give_back] = subtracting(SUM, lo);
@@ -108,7 +108,7 @@ fn push_second(
 
 /// Lets an access go by %g7; gives the sum of its two parts, which is to be put into that before, and may then be
 /// tested. Not of one that goes by %g7 already, and not where scratch registers are in use.
-fn join_address(blocks: &mut [Block], ask: &Ask, access: &Access) -> Option<Instr> {
+fn join_address(blocks: &mut [Block], ask: &Ask, access: &UnshownAccess) -> Option<Instr> {
     let (rs1, operand2) = access.parts;
     if ask.block < blocks.len()
         && ask.place < blocks[ask.block].steps.len()
@@ -127,11 +127,11 @@ fn join_address(blocks: &mut [Block], ask: &Ask, access: &Access) -> Option<Inst
 /// The block where the run ends if a test of a kind fails: tests of one kind in one line of a function have one, while
 /// one of them stands.
 fn exit_of(
-    memory: &mut Memory,
+    memory: &mut Heap,
     blocks: &mut Vec<Block>,
     tests: &[Test],
     ask: &Ask,
-    kind: Kind,
+    kind: TestKind,
 ) -> usize {
     let mut exit = blocks.len();
     for test in tests {
@@ -154,7 +154,7 @@ fn is_needless(test: &Test, ranges: &Ranges) -> bool {
     };
     let plan = &test.plan;
     match range_in(cells, plan.register as u16) {
-        Some(range) if matches!(plan.kind, Kind::Divisor) => excludes_zero(range),
+        Some(range) if matches!(plan.kind, TestKind::Divisor) => excludes_zero(range),
         Some(range) => {
             let is_above = plan.bounds.lo <= range.lo as i64;
             let is_below = range.hi as i64 <= plan.bounds.hi;
@@ -181,7 +181,7 @@ impl Tests {
     }
 
     /// Cuts a block for a test, and puts that in. A division goes with its WRY to the test.
-    fn put_test(&mut self, blocks: &mut Vec<Block>, ask: &Ask, plan: &Plan) -> Answer {
+    fn put_test(&mut self, blocks: &mut Vec<Block>, ask: &Ask, plan: &TestPlan) -> Answer {
         let (memory, number, frame) = (&mut self.memory, ask.block, ask.frame);
         if plan.says_nothing {
             return Err("an address that can't be tested: a constant is stored to, or it wraps");
@@ -194,7 +194,7 @@ impl Tests {
             return set_codes_again(memory, frame, block);
         };
         let mut division = None;
-        if matches!(plan.kind, Kind::Divisor) {
+        if matches!(plan.kind, TestKind::Divisor) {
             division = Some(take_division(block, frame, place)?);
             place = place.saturating_sub(1);
         }
@@ -229,14 +229,14 @@ impl Tests {
             return Ok(());
         }
         let blocks = &mut program.functions[ask.function].blocks;
-        if let Lack::Defined(location) = ask.lack {
+        if let Unshown::Defined(location) = ask.lack {
             return self.clear_at_entry(blocks, ask, location);
         }
         let at = (ask.function, ask.block);
         if self.changed.contains(&at) {
             return Ok(());
         }
-        if let Lack::Placed(_) = ask.lack
+        if let Unshown::Placed(_) = ask.lack
             && let Some(plan) = &plan
         {
             let key = (plan.register, plan.bounds.object);
@@ -248,10 +248,12 @@ impl Tests {
         self.memory.push(&mut self.changed, at);
         let instr = match (&ask.lack, &plan) {
             (_, Some(plan)) => return self.put_test(blocks, ask, plan),
-            (Lack::Divisible(..), None) => return Err("a division by 0"),
-            (Lack::Placed(access), None) => join_address(blocks.as_mut_slice(), ask, access),
+            (Unshown::Divisible(..), None) => return Err("a division by 0"),
+            (Unshown::Placed(access), None) => join_address(blocks.as_mut_slice(), ask, access),
             // one that a step reads was answered at the entry
-            (Lack::Given(location) | Lack::Defined(location), None) => Some(clearing(*location)),
+            (Unshown::Given(location) | Unshown::Defined(location), None) => Some(clearing(
+                *location,
+            )),
         };
         let Some(instr) = instr else {
             return Err("an address that can't be tested");
@@ -382,7 +384,7 @@ impl Tests {
             return Err(Fault::from(AllocError));
         }
         if let (Some(ask), Err(what)) = (&self.asked, self.refused) {
-            let is_by_zero = matches!(ask.lack, Lack::Divisible(Operand::Immediate(_), _));
+            let is_by_zero = matches!(ask.lack, Unshown::Divisible(Operand::Immediate(_), _));
             if is_by_zero || ask.function >= program.functions.len() {
                 return Err(Fault::new(ask.line, Reason::Unreadable(what)));
             }
@@ -401,7 +403,7 @@ impl Tests {
 /// then those of the program with its tests.
 pub fn add_tests(
     alloc: Global,
-    options: Options,
+    options: TestOptions,
     program: &mut Program,
     ranges: &mut Ranges,
     state: &mut State,
@@ -412,7 +414,7 @@ pub fn add_tests(
         list: Vec::new(alloc),
         cleared: Vec::new(alloc),
         changed: Vec::new(alloc),
-        memory: Memory::new(alloc),
+        memory: Heap::new(alloc),
         asked: None,
         refused: Ok(()),
     };

@@ -5,7 +5,7 @@ use v8_word::Cond;
 
 /// A line of one of the program's files.
 #[derive(Clone, Copy, PartialEq, Eq)]
-pub struct Line {
+pub struct SourceLine {
     /// The number of the file in `Program::files`.
     pub file: usize,
     /// Counted from 1; 0 where no line is known.
@@ -13,7 +13,7 @@ pub struct Line {
 }
 
 /// No line is known.
-pub const NO_LINE: Line = Line { file: 0, number: 0 };
+pub const NO_LINE: SourceLine = SourceLine { file: 0, number: 0 };
 
 /// An instruction that isn't a branch, a return, SAVE, RESTORE or `ta 0`: those are ends of blocks, or what a function
 /// has.
@@ -22,7 +22,7 @@ pub struct Step {
     /// The instruction. Of a call it is CALL with displacement 0.
     pub instr: Instr,
     /// The line of C that it comes from; where none is known, the line of assembly.
-    pub line: Line,
+    pub line: SourceLine,
     /// The number of the function that is called.
     pub callee: Option<usize>,
     /// The number of the object whose address, or an address within which, its number is a part of.
@@ -57,7 +57,7 @@ pub struct Block {
     /// What the end has in its delay slot, on each way; nothing is as NOP. None while passes before placing go over it.
     pub slot: Option<Instr>,
     /// The line of its end.
-    pub line: Line,
+    pub line: SourceLine,
 }
 
 /// A function. Its first block is where calls enter; no block goes there.
@@ -75,7 +75,7 @@ pub struct Function {
     /// What %o0, %o1, .. hold for its callers when it has returned.
     pub results: Vec<Range>,
     /// The line that it begins at.
-    pub line: Line,
+    pub line: SourceLine,
 }
 
 /// Bytes of the data that a name of the source stands for.

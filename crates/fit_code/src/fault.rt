@@ -1,5 +1,5 @@
 //! Why there is no program.
-use crate::code::{Line, NO_LINE};
+use crate::code::{NO_LINE, SourceLine};
 use std::alloc::{AllocError, AllocFailed};
 use want::Want;
 
@@ -72,13 +72,13 @@ pub enum Reason {
 /// Why a program is refused, and where.
 #[derive(Drop)]
 pub struct Fault {
-    pub line: Line,
+    pub line: SourceLine,
     pub reason: Reason,
 }
 
 impl Fault {
     /// A fault at a line.
-    pub fn new(line: Line, reason: Reason) -> Fault {
+    pub fn new(line: SourceLine, reason: Reason) -> Fault {
         Fault { line, reason }
     }
 }

@@ -7,8 +7,8 @@ mod fault;
 mod memory;
 mod ways;
 
-pub use code::{Block, End, Function, Line, NO_LINE, Object, Program, Region, Step};
+pub use code::{Block, End, Function, NO_LINE, Object, Program, Region, SourceLine, Step};
 pub use fault::{CALL_THROUGH_POINTER, Fault, JUMP_THROUGH_POINTER, Naming, Reason};
-pub use memory::Memory;
+pub use memory::Heap;
 pub use sbx_parts::Range;
 pub use ways::{hull, opposite};

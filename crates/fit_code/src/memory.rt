@@ -4,15 +4,15 @@ use std::alloc::{AllocError, Global};
 /// Where memory comes from, and whether some was refused while something was made. Who makes it asks when that is done,
 /// and lets what was made go if some was.
 #[derive(Clone, Copy)]
-pub struct Memory {
+pub struct Heap {
     pub alloc: Global,
     pub is_refused: bool,
 }
 
-impl Memory {
+impl Heap {
     /// None was refused.
-    pub fn new(alloc: Global) -> Memory {
-        Memory {
+    pub fn new(alloc: Global) -> Heap {
+        Heap {
             alloc,
             is_refused: false,
         }

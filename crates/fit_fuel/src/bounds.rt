@@ -3,9 +3,9 @@
 mod changes;
 
 use crate::bounds::changes::{Counter, add_ways};
-use crate::task::{Setting, Task};
-use crate::ways::{Way, constant_at, settle};
-use fit_code::{Memory, Program};
+use crate::task::{FuelTask, Task};
+use crate::ways::{WayOut, constant_at, settle};
+use fit_code::{Heap, Program};
 use fit_graph::{Graph, Loop};
 use fit_ranges::Ranges;
 use sbx_domain::State;
@@ -28,12 +28,12 @@ const UNSTEADY: u64 = 1 << 40;
 
 /// The loops of a function, an outer one before an inner one, and of each, by its place, the bound that was found.
 #[derive(Drop)]
-pub struct Bounds {
+pub struct LoopBounds {
     pub loops: Vec<Loop>,
     pub bounds: Vec<Option<Bound>>,
 }
 
-impl Bounds {
+impl LoopBounds {
     /// The bound of the loop at a place; none where none was found.
     pub fn at(&self, place: usize) -> Option<Bound> {
         if place < self.bounds.len() {
@@ -67,7 +67,7 @@ impl Bounds {
 
 /// The bound that a location of a loop's head gives, of which these are the ways; none where it doesn't change one way,
 /// and where it may not change in a round.
-fn bound_by(memory: &mut Memory, within: &Loop, counter: &Counter, ways: &[Way]) -> Option<Bound> {
+fn bound_by(memory: &mut Heap, within: &Loop, counter: &Counter, ways: &[WayOut]) -> Option<Bound> {
     let Cell { location, range } = counter.cell;
     let mut change = 0;
     if counter.falls | counter.rises {
@@ -92,7 +92,7 @@ fn bound_by(memory: &mut Memory, within: &Loop, counter: &Counter, ways: &[Way])
 }
 
 /// The locations that may count a loop: all of which something is known where its head begins.
-fn counters_of(memory: &mut Memory, task: &Task<'_>, within: &Loop) -> Vec<Counter> {
+fn counters_of(memory: &mut Heap, task: &Task<'_>, within: &Loop) -> Vec<Counter> {
     let mut counters = Vec::new(memory.alloc);
     let cells = task.ranges.cells(task.number, within.head);
     for cell in cells.unwrap_or(&[]) {
@@ -110,10 +110,10 @@ fn counters_of(memory: &mut Memory, task: &Task<'_>, within: &Loop) -> Vec<Count
 /// The bound of a loop by the counter that changes by one number and gives the fewest rounds, else by another; none
 /// where no location counts.
 fn bound_of(
-    setting: &Setting<'_>,
+    setting: &FuelTask<'_>,
     within: &Loop,
     state: &mut State,
-    memory: &mut Memory,
+    memory: &mut Heap,
 ) -> Option<Bound> {
     let mut counters = counters_of(memory, setting.task, within);
     let mut ways = Vec::new(memory.alloc);
@@ -139,14 +139,14 @@ pub fn bounds_of(
     ranges: &Ranges,
     number: usize,
     state: &mut State,
-) -> Result<Bounds, AllocError> {
+) -> Result<LoopBounds, AllocError> {
     if number >= program.functions.len() {
-        return Ok(Bounds {
+        return Ok(LoopBounds {
             loops: Vec::new(alloc),
             bounds: Vec::new(alloc),
         });
     }
-    let mut memory = Memory::new(alloc);
+    let mut memory = Heap::new(alloc);
     let task = Task {
         alloc,
         ranges,
@@ -155,7 +155,7 @@ pub fn bounds_of(
         known: &[],
         spared: &[],
     };
-    let setting = Setting {
+    let setting = FuelTask {
         program,
         function: &program.functions[number],
         task: &task,
@@ -171,5 +171,5 @@ pub fn bounds_of(
         };
         memory.push(&mut bounds, bound);
     }
-    memory.told(Bounds { loops, bounds })
+    memory.told(LoopBounds { loops, bounds })
 }

@@ -4,16 +4,16 @@ mod limits;
 mod metering;
 mod terms;
 
-use crate::bounds::{Bounds, bounds_of};
+use crate::bounds::{LoopBounds, bounds_of};
 use crate::declaring::dearest::dearest_loop;
 use crate::declaring::limits::check_limits;
 use crate::declaring::metering::set_weights;
 use crate::declaring::terms::find_fuel;
 use crate::meter::{Meter, places_of};
-use crate::task::{Setting, Task};
-use crate::totals::{Total, total_of};
-use crate::ways::{Fuel, constant_at};
-use fit_code::{Fault, Function, Line, Memory, NO_LINE, Program, Reason};
+use crate::task::{FuelTask, Task};
+use crate::totals::{CallTotal, total_of};
+use crate::ways::{FunctionFuel, constant_at};
+use fit_code::{Fault, Function, Heap, NO_LINE, Program, Reason, SourceLine};
 use fit_ranges::Ranges;
 use fit_text::{Annotations, FunctionNotes};
 use sbx_domain::State;
@@ -31,7 +31,7 @@ const TOO_MUCH: &str =
     "a round of a loop may take more turns than there are: ask for more, or bound what it calls";
 
 /// A fault of a function.
-pub fn refused(function: &Function, line: Line, what: &'static str) -> Fault {
+pub fn refused(function: &Function, line: SourceLine, what: &'static str) -> Fault {
     match function.name.clone() {
         Ok(function) => Fault::new(line, Reason::Form { function, what }),
         Err(error) => Fault::from(error),
@@ -43,14 +43,14 @@ pub fn refused(function: &Function, line: Line, what: &'static str) -> Fault {
 fn settle(
     program: &mut Program,
     task: &Task<'_>,
-    bounds: &Bounds,
-    fuel: &mut Fuel,
+    bounds: &LoopBounds,
+    fuel: &mut FunctionFuel,
     state: &mut State,
-) -> Option<(Line, &'static str)> {
+) -> Option<(SourceLine, &'static str)> {
     let mut line = NO_LINE;
     for _ in 0..ROUNDS {
         if task.number < program.functions.len() {
-            let setting = Setting {
+            let setting = FuelTask {
                 program,
                 function: &program.functions[task.number],
                 task: &*task,
@@ -77,8 +77,8 @@ fn settle(
 fn find_total(
     program: &mut Program,
     task: &Task<'_>,
-    bounds: &Bounds,
-    fuel: &mut Fuel,
+    bounds: &LoopBounds,
+    fuel: &mut FunctionFuel,
     state: &mut State,
 ) -> Result<FunctionNotes, Fault> {
     let lack = settle(program, task, bounds, fuel, state);
@@ -120,14 +120,14 @@ pub fn declare_function(
 ) -> Result<FunctionNotes, Fault> {
     // which bounds there are doesn't depend on what the meter takes
     let bounds = bounds_of(task.alloc, program, task.ranges, task.number, state)?;
-    let mut memory = Memory::new(task.alloc);
+    let mut memory = Heap::new(task.alloc);
     let places = match task.meter {
         Some(meter) if task.number < program.functions.len() => {
             places_of(&mut memory, meter, &program.functions[task.number])
         }
         _ => Vec::new(task.alloc),
     };
-    let mut fuel = Fuel {
+    let mut fuel = FunctionFuel {
         places,
         blocks: Vec::new(task.alloc),
         ways: Vec::new(task.alloc),
@@ -143,7 +143,7 @@ fn declare_each(
     alloc: Global,
     program: &mut Program,
     (ranges, meters): (&Ranges, &[Option<Meter>]),
-    known: &mut [Option<Total>],
+    known: &mut [Option<CallTotal>],
     functions: &mut Vec<FunctionNotes>,
     state: &mut State,
 ) -> Result<(), Fault> {
@@ -160,7 +160,7 @@ fn declare_each(
             spared: &[],
         };
         let notes = declare_function(program, &task, state)?;
-        known[number] = Some(Total {
+        known[number] = Some(CallTotal {
             budget: Some(notes.budget),
             room: notes.room,
             depth: notes.depth,
@@ -183,7 +183,7 @@ pub fn declare(
     meters: &[Option<Meter>],
     state: &mut State,
 ) -> Result<Annotations, Fault> {
-    let mut known: Vec<Option<Total>> = vec![in alloc; None; program.functions.len()]?;
+    let mut known: Vec<Option<CallTotal>> = vec![in alloc; None; program.functions.len()]?;
     let mut functions = Vec::new(alloc);
     let basis = (ranges, meters);
     let known = known.as_mut_slice();

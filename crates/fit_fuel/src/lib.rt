@@ -9,8 +9,8 @@ mod task;
 mod totals;
 mod ways;
 
-pub use bounds::{Bounds, bounds_of};
+pub use bounds::{LoopBounds, bounds_of};
 pub use declaring::{declare, declare_function, refused};
 pub use meter::{Meter, counting, number_in};
 pub use task::Task;
-pub use totals::{Total, total_of};
+pub use totals::{CallTotal, total_of};

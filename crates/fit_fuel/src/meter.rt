@@ -1,6 +1,6 @@
 //! A meter in turns: a register, or a word of the frame, that a function counts down at places which stand on each
 //! round of its loops; and what those places take.
-use fit_code::{Block, End, Function, Memory, Step};
+use fit_code::{Block, End, Function, Heap, Step};
 use v8_formats::{Cond, Instr, Operand, Reg, Three, Upper};
 
 /// What a function counts its turns by.
@@ -67,7 +67,7 @@ pub fn counting(meter: &Meter, weight: u32) -> [Option<Instr>; 3] {
 
 /// What each block of a function takes that is a place of the meter where no weight was set yet: it counts down, and
 /// control leaves where the count is below 0. 0 of the others.
-pub fn places_of(memory: &mut Memory, meter: &Meter, function: &Function) -> Vec<u32> {
+pub fn places_of(memory: &mut Heap, meter: &Meter, function: &Function) -> Vec<u32> {
     let mut places = Vec::new(memory.alloc);
     for block in function.blocks.as_slice() {
         let mut taken = 0;
@@ -90,7 +90,7 @@ pub fn places_of(memory: &mut Memory, meter: &Meter, function: &Function) -> Vec
 }
 
 /// Lets a place take another weight from now on.
-pub fn set_weight(meter: &Meter, block: &mut Block, weight: u32, memory: &mut Memory) {
+pub fn set_weight(meter: &Meter, block: &mut Block, weight: u32, memory: &mut Heap) {
     // before what counts down stands at most what loads the count
     block.steps.truncate(usize::from(meter.has_word()));
     for instr in &counting(meter, weight) {

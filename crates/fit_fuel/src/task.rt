@@ -1,6 +1,6 @@
 //! What is looked at.
 use crate::meter::Meter;
-use crate::totals::Total;
+use crate::totals::CallTotal;
 use fit_code::{Function, Program};
 use fit_ranges::Ranges;
 use std::alloc::Global;
@@ -14,14 +14,14 @@ pub struct Task<'t> {
     pub number: usize,
     pub meter: Option<&'t Meter>,
     /// What those take that it calls.
-    pub known: &'t [Option<Total>],
+    pub known: &'t [Option<CallTotal>],
     /// The turns that its blocks weigh less than their steps and their ends; none of blocks that aren't named here.
     pub spared: &'t [u64],
 }
 
 /// The same, with its program and its text.
 #[derive(Clone, Copy)]
-pub struct Setting<'s> {
+pub struct FuelTask<'s> {
     pub program: &'s Program,
     pub function: &'s Function,
     pub task: &'s Task<'s>,

@@ -3,7 +3,7 @@ use fit_code::{Function, Step};
 
 /// What a call takes.
 #[derive(Clone, Copy)]
-pub struct Total {
+pub struct CallTotal {
     /// The turns; none where no budget was found.
     pub budget: Option<u64>,
     pub room: u64,
@@ -11,7 +11,7 @@ pub struct Total {
 }
 
 /// What a call takes that a step makes, where that is known.
-pub(crate) fn called_by(step: &Step, known: &[Option<Total>]) -> Option<Total> {
+pub(crate) fn called_by(step: &Step, known: &[Option<CallTotal>]) -> Option<CallTotal> {
     match step.callee {
         Some(callee) if callee < known.len() => known[callee],
         _ => None,
@@ -20,8 +20,12 @@ pub(crate) fn called_by(step: &Step, known: &[Option<Total>]) -> Option<Total> {
 
 /// What a function of this budget takes, by what is known of those that it calls. A callee counts as one frame at
 /// least.
-pub fn total_of(function: &Function, budget: Option<u64>, known: &[Option<Total>]) -> Total {
-    let mut found = Total {
+pub fn total_of(
+    function: &Function,
+    budget: Option<u64>,
+    known: &[Option<CallTotal>],
+) -> CallTotal {
+    let mut found = CallTotal {
         budget,
         room: 0,
         depth: u64::from(function.framed),

@@ -4,6 +4,6 @@ mod longest;
 mod sums;
 mod weights;
 
-pub use fuel::{Fuel, METER, Way};
+pub use fuel::{FunctionFuel, METER, WayOut};
 pub use longest::{constant_at, settle};
-pub use sums::Sum;
+pub use sums::LinearSum;

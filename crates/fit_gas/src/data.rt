@@ -1,5 +1,5 @@
 //! Data: labels, values, strings, room.
-use crate::source::{Datum, Fix, Source, SymbolPlace};
+use crate::source::{Assembly, Datum, Fix, SymbolPlace};
 use crate::strings::push_string;
 use crate::text::{expression_of, first_operand, is_name, number_of, word_of};
 use fit_code::Naming;
@@ -12,7 +12,7 @@ const BYTES: usize = 262_144;
 /// The greatest alignment, that of a page.
 const PAGE: u32 = 4_096;
 
-impl Source {
+impl Assembly {
     /// A label in the data: an object of no bytes yet begins there, aligned as what comes next is, but where one has
     /// just begun.
     pub(crate) fn label_data(&mut self, name: &[u8], readonly: bool) {

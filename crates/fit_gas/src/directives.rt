@@ -1,13 +1,13 @@
 //! Directives.
-use crate::source::{Section, Source};
+use crate::source::{Assembly, Section};
 use crate::text::{first_operand, first_word, is_name, number_of, unquoted};
-use fit_code::{Line, Naming};
+use fit_code::{Naming, SourceLine};
 use memchr::memrchr;
 use v8_syntax::{beside, bytes_between};
 
 /// What a directive asks for.
 #[derive(Clone, Copy)]
-enum Directive {
+enum GasDirective {
     /// A section, which it names, or that of its own name.
     Section { is_named: bool },
     Align { is_power: bool },
@@ -15,14 +15,14 @@ enum Directive {
     Mark { is_global: bool },
     File,
     Loc,
-    Data(Data),
+    Data(DataItem),
     /// Nothing that matters here.
     Nothing,
 }
 
 /// What a directive adds to the data.
 #[derive(Clone, Copy)]
-enum Data {
+enum DataItem {
     Values(usize),
     Strings { zeros: usize },
     Room,
@@ -30,46 +30,49 @@ enum Data {
 
 const WRITABLE: Section = Section::Data { readonly: false };
 
-static DIRECTIVES: [(&str, Directive); 39] = [
-    (".section", Directive::Section { is_named: true }),
-    (".text", Directive::Section { is_named: false }),
-    (".data", Directive::Section { is_named: false }),
-    (".bss", Directive::Section { is_named: false }),
-    (".align", Directive::Align { is_power: false }),
-    (".balign", Directive::Align { is_power: false }),
-    (".p2align", Directive::Align { is_power: true }),
-    (".comm", Directive::Common),
-    (".common", Directive::Common),
-    (".global", Directive::Mark { is_global: true }),
-    (".globl", Directive::Mark { is_global: true }),
-    (".weak", Directive::Mark { is_global: true }),
-    (".type", Directive::Mark { is_global: false }),
-    (".file", Directive::File),
-    (".loc", Directive::Loc),
-    (".word", Directive::Data(Data::Values(4))),
-    (".long", Directive::Data(Data::Values(4))),
-    (".uaword", Directive::Data(Data::Values(4))),
-    (".half", Directive::Data(Data::Values(2))),
-    (".uahalf", Directive::Data(Data::Values(2))),
-    (".short", Directive::Data(Data::Values(2))),
-    (".byte", Directive::Data(Data::Values(1))),
-    (".ascii", Directive::Data(Data::Strings { zeros: 0 })),
-    (".asciz", Directive::Data(Data::Strings { zeros: 1 })),
-    (".string", Directive::Data(Data::Strings { zeros: 1 })),
-    (".skip", Directive::Data(Data::Room)),
-    (".space", Directive::Data(Data::Room)),
-    (".zero", Directive::Data(Data::Room)),
-    (".local", Directive::Nothing),
-    (".size", Directive::Nothing),
-    (".ident", Directive::Nothing),
-    (".proc", Directive::Nothing),
-    (".register", Directive::Nothing),
-    (".hidden", Directive::Nothing),
-    (".internal", Directive::Nothing),
-    (".protected", Directive::Nothing),
-    (".addrsig", Directive::Nothing),
-    (".addrsig_sym", Directive::Nothing),
-    (".version", Directive::Nothing),
+static DIRECTIVES: [(&str, GasDirective); 39] = [
+    (".section", GasDirective::Section { is_named: true }),
+    (".text", GasDirective::Section { is_named: false }),
+    (".data", GasDirective::Section { is_named: false }),
+    (".bss", GasDirective::Section { is_named: false }),
+    (".align", GasDirective::Align { is_power: false }),
+    (".balign", GasDirective::Align { is_power: false }),
+    (".p2align", GasDirective::Align { is_power: true }),
+    (".comm", GasDirective::Common),
+    (".common", GasDirective::Common),
+    (".global", GasDirective::Mark { is_global: true }),
+    (".globl", GasDirective::Mark { is_global: true }),
+    (".weak", GasDirective::Mark { is_global: true }),
+    (".type", GasDirective::Mark { is_global: false }),
+    (".file", GasDirective::File),
+    (".loc", GasDirective::Loc),
+    (".word", GasDirective::Data(DataItem::Values(4))),
+    (".long", GasDirective::Data(DataItem::Values(4))),
+    (".uaword", GasDirective::Data(DataItem::Values(4))),
+    (".half", GasDirective::Data(DataItem::Values(2))),
+    (".uahalf", GasDirective::Data(DataItem::Values(2))),
+    (".short", GasDirective::Data(DataItem::Values(2))),
+    (".byte", GasDirective::Data(DataItem::Values(1))),
+    (".ascii", GasDirective::Data(DataItem::Strings { zeros: 0 })),
+    (".asciz", GasDirective::Data(DataItem::Strings { zeros: 1 })),
+    (
+        ".string",
+        GasDirective::Data(DataItem::Strings { zeros: 1 }),
+    ),
+    (".skip", GasDirective::Data(DataItem::Room)),
+    (".space", GasDirective::Data(DataItem::Room)),
+    (".zero", GasDirective::Data(DataItem::Room)),
+    (".local", GasDirective::Nothing),
+    (".size", GasDirective::Nothing),
+    (".ident", GasDirective::Nothing),
+    (".proc", GasDirective::Nothing),
+    (".register", GasDirective::Nothing),
+    (".hidden", GasDirective::Nothing),
+    (".internal", GasDirective::Nothing),
+    (".protected", GasDirective::Nothing),
+    (".addrsig", GasDirective::Nothing),
+    (".addrsig_sym", GasDirective::Nothing),
+    (".version", GasDirective::Nothing),
 ];
 
 /// The sections whose names begin so, the first that fits.
@@ -87,7 +90,7 @@ static SECTIONS: [(&str, Section); 11] = [
     (".eh_frame", Section::Ignored),
 ];
 
-impl Source {
+impl Assembly {
     /// Another section begins. The code ends there, and goes on where the code's does.
     fn section_line(&mut self, text: &[u8]) {
         let (first, _) = first_operand(text);
@@ -148,12 +151,12 @@ impl Source {
             && let Some(file) = self.numbered.get(&file)
         {
             let file = *file;
-            self.line = Line { file, number };
+            self.line = SourceLine { file, number };
         }
     }
 
     /// Values or strings, with commas between them, or room. They have to stand in a section of data.
-    fn data(&mut self, data: Data, text: &[u8]) {
+    fn data(&mut self, data: DataItem, text: &[u8]) {
         match self.section {
             Section::Ignored => return,
             Section::Code => return self.refuse("data among instructions"),
@@ -163,16 +166,16 @@ impl Source {
         for _ in 0..text.len() {
             let (first, others) = first_operand(rest);
             match data {
-                Data::Values(size) => self.value(size, first),
-                Data::Strings { zeros } => self.string(first, zeros),
-                Data::Room => break,
+                DataItem::Values(size) => self.value(size, first),
+                DataItem::Strings { zeros } => self.string(first, zeros),
+                DataItem::Room => break,
             }
             rest = others;
             if rest.is_empty() {
                 return;
             }
         }
-        if let Data::Room = data {
+        if let DataItem::Room = data {
             let count = self.natural(text, 0xffff_ffff);
             self.add(&[], count as usize);
         }
@@ -181,20 +184,20 @@ impl Source {
     /// A directive, and what stands behind it. One that aligns may stand among instructions.
     pub(crate) fn directive(&mut self, name: &[u8], text: &[u8]) {
         match beside(name, &DIRECTIVES) {
-            Some(Directive::Section { is_named }) => {
+            Some(GasDirective::Section { is_named }) => {
                 self.section_line(if is_named { text } else { name })
             }
-            Some(Directive::Common) => self.common(text),
-            Some(Directive::Mark { is_global }) => self.mark(text, is_global),
-            Some(Directive::File) => self.file_line(text),
-            Some(Directive::Loc) => self.loc_line(text),
-            Some(Directive::Align { is_power }) => {
+            Some(GasDirective::Common) => self.common(text),
+            Some(GasDirective::Mark { is_global }) => self.mark(text, is_global),
+            Some(GasDirective::File) => self.file_line(text),
+            Some(GasDirective::Loc) => self.loc_line(text),
+            Some(GasDirective::Align { is_power }) => {
                 if let Section::Data { .. } = self.section {
                     self.aligned(text, is_power);
                 }
             }
-            Some(Directive::Data(data)) => self.data(data, text),
-            Some(Directive::Nothing) => {}
+            Some(GasDirective::Data(data)) => self.data(data, text),
+            Some(GasDirective::Nothing) => {}
             None => {
                 if !matches!(self.section, Section::Ignored) && !name.starts_with(b".cfi_") {
                     self.named(Naming::Directive, name);

@@ -1,8 +1,8 @@
 //! Instructions: the assembler's own spellings over the statements of the source language.
-use crate::source::{Item, Part, Reference, Source};
+use crate::source::{AddressPart, Assembly, CodeItem, Reference};
 use crate::text::{expression_of, first_operand, place_of, word_of};
 use arrayvec::ArrayVec;
-use fit_code::{CALL_THROUGH_POINTER, Memory, Naming};
+use fit_code::{CALL_THROUGH_POINTER, Heap, Naming};
 use sbx_text::{TextFault, tokens};
 use v8_formats::{Instr, encode};
 use v8_syntax::{Symbols, SyntaxFault, beside, bytes_between, is_same, parse_instr};
@@ -28,33 +28,33 @@ impl Symbols for Nameless {
 
 /// Puts a part of an address into the word of an instruction whose number is 0: the high 22 bits of SETHI, or the low
 /// 10 bits of another one.
-pub fn with_part(instr: u32, part: Part, word: u32) -> u32 {
+pub fn with_part(instr: u32, part: AddressPart, word: u32) -> u32 {
     let field = match part {
-        Part::High => word >> 10,
-        Part::Low => word & 0x3ff,
-        Part::Target => 0,
+        AddressPart::High => word >> 10,
+        AddressPart::Low => word & 0x3ff,
+        AddressPart::Target => 0,
     };
     instr | field
 }
 
 /// Operands with a part of an address among them.
 #[derive(Clone, Copy)]
-struct Place<'t> {
+struct PartOperands<'t> {
     before: &'t [u8],
     /// What the address is of.
     inner: &'t [u8],
     behind: &'t [u8],
-    part: Part,
+    part: AddressPart,
 }
 
 /// The first part of an address among operands.
-fn part_in(text: &[u8]) -> Option<Place<'_>> {
+fn part_in(text: &[u8]) -> Option<PartOperands<'_>> {
     for at in 0..text.len() {
         let rest = bytes_between(text, at, text.len());
         let part = if rest.starts_with(b"%hi(") {
-            Part::High
+            AddressPart::High
         } else if rest.starts_with(b"%lo(") {
-            Part::Low
+            AddressPart::Low
         } else {
             continue;
         };
@@ -63,7 +63,7 @@ fn part_in(text: &[u8]) -> Option<Place<'_>> {
         if length == inside.len() {
             break;
         }
-        return Some(Place {
+        return Some(PartOperands {
             before: bytes_between(text, 0, at),
             inner: bytes_between(inside, 0, length),
             behind: bytes_between(inside, length.saturating_add(1), inside.len()),
@@ -105,7 +105,7 @@ static OTHERS: [(&str, ()); 5] = [
 
 /// The instructions of a statement of the source language in pieces, which has no name in it. Where memory is refused,
 /// which is noted, it has no shape.
-fn parsed(memory: &mut Memory, pieces: &[&[u8]]) -> Result<ArrayVec<Instr, 2>, SyntaxFault> {
+fn parsed(memory: &mut Heap, pieces: &[&[u8]]) -> Result<ArrayVec<Instr, 2>, SyntaxFault> {
     let Ok(line) = pieces.concat(memory.alloc) else {
         memory.is_refused = true;
         return Err(SyntaxFault::Shape);
@@ -119,7 +119,7 @@ fn parsed(memory: &mut Memory, pieces: &[&[u8]]) -> Result<ArrayVec<Instr, 2>, S
     }
 }
 
-impl Source {
+impl Assembly {
     /// Adds a statement of the source language in pieces, which has no name in it, to the function that is read. Of a
     /// reference its number is a part, and some bits are put into the last one of its instructions.
     fn statement(
@@ -142,7 +142,7 @@ impl Source {
             self.at = Some(at.saturating_add(left));
             for instr in found.as_slice() {
                 left = left.saturating_sub(1);
-                let item = Item {
+                let item = CodeItem {
                     word: encode(instr) | if left == 0 { bits } else { 0 },
                     line: self.line,
                     reference,
@@ -157,8 +157,8 @@ impl Source {
     }
 
     /// A statement with a part of an address among its operands: of a target it is a name alone.
-    fn referring(&mut self, word: &[u8], place: Place<'_>) {
-        let Place {
+    fn referring(&mut self, word: &[u8], place: PartOperands<'_>) {
+        let PartOperands {
             before,
             inner,
             behind,
@@ -167,7 +167,7 @@ impl Source {
         let (name, Some(offset)) = expression_of(inner.trim_ascii()) else {
             return self.named(Naming::Operands, word);
         };
-        if matches!(part, Part::Target) & (name.is_empty() | (offset != 0)) {
+        if matches!(part, AddressPart::Target) & (name.is_empty() | (offset != 0)) {
             return self.named(Naming::Operands, word);
         }
         let mut reference = None;
@@ -200,11 +200,11 @@ impl Source {
         }
         if is_call | (word.starts_with(b"b") & !is_plain) {
             let (inner, _) = first_operand(text);
-            let place = Place {
+            let place = PartOperands {
                 before: &[],
                 inner,
                 behind: &[],
-                part: Part::Target,
+                part: AddressPart::Target,
             };
             return self.referring(word, place);
         }

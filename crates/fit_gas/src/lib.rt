@@ -11,5 +11,7 @@ mod text;
 
 pub use instructions::with_part;
 pub use linking::{Linked, links_of};
-pub use source::{Code, Datum, Fix, Item, Part, Reference, Source, Symbol, SymbolPlace, owned};
+pub use source::{
+    AddressPart, Assembly, CodeBody, CodeItem, Datum, Fix, Reference, Symbol, SymbolPlace, owned,
+};
 pub use text::word_of;

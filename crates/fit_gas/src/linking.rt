@@ -1,12 +1,12 @@
 //! What the names of several files stand for.
-use crate::source::{Source, SymbolPlace};
-use fit_code::{Line, Memory};
+use crate::source::{Assembly, SymbolPlace};
+use fit_code::{Heap, SourceLine};
 use std::collections::BTreeMap;
 
 /// Where the symbols of a source stand, in whichever file.
 #[derive(Drop)]
 pub struct Linked<'l> {
-    source: &'l Source,
+    source: &'l Assembly,
     /// The global names that stand somewhere.
     globals: BTreeMap<&'l str, SymbolPlace>,
 }
@@ -35,9 +35,9 @@ impl Linked<'_> {
 /// Finds where global names stand; and the line and the symbol of the first one that stands at a second place. A name
 /// that stands nowhere is no fault as long as nothing needs it.
 pub fn links_of<'l>(
-    memory: &mut Memory,
-    source: &'l Source,
-) -> (Linked<'l>, Option<(Line, usize)>) {
+    memory: &mut Heap,
+    source: &'l Assembly,
+) -> (Linked<'l>, Option<(SourceLine, usize)>) {
     let mut globals: BTreeMap<&str, SymbolPlace> = BTreeMap::new(memory.alloc);
     let mut second = None;
     for (number, symbol) in source.symbols.as_slice().iter().enumerate() {

@@ -1,6 +1,6 @@
 //! What is read of assembly, before its names are resolved.
 use crate::text::{first_label, first_word, is_name, place_of, shown};
-use fit_code::{Fault, Line, Memory, NO_LINE, Naming, Reason};
+use fit_code::{Fault, Heap, NO_LINE, Naming, Reason, SourceLine};
 use memchr::memchr;
 use std::alloc::{AllocError, Global};
 use std::collections::BTreeMap;
@@ -14,7 +14,7 @@ const ITEMS: usize = 400_000;
 
 /// The part of an address that an instruction takes.
 #[derive(Clone, Copy)]
-pub enum Part {
+pub enum AddressPart {
     /// The place that a branch or a call goes to.
     Target,
     /// `%hi`: the high 22 bits.
@@ -26,26 +26,26 @@ pub enum Part {
 /// What an instruction takes of an address: that of a symbol plus a number.
 #[derive(Clone, Copy)]
 pub struct Reference {
-    pub part: Part,
+    pub part: AddressPart,
     pub symbol: usize,
     pub offset: i64,
 }
 
 /// An instruction, whose number is 0 where a reference is to be filled in.
 #[derive(Clone, Copy)]
-pub struct Item {
+pub struct CodeItem {
     /// The word of the instruction.
     pub word: u32,
-    pub line: Line,
+    pub line: SourceLine,
     pub reference: Option<Reference>,
 }
 
 /// A function as it stands in the assembly.
 #[derive(Drop)]
-pub struct Code {
+pub struct CodeBody {
     pub symbol: usize,
-    pub line: Line,
-    pub items: Vec<Item>,
+    pub line: SourceLine,
+    pub items: Vec<CodeItem>,
 }
 
 /// A word of data that holds an address.
@@ -57,7 +57,7 @@ pub struct Fix {
     pub at: usize,
     pub symbol: usize,
     pub offset: i64,
-    pub line: Line,
+    pub line: SourceLine,
 }
 
 /// An object as it stands in the assembly.
@@ -92,7 +92,7 @@ pub struct Symbol {
     pub is_function: bool,
     pub place: SymbolPlace,
     /// Where it stood first.
-    pub line: Line,
+    pub line: SourceLine,
 }
 
 /// What lines of assembly belong to.
@@ -105,7 +105,7 @@ pub enum Section {
 }
 
 /// A text of its own; an empty one where memory is refused, which is noted.
-pub fn owned(memory: &mut Memory, text: &str) -> String {
+pub fn owned(memory: &mut Heap, text: &str) -> String {
     let mut made = String::new(memory.alloc);
     memory.take(made.push_str(text));
     made
@@ -113,11 +113,11 @@ pub fn owned(memory: &mut Memory, text: &str) -> String {
 
 /// What has been read so far, of one file or of several.
 #[derive(Drop)]
-pub struct Source {
-    pub memory: Memory,
+pub struct Assembly {
+    pub memory: Heap,
     pub files: Vec<String>,
     pub symbols: Vec<Symbol>,
-    pub codes: Vec<Code>,
+    pub codes: Vec<CodeBody>,
     pub objects: Vec<Datum>,
     /// The bytes of all objects.
     pub(crate) bytes: Vec<u8>,
@@ -137,18 +137,18 @@ pub struct Source {
     /// How many instructions the function has that others are added to, the last one; none where they would have none.
     pub(crate) at: Option<usize>,
     /// The line of assembly that is read.
-    place: Line,
+    place: SourceLine,
     /// What is told of it: the line of C where one is known, else that of assembly.
-    pub(crate) line: Line,
+    pub(crate) line: SourceLine,
     /// The first fault but want of memory: what is read behind it counts for nothing.
     fault: Option<Fault>,
 }
 
-impl Source {
+impl Assembly {
     /// Nothing read yet.
-    pub fn new(alloc: Global) -> Source {
-        Source {
-            memory: Memory::new(alloc),
+    pub fn new(alloc: Global) -> Assembly {
+        Assembly {
+            memory: Heap::new(alloc),
             files: Vec::new(alloc),
             symbols: Vec::new(alloc),
             codes: Vec::new(alloc),
@@ -258,7 +258,7 @@ impl Source {
             self.define(name, symbol, SymbolPlace::Function(number));
             self.line = self.place;
             self.at = Some(0);
-            let code = Code {
+            let code = CodeBody {
                 symbol,
                 line: self.place,
                 items: Vec::new(self.memory.alloc),
@@ -312,7 +312,7 @@ impl Source {
         self.section = Section::Code;
         self.start = None;
         self.at = None;
-        self.place = Line { file, number: 0 };
+        self.place = SourceLine { file, number: 0 };
         self.line = self.place;
         let mut start: usize = 0;
         for _ in 0..=text.len() {

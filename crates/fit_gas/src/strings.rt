@@ -1,6 +1,6 @@
 //! The bytes that a string of the assembler stands for.
 use crate::text::unquoted;
-use fit_code::Memory;
+use fit_code::Heap;
 use v8_syntax::{beside, bytes_between};
 
 /// The letters that stand for other bytes behind a backslash.
@@ -36,7 +36,7 @@ fn escaped(text: &[u8]) -> (u8, usize) {
 
 /// Appends the bytes of a string, which stands here in its quotes. False where it has no quotes, and where `\x` is in
 /// it, which isn't read, or a backslash that ends it.
-pub fn push_string(memory: &mut Memory, text: &[u8], out: &mut Vec<u8>) -> bool {
+pub fn push_string(memory: &mut Heap, text: &[u8], out: &mut Vec<u8>) -> bool {
     let Some(mut rest) = unquoted(text) else {
         return false;
     };

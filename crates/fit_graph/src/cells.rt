@@ -8,7 +8,7 @@ mod thresholds;
 use fit_code::hull;
 pub use run::{enter, go_along, return_from, run_step, run_to_call};
 use sbx_range::{Cell, Range};
-pub use shape::Shape;
+pub use shape::FunctionShape;
 pub use thresholds::{Growth, Thresholds, thresholds_of};
 
 /// The range of a location among cells that stand by location.

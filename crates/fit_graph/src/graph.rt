@@ -6,7 +6,7 @@ mod reach;
 mod tangles;
 
 pub use back::Graph;
-use fit_code::{Function, Memory};
+use fit_code::{Function, Heap};
 pub use loops::Loop;
 pub use reach::reached_from;
 use std::alloc::{AllocError, Global};
@@ -57,7 +57,7 @@ pub(crate) enum Listed {
     Targets,
 }
 
-pub(crate) fn list(memory: &mut Memory, function: &Function, listed: Listed) -> Vec<Vec<usize>> {
+pub(crate) fn list(memory: &mut Heap, function: &Function, listed: Listed) -> Vec<Vec<usize>> {
     let count = function.blocks.len();
     let Ok(mut lists) = vec![in memory.alloc; Vec::new(memory.alloc); count] else {
         memory.is_refused = true;
@@ -82,20 +82,20 @@ pub(crate) fn list(memory: &mut Memory, function: &Function, listed: Listed) -> 
 
 /// For each block those that control comes from, each as often as it does.
 pub fn predecessors_of(alloc: Global, function: &Function) -> Result<Vec<Vec<usize>>, AllocError> {
-    let mut memory = Memory::new(alloc);
+    let mut memory = Heap::new(alloc);
     let lists = list(&mut memory, function, Listed::Sources);
     memory.told(lists)
 }
 
 /// For each block those that control may go to, where a branch is taken first.
 pub fn successors_of(alloc: Global, function: &Function) -> Result<Vec<Vec<usize>>, AllocError> {
-    let mut memory = Memory::new(alloc);
+    let mut memory = Heap::new(alloc);
     let lists = list(&mut memory, function, Listed::Targets);
     memory.told(lists)
 }
 
 /// The order of a function's blocks: reverse postorder, from the first block on.
-pub(crate) fn order_in(memory: &mut Memory, function: &Function) -> Order {
+pub(crate) fn order_in(memory: &mut Heap, function: &Function) -> Order {
     let mut found = memory.repeat(None, function.blocks.len());
     let mut blocks = Vec::new(memory.alloc);
     let places = found.as_mut_slice();
@@ -124,7 +124,7 @@ pub(crate) fn order_in(memory: &mut Memory, function: &Function) -> Order {
 
 /// The order of a function's blocks: reverse postorder, from the first block on.
 pub fn order_of(alloc: Global, function: &Function) -> Result<Order, AllocError> {
-    let mut memory = Memory::new(alloc);
+    let mut memory = Heap::new(alloc);
     let order = order_in(&mut memory, function);
     memory.told(order)
 }

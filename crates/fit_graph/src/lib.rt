@@ -9,12 +9,14 @@ mod live;
 mod means;
 
 pub use cells::{
-    Growth, Shape, Thresholds, enter, go_along, join, range_in, return_from, run_step, run_to_call,
-    thresholds_of,
+    FunctionShape, Growth, Thresholds, enter, go_along, join, range_in, return_from, run_step,
+    run_to_call, thresholds_of,
 };
 pub use graph::{
     Graph, Loop, Order, Tangle, order_of, predecessors_of, reached_from, successors_in,
     successors_of, tangle_of,
 };
-pub use live::{Counts, Effects, Locations, effects_in, effects_of, find_live, read_at_end};
+pub use live::{
+    Effects, LocationSet, RegisterCounts, effects_in, effects_of, find_live, read_at_end,
+};
 pub use means::Means;

@@ -4,5 +4,5 @@ mod liveness;
 mod locations;
 
 pub use effects::{Effects, effects_in, effects_of};
-pub use liveness::{Counts, find_live, read_at_end};
-pub use locations::Locations;
+pub use liveness::{RegisterCounts, find_live, read_at_end};
+pub use locations::LocationSet;

@@ -1,19 +1,19 @@
 //! What looking for something takes.
-use fit_code::{Fault, Line, Memory, Reason};
+use fit_code::{Fault, Heap, Reason, SourceLine};
 use std::alloc::AllocError;
 
 /// Memory, and rounds, which may be too many. Either is told when all is done: where something lacks, nothing more is
 /// looked for.
 #[derive(Clone, Copy)]
 pub struct Means {
-    pub memory: Memory,
+    pub memory: Heap,
     /// What there were too many of, how many there may be, and at which line.
-    pub spent: Option<(Line, &'static str, u64)>,
+    pub spent: Option<(SourceLine, &'static str, u64)>,
 }
 
 impl Means {
     /// More than so many of something were to be made, if nothing lacked before.
-    pub fn spend(&mut self, line: Line, what: &'static str, most: u64) {
+    pub fn spend(&mut self, line: SourceLine, what: &'static str, most: u64) {
         if !self.are_used_up() {
             self.spent = Some((line, what, most));
         }

@@ -4,7 +4,7 @@ ghost use Rattle.sbx_asm.specs.Items.{lines_of};
 ghost use Rattle.sbx_asm.specs.Images.{source_image};
 ghost use Rattle.fit_kept.specs.Lines.{IsAnnotated, without};
 
-use crate::annotation::{Addition, Total};
+use crate::annotation::{Addition, FunctionTotal};
 use crate::inserting::insert;
 use fit_code::Fault;
 use sbx_asm::{AsmFault, assemble};
@@ -12,7 +12,7 @@ use std::alloc::Global;
 
 /// Why there is no annotated source.
 #[derive(Drop)]
-pub enum Refusal {
+pub enum AnnotationRefusal {
     /// The assembler refuses the source.
     Source(AsmFault),
     /// A word has no place in a program, something that was found none in the source, or memory was refused.
@@ -32,18 +32,18 @@ pub fn annotate(
     alloc: Global,
     source: &[u8],
     additions: &[Addition],
-    totals: &[Total],
-) -> Result<Vec<u8>, Refusal>
+    totals: &[FunctionTotal],
+) -> Result<Vec<u8>, AnnotationRefusal>
     ensures stays { IfOk result (λ made. IsAnnotated (lines_of source.now) (lines_of made.items)) }
     ensures without { IfOk result (λ made. without (lines_of made.items) ≡ without (lines_of source.now)) }
     ensures means { IfOk result (λ made. IsOk (source_image made.items)) }
 {
     let made = match insert(alloc, source, additions, totals) {
         Ok(made) => made,
-        Err(fault) => return Err(Refusal::Program(fault)),
+        Err(fault) => return Err(AnnotationRefusal::Program(fault)),
     };
     match assemble(alloc, made.as_slice()) {
         Ok(_image) => Ok(made),
-        Err(fault) => Err(Refusal::Made(fault)),
+        Err(fault) => Err(AnnotationRefusal::Made(fault)),
     }
 }

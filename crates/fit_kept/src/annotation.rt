@@ -26,7 +26,7 @@ pub struct Addition {
 
 /// What the `.function` of a line, from 1, says of its stack room and its budget.
 #[derive(Clone, Copy)]
-pub struct Total {
+pub struct FunctionTotal {
     pub line: usize,
     pub room: u64,
     pub budget: u64,

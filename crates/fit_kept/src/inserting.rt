@@ -3,10 +3,10 @@ ghost use Rattle.std.specs.Prelude.{IfOk};
 ghost use Rattle.sbx_asm.specs.Items.{lines_of};
 ghost use Rattle.fit_kept.specs.Lines.{IsAnnotated};
 
-use crate::annotation::{Addition, Total, Value};
+use crate::annotation::{Addition, FunctionTotal, Value};
 use crate::keeping::is_annotated;
 use crate::lines::parts_of;
-use fit_code::{Fault, Memory, NO_LINE, Reason};
+use fit_code::{Fault, Heap, NO_LINE, Reason};
 use inspect_image::{Bounds, Location};
 use sbx_asm::first_line;
 use std::alloc::Global;
@@ -21,7 +21,7 @@ struct Inserting<'t> {
     additions: &'t [Addition],
     /// Which of the additions is the next one.
     next: usize,
-    memory: Memory,
+    memory: Heap,
 }
 
 impl Inserting<'_> {
@@ -58,7 +58,7 @@ impl Inserting<'_> {
 
     /// Adds a line with other numbers for a function's stack room and its budget. Adds nothing where the language has
     /// no such line. Says how much of the line is done with.
-    fn push_filled(&mut self, line: &[u8], total: &Total) -> usize {
+    fn push_filled(&mut self, line: &[u8], total: &FunctionTotal) -> usize {
         let (before, memory) = (self.text.len(), &mut self.memory);
         let Some(parts) = parts_of(memory.alloc, line, &mut memory.is_refused) else {
             return 0;
@@ -86,7 +86,7 @@ pub fn insert(
     alloc: Global,
     source: &[u8],
     additions: &[Addition],
-    totals: &[Total],
+    totals: &[FunctionTotal],
 ) -> Result<Vec<u8>, Fault>
     ensures { IfOk result (λ made. IsAnnotated (lines_of source.now) (lines_of made.items)) }
 {
@@ -94,7 +94,7 @@ pub fn insert(
         text: Vec::new(alloc),
         additions,
         next: 0,
-        memory: Memory::new(alloc),
+        memory: Heap::new(alloc),
     };
     let (mut rest, mut number, mut filled) = (source, 0usize, 0);
     'lines: while !rest.is_empty() {

@@ -8,7 +8,7 @@ mod inserting;
 mod keeping;
 mod lines;
 
-pub use annotating::{Refusal, annotate};
-pub use annotation::{Addition, Annotation, Total, Value};
+pub use annotating::{AnnotationRefusal, annotate};
+pub use annotation::{Addition, Annotation, FunctionTotal, Value};
 pub use inserting::insert;
 pub use keeping::is_annotated;

@@ -40,7 +40,7 @@ pub fn is_annotation(alloc: Global, line: &[u8], lacks: &mut bool) -> bool
 
 /// What stands before, between and behind the numbers of a `.function` for its stack room and its budget.
 #[derive(Clone, Copy)]
-pub struct Parts<'l> {
+pub struct FunctionLine<'l> {
     pub before: &'l [u8],
     pub between: &'l [u8],
     pub behind: &'l [u8],
@@ -48,7 +48,7 @@ pub struct Parts<'l> {
 
 /// The parts of a line; none where it is no `.function`, or memory was refused, which is noted.
 #[tactic(auto, unfolding(crate::specs::Lines::bare, crate::specs::Lines::is_annotation))]
-pub fn parts_of<'l>(alloc: Global, line: &'l [u8], lacks: &mut bool) -> Option<Parts<'l>>
+pub fn parts_of<'l>(alloc: Global, line: &'l [u8], lacks: &mut bool) -> Option<FunctionLine<'l>>
     ensures stays { IfSome result (λ parts. is_annotation line.now ≡ false) }
     ensures bare { IfSome result (λ parts. bare line.now
         ≡ parts.before.now ++ (48 ∷ []) ++ parts.between.now ++ (48 ∷ []) ++ parts.behind.now) }
@@ -70,7 +70,7 @@ pub fn parts_of<'l>(alloc: Global, line: &'l [u8], lacks: &mut bool) -> Option<P
         return None;
     }
     let (room, budget) = (tokens[count - 3], tokens[count - 1]);
-    Some(Parts {
+    Some(FunctionLine {
         before: bytes_between(line, 0, room.start),
         between: bytes_between(line, room.stop, budget.start),
         behind: bytes_between(line, budget.stop, line.len()),

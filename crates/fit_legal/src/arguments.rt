@@ -1,7 +1,7 @@
 //! Arguments in memory. Nothing recurses, so each function has one place in the data for the arguments that its
 //! callers leave at `%sp + 64` and behind: the address of a struct that is returned, the seventh argument and
 //! further ones.
-use fit_blocks::{Access, access_of, signed};
+use fit_blocks::{MemoryAccess, access_of, signed};
 use fit_code::{Block, End, Step};
 use v8_formats::{Instr, Operand, Three, Upper, decode, encode};
 use v8_word::{Reg, reg_at};
@@ -58,11 +58,11 @@ pub fn in_object(object: usize, address: u32, step: &Step, made: Option<Reg>) ->
 
 /// What a step reaches in the data: the number of an object, or of the function whose arguments it is; the place there;
 /// the register that the step leaves the place's address in, where it makes that alone; and what goes on with it there.
-pub type Reached = (usize, i64, Option<Reg>, Option<Step>);
+pub type ReachedPlace = (usize, i64, Option<Reg>, Option<Step>);
 
 /// The place of an access among the arguments in memory behind a register, where it names that register and a number,
 /// and its bytes are arguments.
-fn argument_at(access: &Access, register: Reg) -> Option<i64> {
+fn argument_at(access: &MemoryAccess, register: Reg) -> Option<i64> {
     let Operand::Immediate(number) = access.fields.operand2 else {
         return None;
     };
@@ -106,10 +106,10 @@ pub fn argument_of(
     number: usize,
     (block, place): (usize, usize),
     step: &Step,
-) -> Result<Option<Reached>, &'static str> {
+) -> Result<Option<ReachedPlace>, &'static str> {
     let (access, made) = match step.instr {
         Instr::Add(fields) if fields.rd != Reg::SP => {
-            let access = Access {
+            let access = MemoryAccess {
                 fields,
                 bytes: 0,
                 stores: false,

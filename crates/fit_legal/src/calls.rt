@@ -1,12 +1,12 @@
 //! Which functions that compilers wrote call which.
-use fit_blocks::{Stop, Stops, name_of};
-use fit_code::{Line, NO_LINE, Naming};
-use fit_gas::{Linked, Part, Source, SymbolPlace, owned};
+use fit_blocks::{Obstacle, Stops, name_of};
+use fit_code::{NO_LINE, Naming, SourceLine};
+use fit_gas::{AddressPart, Assembly, Linked, SymbolPlace, owned};
 use v8_formats::{Instr, decode};
 
 /// A function that a walk is in, up to its item of a number.
 #[derive(Clone, Copy)]
-struct Progress {
+struct VisitedFunction {
     code: usize,
     /// A symbol that it is called by.
     symbol: usize,
@@ -15,12 +15,12 @@ struct Progress {
 
 /// A walk over the functions that are called, up to what stops it.
 #[derive(Drop)]
-struct Walk<'s, 'w, 'l> {
+struct CallWalk<'s, 'w, 'l> {
     stops: &'w mut Stops,
-    source: &'s Source,
+    source: &'s Assembly,
     linked: &'w Linked<'l>,
     /// The functions that the walk is in, each called by the one before it.
-    open: Vec<Progress>,
+    open: Vec<VisitedFunction>,
     /// For each function whether the walk came to it.
     entered: Vec<bool>,
     /// Functions that were left, callees before their callers.
@@ -29,10 +29,10 @@ struct Walk<'s, 'w, 'l> {
     before: String,
 }
 
-impl Walk<'_, '_, '_> {
+impl CallWalk<'_, '_, '_> {
     /// Notes that functions call each other in a round, where the walk is in one that is called at a line, with their
     /// names from that one on.
-    fn note_round(&mut self, callee: usize, symbol: usize, line: Line) {
+    fn note_round(&mut self, callee: usize, symbol: usize, line: SourceLine) {
         let mut is_round = false;
         for progress in self.open.as_slice() {
             is_round |= progress.code == callee;
@@ -44,21 +44,21 @@ impl Walk<'_, '_, '_> {
         }
         if is_round {
             self.stops
-                .note(line, Stop::Named(Naming::Recursion, symbol));
+                .note(line, Obstacle::Named(Naming::Recursion, symbol));
         }
     }
 
     /// Goes on to the function that is called by a symbol at a line.
-    fn go_into(&mut self, symbol: usize, line: Line) {
+    fn go_into(&mut self, symbol: usize, line: SourceLine) {
         let SymbolPlace::Function(code) = self.linked.place(symbol) else {
             return self
                 .stops
-                .note(line, Stop::Named(Naming::NotDefined, symbol));
+                .note(line, Obstacle::Named(Naming::NotDefined, symbol));
         };
         let entered = self.entered.as_mut_slice();
         if code < entered.len() && !entered[code] {
             entered[code] = true;
-            let progress = Progress {
+            let progress = VisitedFunction {
                 code,
                 symbol,
                 place: 0,
@@ -82,10 +82,10 @@ impl Walk<'_, '_, '_> {
                 && let Some(item) = code.items.get(progress.place)
             {
                 let place = progress.place.saturating_add(1);
-                let progress = Progress { place, ..progress };
+                let progress = VisitedFunction { place, ..progress };
                 self.stops.memory.push(&mut self.open, progress);
                 if let Some(reference) = item.reference
-                    && matches!(reference.part, Part::Target)
+                    && matches!(reference.part, AddressPart::Target)
                     && matches!(decode(item.word), Instr::Call(_))
                     && self.stops.first.is_none()
                 {
@@ -103,13 +103,13 @@ impl Walk<'_, '_, '_> {
 /// an entry that does. What is told before the name that is noted comes with it.
 pub fn order_of_calls(
     stops: &mut Stops,
-    source: &Source,
+    source: &Assembly,
     linked: &Linked,
     entry: &str,
 ) -> (Vec<usize>, String) {
     let alloc = stops.memory.alloc;
     let entered = stops.memory.repeat(false, source.codes.len());
-    let mut walk = Walk {
+    let mut walk = CallWalk {
         stops,
         source,
         linked,
@@ -125,7 +125,7 @@ pub fn order_of_calls(
             walk.go_into(code.symbol, NO_LINE);
         } else {
             walk.before = owned(&mut walk.stops.memory, entry);
-            let none = Stop::Named(Naming::NoEntry, source.symbols.len());
+            let none = Obstacle::Named(Naming::NoEntry, source.symbols.len());
             walk.stops.note(NO_LINE, none);
         }
     }

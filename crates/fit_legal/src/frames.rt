@@ -1,6 +1,6 @@
 //! Frames. Words that are only spilled stay in the frame; where an address in it is taken, or other sizes are, the
 //! frame's memory goes to the data, since nothing recurses.
-use crate::arguments::{BYTES, Reached, argument_of, in_object, scratch};
+use crate::arguments::{BYTES, ReachedPlace, argument_of, in_object, scratch};
 use crate::places::{
     SAVE_AREA, STACK, STACK_POINTER, address_made, by_scratch, place_accessed, word_place,
     word_step,
@@ -18,7 +18,7 @@ const MOST: i64 = 262_144;
 
 /// How the steps of a function are put otherwise.
 #[derive(Clone, Copy)]
-enum Way {
+enum FrameWay {
     /// Accesses to arguments in memory, of the function of a number in the source.
     Arguments(usize),
     /// Those that spill words to a frame of so many bytes, by %sp.
@@ -58,7 +58,7 @@ fn uses_frame(step: &Step) -> bool {
 ///
 /// # Errors
 /// An address in the frame in a form that isn't known, and an access outside of it.
-fn reached(step: &Step, object: usize, size: u32) -> Result<Option<Reached>, &'static str> {
+fn reached(step: &Step, object: usize, size: u32) -> Result<Option<ReachedPlace>, &'static str> {
     if !uses_frame(step) {
         return Ok(None);
     }
@@ -114,13 +114,13 @@ fn push_placed(
     layout: &mut Layout,
     steps: &mut Vec<Step>,
     blocks: &[Block],
-    (framed, way): (bool, Way),
+    (framed, way): (bool, FrameWay),
     at: (usize, usize),
     step: &Step,
 ) {
     let found = match way {
         _ if takes_room(framed, step) => return,
-        Way::Spills(size) => {
+        FrameWay::Spills(size) => {
             let (first, second) = spilled(step, size);
             layout.stops.memory.push(steps, first);
             if let Some(second) = second {
@@ -128,13 +128,13 @@ fn push_placed(
             }
             return;
         }
-        Way::Object(object, size) => reached(step, object, size),
-        Way::Arguments(number) => argument_of(blocks, framed, number, at, step),
+        FrameWay::Object(object, size) => reached(step, object, size),
+        FrameWay::Arguments(number) => argument_of(blocks, framed, number, at, step),
     };
     match found {
         Ok(Some((whose, offset, made, moved))) => {
             let object = match way {
-                Way::Arguments(_) => layout.arguments_of(whose, BYTES, step.line),
+                FrameWay::Arguments(_) => layout.arguments_of(whose, BYTES, step.line),
                 _ => whose,
             };
             let address = layout.address(object, offset);
@@ -151,7 +151,7 @@ fn push_placed(
 }
 
 /// Puts the steps of a function otherwise.
-fn place_steps(layout: &mut Layout, function: &mut Function, way: Way) {
+fn place_steps(layout: &mut Layout, function: &mut Function, way: FrameWay) {
     let framed = function.framed;
     for number in 0..function.blocks.len() {
         let mut steps = Vec::new(layout.stops.memory.alloc);
@@ -201,19 +201,19 @@ fn room_of(stops: &mut Stops, function: &Function) -> Option<u32> {
 pub fn place_frame(layout: &mut Layout, function: &mut Function, number: usize) {
     let room = room_of(&mut layout.stops, function);
     if room.is_none() {
-        place_steps(layout, function, Way::Arguments(number));
+        place_steps(layout, function, FrameWay::Arguments(number));
     }
     let size = room.unwrap_or(function.frame);
     let (is_used, is_more) = use_of(&mut layout.stops, function, size);
     let stays = is_used & !is_more & function.framed & (size % 8 == 0);
     let way = if stays | !is_used {
-        Way::Spills(size)
+        FrameWay::Spills(size)
     } else {
         let mut name = owned(&mut layout.stops.memory, "frame of ");
         let pushed = name.push_str(function.name.as_str());
         layout.stops.memory.take(pushed);
         let object = layout.add(name, 8, &[], size as usize, function.line);
-        Way::Object(object, size)
+        FrameWay::Object(object, size)
     };
     place_steps(layout, function, way);
     if function.framed & !stays {

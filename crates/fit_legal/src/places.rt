@@ -1,6 +1,6 @@
 //! Places in the frames of functions that compilers wrote.
 use crate::arguments::{scratch, with_operands};
-use fit_blocks::{Access, access_of, bit_of, signed};
+use fit_blocks::{MemoryAccess, access_of, bit_of, signed};
 use fit_code::Step;
 use fit_gas::word_of;
 use v8_formats::{Instr, Operand, Three, encode, three_of};
@@ -29,7 +29,7 @@ fn base_of(register: Reg, size: u32) -> Option<i64> {
 }
 
 /// The access that an instruction makes, and where its bytes are, from %sp on.
-pub fn place_accessed(instr: &Instr, size: u32) -> Option<(Access, i64)> {
+pub fn place_accessed(instr: &Instr, size: u32) -> Option<(MemoryAccess, i64)> {
     let access = access_of(instr)?;
     let fields = access.fields;
     match (fields.operand2, base_of(fields.rs1, size)) {
@@ -41,9 +41,9 @@ pub fn place_accessed(instr: &Instr, size: u32) -> Option<(Access, i64)> {
 }
 
 /// An access to whole words of the frame, which may stay there, and where they are.
-pub fn word_place(instr: &Instr, size: u32) -> Option<(Access, i64)> {
+pub fn word_place(instr: &Instr, size: u32) -> Option<(MemoryAccess, i64)> {
     let (access, place) = place_accessed(instr, size)?;
-    let Access { fields, bytes, .. } = access;
+    let MemoryAccess { fields, bytes, .. } = access;
     let end = place.saturating_add(i64::from(bytes));
     let moves_words = (bytes >= 4) & !matches!(instr, Instr::Swap(_));
     let lies_within = (i64::from(SAVE_AREA) <= place) & (end <= i64::from(size.min(FRAME)));

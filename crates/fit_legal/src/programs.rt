@@ -3,11 +3,11 @@
 use crate::calls::order_of_calls;
 use crate::frames::place_frame;
 use fit_blocks::{
-    Layout, Stop, Stops, bit_of, function_of, give_one_entry, layout_of, operands_read, push_plain,
-    repeat_compares, result_register, step_of,
+    Layout, Obstacle, Stops, bit_of, function_of, give_one_entry, layout_of, operands_read,
+    push_plain, repeat_compares, result_register, step_of,
 };
 use fit_code::{End, Fault, Function, Program};
-use fit_gas::Source;
+use fit_gas::Assembly;
 use fit_graph::{Effects, effects_of};
 use std::alloc::Global;
 use v8_formats::{Instr, Operand, Three};
@@ -74,7 +74,7 @@ fn add_all(layout: &mut Layout, functions: &mut Vec<Function>, order: &[usize]) 
     {
         layout
             .stops
-            .note(code.line, Stop::TooMany("functions", 256));
+            .note(code.line, Obstacle::TooMany("functions", 256));
     }
     for number in order {
         if layout.stops.first.is_none()
@@ -98,7 +98,7 @@ fn add_all(layout: &mut Layout, functions: &mut Vec<Function>, order: &[usize]) 
 /// What can't be made legal, with its line: recursion; a call or a jump through a register; the address of a
 /// function; an array whose size isn't constant; an instruction that sandboxed code may not have; a name that
 /// stands nowhere; a form that compilers don't write; more functions, or bytes of data, than an image may have.
-pub fn program_of(alloc: Global, source: &Source, entry: &str) -> Result<Program, Fault> {
+pub fn program_of(alloc: Global, source: &Assembly, entry: &str) -> Result<Program, Fault> {
     let mut layout = layout_of(source);
     let mut stops = layout.stops;
     let (order, before) = order_of_calls(&mut stops, source, &layout.linked, entry);

@@ -1,9 +1,9 @@
 //! All passes over a program, one after the other: from compiler-made code to an annotated source.
 use crate::metering::insert_meter;
 use crate::placing::{fill, place};
-use fit_checks::{Options, Test, add_tests};
+use fit_checks::{Test, TestOptions, add_tests};
 pub use fit_code::{Fault, Reason};
-use fit_code::{Function, Memory, NO_LINE, Program};
+use fit_code::{Function, Heap, NO_LINE, Program};
 use fit_fuel::{Meter, bounds_of, declare, refused};
 use fit_ranges::Ranges;
 use fit_text::source_of;
@@ -30,7 +30,7 @@ const NO_REGISTER: &str = "no register is left to count its turns in";
 
 /// How a program is fitted.
 #[derive(Clone, Copy)]
-pub struct Plan {
+pub struct FitPlan {
     pub turns: u64,
     pub by_object: bool,
     /// Whether loops that a counter bounds go without the meter.
@@ -67,12 +67,12 @@ fn share_out(shares: &mut [u64], function: &Function, turns: u64) {
 fn insert_meters(
     alloc: Global,
     program: &mut Program,
-    plan: Plan,
+    plan: FitPlan,
     ranges: &Ranges,
     meters: &mut Vec<Option<Meter>>,
     state: &mut State,
 ) -> Result<(), Fault> {
-    let mut memory = Memory::new(alloc);
+    let mut memory = Heap::new(alloc);
     let mut shares = memory.repeat(plan.turns, program.functions.len());
     let shares = shares.as_mut_slice();
     let mut lacking = None;
@@ -107,7 +107,7 @@ fn insert_meters(
 
 /// Places the blocks of each function.
 fn place_all(alloc: Global, program: &mut Program) -> Result<(), AllocError> {
-    let mut memory = Memory::new(alloc);
+    let mut memory = Heap::new(alloc);
     for function in program.functions.iter_mut() {
         place(&mut memory, function);
     }
@@ -120,7 +120,7 @@ fn place_all(alloc: Global, program: &mut Program) -> Result<(), AllocError> {
 fn settle_places(
     alloc: Global,
     program: &mut Program,
-    options: Options,
+    options: TestOptions,
     ranges: &mut Ranges,
     state: &mut State,
 ) -> Result<(), Fault> {
@@ -147,12 +147,12 @@ fn write_source(
     alloc: Global,
     program: &mut Program,
     tests: &mut Vec<Test>,
-    plan: Plan,
+    plan: FitPlan,
     ranges: &mut Ranges,
     meters: &mut Vec<Option<Meter>>,
     state: &mut State,
 ) -> Result<(String, u64), Fault> {
-    let mut options = Options {
+    let mut options = TestOptions {
         by_object: plan.by_object,
         drops: true,
     };
@@ -160,7 +160,7 @@ fn write_source(
     insert_meters(alloc, program, plan, ranges, meters, state)?;
     options.drops = false;
     settle_places(alloc, program, options, ranges, state)?;
-    let mut memory = Memory::new(alloc);
+    let mut memory = Heap::new(alloc);
     fill(&mut memory, program, ranges);
     memory.told(()).and(ranges.store(program))?;
     let notes = declare(alloc, program, ranges, meters.as_slice(), state)?;
@@ -179,7 +179,7 @@ fn fit(
     alloc: Global,
     program: &mut Program,
     tests: &mut Vec<Test>,
-    plan: Plan,
+    plan: FitPlan,
 ) -> Result<(String, u64), Fault> {
     let mut state = State::new(alloc)?;
     let mut ranges = Ranges::of(alloc, program, &mut state)?;
@@ -189,7 +189,7 @@ fn fit(
 }
 
 /// Makes an annotated source of a program.
-pub fn make(alloc: Global, mut program: Program, plan: Plan) -> Result<Made, Fault> {
+pub fn make(alloc: Global, mut program: Program, plan: FitPlan) -> Result<Made, Fault> {
     let mut tests = Vec::new(alloc);
     match fit(alloc, &mut program, &mut tests, plan) {
         Ok((text, budget)) => Ok(Made {

@@ -3,7 +3,7 @@ mod filling;
 
 pub use filling::fill;
 use fit_checks::{insert_instr, push_block};
-use fit_code::{Block, End, Function, Memory, opposite};
+use fit_code::{Block, End, Function, Heap, opposite};
 use fit_graph::Graph;
 use std::mem;
 use v8_formats::{Instr, Reg, Upper};
@@ -58,7 +58,7 @@ fn number_of(numbers: &[Option<usize>], block: usize) -> Option<usize> {
 /// goes on to, if that isn't placed. A branch whose next block stands elsewhere is turned; behind one both of whose
 /// blocks stand elsewhere comes a block that jumps to the next one.
 fn follow(
-    memory: &mut Memory,
+    memory: &mut Heap,
     blocks: &mut [Block],
     mut at: usize,
     numbers: &mut [Option<usize>],
@@ -115,7 +115,7 @@ fn renumber(placed: &mut [Block], numbers: &[Option<usize>]) {
 /// Puts the blocks of a function in an order in which control mostly goes on to the next one, without those that
 /// nothing goes to and those that do nothing. The next block of a branch stands behind it; a jump to the block behind
 /// it is no instruction. A leaf's first block has an instruction, also where it only goes on to the next block.
-pub fn place(memory: &mut Memory, function: &mut Function) {
+pub fn place(memory: &mut Heap, function: &mut Function) {
     straighten(function.blocks.as_mut_slice());
     let order = Graph::of(memory, function).order;
     let blocks = function.blocks.as_mut_slice();

@@ -2,11 +2,11 @@
 //! domain along all ways until nothing new comes. What callees give back and what the function is called with is told.
 mod known;
 
-use crate::flow::known::{Known, replace, touched_in};
-use fit_code::{End, Function, Memory, hull};
+use crate::flow::known::{BlockRanges, replace, touched_in};
+use fit_code::{End, Function, Heap, hull};
 use fit_graph::{
-    Growth, Means, Shape, Thresholds, enter, go_along, join, range_in, return_from, run_step,
-    run_to_call, successors_in,
+    FunctionShape, Growth, Means, Thresholds, enter, go_along, join, range_in, return_from,
+    run_step, run_to_call, successors_in,
 };
 use sbx_domain::State;
 use sbx_range::{Cell, Range, all};
@@ -19,9 +19,9 @@ const PATIENCE: u32 = 400;
 
 /// What a function is analysed by: itself, where its ranges may stop, and what calls give it.
 #[derive(Clone, Copy)]
-pub struct Setting<'a> {
+pub struct Analysis<'a> {
     pub function: &'a Function,
-    pub shape: &'a Shape,
+    pub shape: &'a FunctionShape,
     pub thresholds: &'a Thresholds,
     pub results: &'a [Vec<Range>],
     /// Of each block the cells that are said, by location: their ranges are those and no others. None of blocks that
@@ -61,9 +61,9 @@ impl Pending {
 
 /// What is known of one function.
 #[derive(Drop)]
-pub struct Flow {
+pub struct FunctionRanges {
     /// What is known of each block.
-    pub blocks: Vec<Known>,
+    pub blocks: Vec<BlockRanges>,
     /// What the function is called with, in %o0, %o1, ..
     pub params: Vec<Range>,
     pending: Pending,
@@ -113,10 +113,10 @@ pub fn at<T>(lists: &[Vec<T>], place: usize) -> &[T] {
     }
 }
 
-impl Flow {
+impl FunctionRanges {
     /// Nothing is known, and of no function.
-    pub fn nothing(alloc: Global) -> Flow {
-        Flow {
+    pub fn nothing(alloc: Global) -> FunctionRanges {
+        FunctionRanges {
             blocks: Vec::new(alloc),
             params: Vec::new(alloc),
             pending: Pending {
@@ -145,9 +145,9 @@ impl Flow {
     /// and those from which ways lead to where other locations are live.
     pub fn renew(
         &mut self,
-        memory: &mut Memory,
-        (number, shape): (usize, &Shape),
-        before: &[Shape],
+        memory: &mut Heap,
+        (number, shape): (usize, &FunctionShape),
+        before: &[FunctionShape],
         changed: &[(usize, usize)],
     ) {
         let live = shape.live.as_slice();
@@ -164,7 +164,7 @@ impl Flow {
         self.pending.blocks = memory.repeat(false, live.len());
         for block in 0..live.len() {
             if block >= self.blocks.len() {
-                memory.push(&mut self.blocks, Known::nothing());
+                memory.push(&mut self.blocks, BlockRanges::nothing());
             }
             let is_new = block >= live_before.len();
             let sources = at(shape.sources.as_slice(), block);
@@ -228,8 +228,8 @@ impl Flow {
     /// What is known where a way of a block ends, of what is live there; nothing where it can't be gone.
     fn found_along(
         &self,
-        setting: &Setting,
-        memory: &mut Memory,
+        setting: &Analysis,
+        memory: &mut Heap,
         (block, way, to): (usize, usize, usize),
         state: &mut State,
     ) -> Option<Vec<Cell>> {
@@ -256,8 +256,8 @@ impl Flow {
     /// them can be gone.
     fn common(
         &self,
-        memory: &mut Memory,
-        shape: &Shape,
+        memory: &mut Heap,
+        shape: &FunctionShape,
         block: usize,
         before: usize,
     ) -> Option<Vec<Cell>> {
@@ -284,8 +284,8 @@ impl Flow {
     /// joined: what only grows by the ways back goes there. Cells that are said have the ranges that are said.
     fn new_cells(
         &self,
-        setting: &Setting,
-        memory: &mut Memory,
+        setting: &Analysis,
+        memory: &mut Heap,
         (grow, place, block): (bool, usize, usize),
     ) -> Option<Vec<Cell>> {
         let mut cells = self.common(memory, setting.shape, block, usize::MAX)?;
@@ -323,8 +323,8 @@ impl Flow {
     /// end are to be visited, if they stand in the stretch.
     fn visit(
         &mut self,
-        setting: &Setting,
-        memory: &mut Memory,
+        setting: &Analysis,
+        memory: &mut Heap,
         (grow, place, block): (bool, usize, usize),
         state: &mut State,
     ) {
@@ -361,7 +361,7 @@ impl Flow {
     }
 
     /// Visits each block of the stretch, and again those that are to be visited, the first one first, until none is.
-    fn visit_all(&mut self, setting: &Setting, means: &mut Means, grow: bool, state: &mut State) {
+    fn visit_all(&mut self, setting: &Analysis, means: &mut Means, grow: bool, state: &mut State) {
         let (order, end) = (setting.shape.order.blocks.as_slice(), self.pending.end);
         let most = end.saturating_add(1).saturating_mul(2_000);
         let mut visits: usize = 0;
@@ -394,8 +394,8 @@ impl Flow {
     /// Looks for what callees are given, and what returns leave: in each block that control comes to.
     fn summarize(
         &self,
-        setting: &Setting,
-        memory: &mut Memory,
+        setting: &Analysis,
+        memory: &mut Heap,
         state: &mut State,
     ) -> (Vec<Call>, Option<[Range; 6]>) {
         let (function, mut calls, mut returned) = (setting.function, Vec::new(memory.alloc), None);
@@ -427,7 +427,7 @@ impl Flow {
     }
 
     /// Forgets what is known of the blocks of the stretch.
-    fn forget_stretch(&mut self, setting: &Setting) {
+    fn forget_stretch(&mut self, setting: &Analysis) {
         let order = setting.shape.order.blocks.as_slice();
         let codes = setting.function.blocks.as_slice();
         let blocks = self.blocks.as_mut_slice();
@@ -442,7 +442,7 @@ impl Flow {
     }
 
     /// The blocks behind the stretch are to be visited to which something else comes than before it was forgotten.
-    fn mark_behind(&mut self, setting: &Setting) {
+    fn mark_behind(&mut self, setting: &Analysis) {
         let (order, blocks) = (&setting.shape.order, self.blocks.as_slice());
         let places = order.blocks.as_slice();
         let start = self.pending.start.saturating_mul(2);
@@ -474,7 +474,7 @@ impl Flow {
     /// that what stands before it is looked at once. Its ranges are found anew, by what comes into it: first they grow,
     /// then they get narrower, and then they grow again, where that broke something. Where something else comes out of
     /// it than before, that is to be visited.
-    pub fn settle(&mut self, setting: &Setting, means: &mut Means, state: &mut State) {
+    pub fn settle(&mut self, setting: &Analysis, means: &mut Means, state: &mut State) {
         let order = setting.shape.order.blocks.as_slice();
         let mut is_asked = false;
         self.pending.end = 0;

@@ -3,10 +3,10 @@
 mod objects;
 mod trace;
 
-use crate::origin::trace::Operands;
+use crate::origin::trace::OperandRanges;
 use fit_code::{Block, Step};
 use fit_graph::effects_in;
-pub use objects::{Bounds, bounds_in_constants, bounds_of, end_of, named_object};
+pub use objects::{WordBounds, bounds_in_constants, bounds_of, end_of, named_object};
 use sbx_range::{Range, is_single};
 pub use trace::{Trace, operands_of, trace_of};
 use v8_formats::Operand;
@@ -31,7 +31,7 @@ pub struct Origin {
 
 /// A sum of a constant and of multiples of registers' words.
 #[derive(Clone, Copy)]
-struct Sum {
+struct AddressSum {
     constant: i64,
     /// How often each register's word is in it, and what is known of that word.
     times: [i64; 32],
@@ -48,10 +48,10 @@ struct Sum {
 /// Numbers stay below this one.
 const GREAT: i64 = 1 << 40;
 
-impl Sum {
+impl AddressSum {
     /// No words, of an address in an object.
-    fn nothing(object: Option<usize>) -> Sum {
-        Sum {
+    fn nothing(object: Option<usize>) -> AddressSum {
+        AddressSum {
             constant: 0,
             times: [0; 32],
             ranges: [None; 32],
@@ -125,7 +125,7 @@ impl Sum {
 
     /// Puts what a step computes in the place of its result, which was there so many times. Says whether that could be
     /// done.
-    fn expand(&mut self, times: i64, step: &Step, operands: Operands) -> bool {
+    fn expand(&mut self, times: i64, step: &Step, operands: OperandRanges) -> bool {
         let Operation::Compute(op, fields) = operation_of(&step.instr) else {
             return false;
         };
@@ -167,7 +167,7 @@ pub fn origin_of(frame: u32, block: &Block, trace: &Trace, place: usize) -> Opti
         return None;
     };
     let operands = trace.at(place);
-    let mut sum = Sum::nothing(steps[place].object);
+    let mut sum = AddressSum::nothing(steps[place].object);
     sum.add(Operand::Register(first), 1, operands[0]);
     sum.add(second, 1, operands[1]);
     let mut found = sum.origin(place);

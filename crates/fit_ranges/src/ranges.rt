@@ -1,8 +1,8 @@
 //! What is known of a program's locations where its blocks begin: in what ranges they lie. Nothing rests on it, since
 //! the verifier asks all again.
-use crate::flow::{Flow, Setting, add_outs, at};
-use fit_code::{Fault, Function, Memory, NO_LINE, Program, Reason};
-use fit_graph::{Counts, Locations, Means, Shape, find_live, thresholds_of};
+use crate::flow::{Analysis, FunctionRanges, add_outs, at};
+use fit_code::{Fault, Function, Heap, NO_LINE, Program, Reason};
+use fit_graph::{FunctionShape, LocationSet, Means, RegisterCounts, find_live, thresholds_of};
 use sbx_domain::State;
 use sbx_range::{Cell, Range, all, is_within};
 use std::alloc::{AllocError, Global};
@@ -22,9 +22,9 @@ const CELLS: usize = 64;
 pub struct Ranges {
     means: Means,
     /// How many params and results each function has.
-    counts: Vec<Counts>,
-    shapes: Vec<Shape>,
-    flows: Vec<Flow>,
+    counts: Vec<RegisterCounts>,
+    shapes: Vec<FunctionShape>,
+    flows: Vec<FunctionRanges>,
     /// What each function gives back, in %o0, %o1, ..
     results: Vec<Vec<Range>>,
     /// Of each function and each of its blocks the cells that are said, by location. None of those that aren't named
@@ -34,7 +34,7 @@ pub struct Ranges {
 
 /// The ranges that are said, and behind them those that were found, so many at least: any words where none were.
 fn with_said(
-    memory: &mut Memory,
+    memory: &mut Heap,
     said: &[Range],
     found: &Option<[Range; 6]>,
     count: u8,
@@ -48,17 +48,17 @@ fn with_said(
 }
 
 /// The shapes of a program's functions.
-fn shapes_of(memory: &mut Memory, program: &Program) -> Vec<Shape> {
+fn shapes_of(memory: &mut Heap, program: &Program) -> Vec<FunctionShape> {
     let mut shapes = Vec::new(memory.alloc);
     for function in program.functions.as_slice() {
-        let shape = Shape::of(memory, function);
+        let shape = FunctionShape::of(memory, function);
         memory.push(&mut shapes, shape);
     }
     shapes
 }
 
 /// What all calls of a function give it, if control comes to one.
-fn given_to(flows: &[Flow], callee: usize) -> Option<[Range; 6]> {
+fn given_to(flows: &[FunctionRanges], callee: usize) -> Option<[Range; 6]> {
     let mut given = None;
     for flow in flows {
         for call in flow.calls.as_slice() {
@@ -97,7 +97,7 @@ impl Ranges {
     ) -> Result<Ranges, Fault> {
         let mut ranges = Ranges {
             means: Means {
-                memory: Memory::new(alloc),
+                memory: Heap::new(alloc),
                 spent: None,
             },
             counts: Vec::new(alloc),
@@ -129,7 +129,7 @@ impl Ranges {
             if flow.takes(with_said(memory, said, &given, count)) {
                 let params = flow.params.as_slice();
                 let thresholds = thresholds_of(memory, program, function, params);
-                let setting = Setting {
+                let setting = Analysis {
                     function,
                     shape: &shapes[number],
                     thresholds: &thresholds,
@@ -213,7 +213,7 @@ impl Ranges {
         let memory = &mut self.means.memory;
         for number in 0..counts.len() {
             if are_new {
-                let flow = Flow::nothing(memory.alloc);
+                let flow = FunctionRanges::nothing(memory.alloc);
                 memory.push(&mut self.flows, flow);
                 let results = memory.repeat(all(0), usize::from(counts[number].results));
                 memory.push(&mut self.results, results);
@@ -274,7 +274,7 @@ impl Ranges {
     }
 
     /// What is live where each block of a function begins.
-    pub fn live(&self, function: usize) -> &[Locations] {
+    pub fn live(&self, function: usize) -> &[LocationSet] {
         if function < self.shapes.len() {
             self.shapes[function].live.as_slice()
         } else {

@@ -2,8 +2,10 @@
 use crate::annotations::{Annotations, BlockNotes, FunctionNotes};
 use crate::data::push_data;
 use crate::names::names_of;
-use crate::text::Text;
-use fit_code::{Block, End, Fault, Function, Line, Memory, NO_LINE, Program, Range, Reason, Step};
+use crate::text::SourceText;
+use fit_code::{
+    Block, End, Fault, Function, Heap, NO_LINE, Program, Range, Reason, SourceLine, Step,
+};
 use inspect_image::{Bounds, Location};
 use std::alloc::{AllocError, Global};
 use v8_formats::{Instr, encode};
@@ -28,7 +30,7 @@ fn has_word(program: &Program, word: u32) -> bool {
 }
 
 /// The services and the pages of stack.
-fn push_head(out: &mut Text, program: &Program, room: u64) {
+fn push_head(out: &mut SourceText, program: &Program, room: u64) {
     out.add(".services exit");
     if has_word(program, TA + 1) {
         out.add(",get");
@@ -41,7 +43,7 @@ fn push_head(out: &mut Text, program: &Program, room: u64) {
 }
 
 /// What is known where a block begins.
-fn push_cells(out: &mut Text, notes: &BlockNotes) {
+fn push_cells(out: &mut SourceText, notes: &BlockNotes) {
     for cell in notes.cells.as_slice() {
         out.put("\n.cell ", &Location(cell.location));
         out.put(",", &Bounds(cell.range));
@@ -49,7 +51,7 @@ fn push_cells(out: &mut Text, notes: &BlockNotes) {
 }
 
 /// A block's fuel.
-fn push_fuel(out: &mut Text, notes: &BlockNotes) {
+fn push_fuel(out: &mut SourceText, notes: &BlockNotes) {
     out.put("\n.fuel ", &notes.fuel);
     for term in notes.terms.as_slice() {
         out.put("\n.term ", &Location(term.location));
@@ -58,7 +60,7 @@ fn push_fuel(out: &mut Text, notes: &BlockNotes) {
 }
 
 /// The lines of steps; of a call with its slot.
-fn push_steps(out: &mut Text, files: &[String], names: &[String], steps: &[Step]) {
+fn push_steps(out: &mut SourceText, files: &[String], names: &[String], steps: &[Step]) {
     for step in steps {
         if let Some(number) = step.callee
             && number < names.len()
@@ -73,7 +75,7 @@ fn push_steps(out: &mut Text, files: &[String], names: &[String], steps: &[Step]
 
 /// The end of a function's block with a number.
 fn push_end(
-    out: &mut Text,
+    out: &mut SourceText,
     files: &[String],
     name: &str,
     is_framed: bool,
@@ -104,14 +106,19 @@ fn push_end(
 }
 
 /// Ranges, in a line each.
-fn push_ranges(out: &mut Text, what: &str, ranges: &[Range]) {
+fn push_ranges(out: &mut SourceText, what: &str, ranges: &[Range]) {
     for range in ranges {
         out.put(what, &Bounds(*range));
     }
 }
 
 /// The line that begins a function, and what it promises.
-fn push_function_head(out: &mut Text, name: &str, function: &Function, notes: &FunctionNotes) {
+fn push_function_head(
+    out: &mut SourceText,
+    name: &str,
+    function: &Function,
+    notes: &FunctionNotes,
+) {
     out.put("\n\n.function ", &name);
     let kind = if function.framed {
         ",framed,"
@@ -129,13 +136,13 @@ fn push_function_head(out: &mut Text, name: &str, function: &Function, notes: &F
 /// The blocks of a function of a program with these files and names; the first one begins with its function. Gives the
 /// line with which the source gets longer than the assembler reads, and what is told of that.
 fn push_blocks(
-    out: &mut Text,
+    out: &mut SourceText,
     files: &[String],
     names: &[String],
     name: &str,
     function: &Function,
     notes: &[BlockNotes],
-) -> Option<(Line, &'static str)> {
+) -> Option<(SourceLine, &'static str)> {
     for (number, block) in function.blocks.as_slice().iter().enumerate() {
         if number > 0 {
             out.put("\n.block ", &name);
@@ -166,11 +173,11 @@ fn push_blocks(
 /// The functions of a program with these names. Gives the line with which the source gets longer than the assembler
 /// reads, and what is told of that.
 fn push_functions(
-    out: &mut Text,
+    out: &mut SourceText,
     program: &Program,
     names: &[String],
     annotations: &[FunctionNotes],
-) -> Option<(Line, &'static str)> {
+) -> Option<(SourceLine, &'static str)> {
     let files = program.files.as_slice();
     for (number, function) in program.functions.as_slice().iter().enumerate() {
         if (number < names.len()) & (number < annotations.len()) {
@@ -201,9 +208,9 @@ pub fn source_of(
         Some(notes) => notes.room,
         None => 0,
     };
-    let mut memory = Memory::new(alloc);
+    let mut memory = Heap::new(alloc);
     let names = names_of(&mut memory, program);
-    let mut out = Text::new(memory);
+    let mut out = SourceText::new(memory);
     push_head(&mut out, program, room);
     push_data(&mut out, program);
     let excess = push_functions(&mut out, program, names.as_slice(), functions);

@@ -1,17 +1,17 @@
 //! The data of a source.
 use crate::names::commented;
-use crate::text::Text;
+use crate::text::SourceText;
 use fit_code::{Object, Program, Region};
 
 /// So many zeros, if there are some.
-fn push_zeros(out: &mut Text, count: u64) {
+fn push_zeros(out: &mut SourceText, count: u64) {
     if count > 0 {
         out.put("\n    .skip ", &count);
     }
 }
 
 /// A line of bytes.
-fn push_line(out: &mut Text, bytes: &[u8]) {
+fn push_line(out: &mut SourceText, bytes: &[u8]) {
     let mut before = "\n    .byte ";
     for byte in bytes {
         out.put(before, byte);
@@ -20,7 +20,7 @@ fn push_line(out: &mut Text, bytes: &[u8]) {
 }
 
 /// Bytes, those that are 0 by their number.
-fn push_bytes(out: &mut Text, bytes: &[u8]) {
+fn push_bytes(out: &mut SourceText, bytes: &[u8]) {
     let mut zeros: u64 = 0;
     for line in bytes.chunks(16) {
         if [0; 16].starts_with(line) {
@@ -35,7 +35,7 @@ fn push_bytes(out: &mut Text, bytes: &[u8]) {
 }
 
 /// A region with the objects that lie in it, and zeros between them.
-fn push_region(out: &mut Text, region: &Region, objects: &[Object]) {
+fn push_region(out: &mut SourceText, region: &Region, objects: &[Object]) {
     let right = if region.readonly { "ro" } else { "rw" };
     out.put("\n\n.region ", &right);
     let start = u64::from(region.start);
@@ -55,7 +55,7 @@ fn push_region(out: &mut Text, region: &Region, objects: &[Object]) {
 }
 
 /// The regions of a program; the code comes behind them.
-pub fn push_data(out: &mut Text, program: &Program) {
+pub fn push_data(out: &mut SourceText, program: &Program) {
     for region in program.regions.as_slice() {
         push_region(out, region, program.objects.as_slice());
     }

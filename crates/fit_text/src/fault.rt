@@ -1,5 +1,5 @@
 //! What is told of a fault.
-use fit_code::{Fault, Line, Reason};
+use fit_code::{Fault, Reason, SourceLine};
 use std::fmt::{self, Error, Formatter, Write};
 
 /// What stands before a name that is refused, and what behind it, of each `Naming` in their order.
@@ -28,9 +28,9 @@ const BOUND: u64 = 1 << 40;
 
 /// Why a program is refused, in words.
 #[derive(Drop)]
-pub struct Why<'r>(pub &'r Reason);
+pub struct FaultWords<'r>(pub &'r Reason);
 
-impl fmt::Display for Why<'_> {
+impl fmt::Display for FaultWords<'_> {
     fn fmt<W: Write>(&self, f: &mut Formatter<W>) -> Result<(), Error> {
         match self.0 {
             Reason::Memory(_want) => f.write_str("out of memory"),
@@ -63,9 +63,9 @@ pub struct FaultLine<'f> {
 
 impl fmt::Display for FaultLine<'_> {
     fn fmt<W: Write>(&self, f: &mut Formatter<W>) -> Result<(), Error> {
-        let Line { file, number } = self.fault.line;
+        let SourceLine { file, number } = self.fault.line;
         let reason = &self.fault.reason;
-        let why = Why(reason);
+        let why = FaultWords(reason);
         let is_known = (number > 0) & (file < self.files.len());
         let name = if is_known {
             self.files[file].as_str()

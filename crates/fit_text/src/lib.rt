@@ -10,4 +10,4 @@ mod text;
 
 pub use annotations::{Annotations, BlockNotes, FunctionNotes};
 pub use code::source_of;
-pub use fault::{FaultLine, Why};
+pub use fault::{FaultLine, FaultWords};

@@ -1,5 +1,5 @@
 //! The names that functions have in a source, and what is told of other names.
-use fit_code::{Memory, Program};
+use fit_code::{Heap, Program};
 
 /// So many bytes of a name stand in a line, which may not have more than 1,024.
 const LONGEST: usize = 256;
@@ -33,7 +33,7 @@ fn may_stand_and_is_numbered(name: &str) -> (bool, bool) {
 
 /// The name of each function: its own, with its number behind it where an earlier one has that name, as static ones of
 /// two files may, or a block might; a name that may not stand in a source is left out.
-pub fn names_of(memory: &mut Memory, program: &Program) -> Vec<String> {
+pub fn names_of(memory: &mut Heap, program: &Program) -> Vec<String> {
     let mut names = Vec::new(memory.alloc);
     for (number, function) in program.functions.as_slice().iter().enumerate() {
         let own = function.name.as_str();

@@ -1,7 +1,7 @@
 //! A source that is being written.
 use crate::names::commented;
 use arrayvec::ArrayString;
-use fit_code::{Line, Memory, NO_LINE};
+use fit_code::{Heap, NO_LINE, SourceLine};
 use std::fmt::Display;
 use v8_formats::Instr;
 use v8_forms::print_instr;
@@ -13,7 +13,7 @@ const BYTES: usize = 16_777_216;
 
 /// A source that is being written, whose lines each begin with the end of the one before.
 #[derive(Drop)]
-pub struct Text {
+pub struct SourceText {
     pub text: String,
     /// Whether memory was refused, so that something lacks in it.
     pub lacks: bool,
@@ -21,13 +21,13 @@ pub struct Text {
     counted: usize,
     ended: usize,
     /// The line of C that was told last.
-    last: Line,
+    last: SourceLine,
 }
 
-impl Text {
+impl SourceText {
     /// A source of nothing, for which some memory may have been refused.
-    pub fn new(memory: Memory) -> Text {
-        Text {
+    pub fn new(memory: Heap) -> SourceText {
+        SourceText {
             text: String::new(memory.alloc),
             lacks: memory.is_refused,
             counted: 0,
@@ -48,8 +48,8 @@ impl Text {
 
     /// Adds the line of an instruction's text, with the line of C, of one of these files, from the 41st column on,
     /// unless it was the last one told.
-    pub fn put_text(&mut self, files: &[String], text: &str, line: Line) {
-        let Line { file, number } = line;
+    pub fn put_text(&mut self, files: &[String], text: &str, line: SourceLine) {
+        let SourceLine { file, number } = line;
         let is_new = (file != self.last.file) | (number != self.last.number);
         if is_new & (number > 0) & (file < files.len()) {
             self.last = line;
@@ -61,7 +61,7 @@ impl Text {
     }
 
     /// Adds the line of an instruction.
-    pub fn put_instr(&mut self, files: &[String], instr: &Instr, line: Line) {
+    pub fn put_instr(&mut self, files: &[String], instr: &Instr, line: SourceLine) {
         let mut text: ArrayString<64> = ArrayString::new();
         print_instr(instr, &mut text);
         self.put_text(files, text.as_str(), line);

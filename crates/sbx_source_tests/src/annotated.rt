@@ -1,6 +1,6 @@
 //! Sources whose annotations were worked out by hand.
-use fit_annotate::{Asked, find};
-use fit_kept::{Refusal, annotate};
+use fit_annotate::{Unproved, find};
+use fit_kept::{AnnotationRefusal, annotate};
 use std::alloc::{AllocError, Global};
 
 /// Whether a source gets this text, or one that begins so and `goes_on`, and there is nothing to note.
@@ -22,10 +22,10 @@ fn becomes(alloc: Global, source: &[u8], text: &[u8], goes_on: bool) -> bool {
 fn line_told(alloc: Global, source: &[u8]) -> usize {
     match find(alloc, source) {
         Ok(found) => match found.notes.as_slice() {
-            [note] if matches!(note.asked, Asked::Counter) => note.line as usize,
+            [note] if matches!(note.asked, Unproved::Counter) => note.line as usize,
             _ => 0,
         },
-        Err(Refusal::Source(fault)) => fault.line,
+        Err(AnnotationRefusal::Source(fault)) => fault.line,
         Err(_refusal) => 0,
     }
 }

@@ -1,6 +1,6 @@
 //! Sources that are refused.
 use crate::told::are_told;
-use fit_code::{Fault, Line, Reason};
+use fit_code::{Fault, Reason, SourceLine};
 use fit_text::FaultLine;
 use std::alloc::Global;
 use std::slice::from_ref;
@@ -122,7 +122,7 @@ fn is_budget_shown(alloc: Global, turns: u64, wanted: &str) -> bool {
         turns,
         is_loop: true,
     };
-    let fault = &Fault::new(Line { file: 0, number: 9 }, reason);
+    let fault = &Fault::new(SourceLine { file: 0, number: 9 }, reason);
     let mut told = String::new(alloc);
     match String::from_str(alloc, "a.c") {
         Ok(name) => {

@@ -1,6 +1,6 @@
 //! Sources with annotations put in, written out by hand.
 use fit_code::Reason;
-use fit_kept::{Addition, Annotation, Total, Value, insert, is_annotated};
+use fit_kept::{Addition, Annotation, FunctionTotal, Value, insert, is_annotated};
 use sbx_image::Range;
 use std::alloc::Global;
 
@@ -9,7 +9,7 @@ fn is_made(
     alloc: Global,
     source: &[u8],
     additions: &[Addition],
-    totals: &[Total],
+    totals: &[FunctionTotal],
     wanted: Option<&[u8]>,
 ) -> bool {
     match &insert(alloc, source, additions, totals) {
@@ -81,7 +81,7 @@ static ADDITIONS: [Addition; 6] = [
 ];
 
 /// Numbers for a function.
-static TOTALS: [Total; 1] = [Total {
+static TOTALS: [FunctionTotal; 1] = [FunctionTotal {
     line: 2,
     room: 96,
     budget: 109,

@@ -1,6 +1,6 @@
 //! What is told of sources.
 use fit_code::{Block, End, Fault, Function, Program};
-use fit_gas::Source;
+use fit_gas::Assembly;
 use fit_legal::program_of;
 use fit_text::FaultLine;
 use std::alloc::{AllocError, Global};
@@ -49,7 +49,7 @@ fn push_program(told: &mut String, program: &Program) -> Result<(), AllocError> 
 const HEAD: &str = ".global main\n.type main,#function\n.type f,#function\nmain:\n";
 
 /// The program of one file, which has this behind `main:`.
-fn made(source: &mut Source, body: &str) -> Result<Program, Fault> {
+fn made(source: &mut Assembly, body: &str) -> Result<Program, Fault> {
     let mut text = String::new(source.memory.alloc);
     write!(text, "{HEAD}{body}")?;
     source.read("t.s", text.as_bytes())?;
@@ -58,7 +58,7 @@ fn made(source: &mut Source, body: &str) -> Result<Program, Fault> {
 
 /// Whether this is told of a program, or is why there is none.
 fn tells(alloc: Global, body: &str, wanted: &str) -> bool {
-    let mut source = Source::new(alloc);
+    let mut source = Assembly::new(alloc);
     let mut told = String::new(alloc);
     let done = match &made(&mut source, body) {
         Ok(program) => push_program(&mut told, program),

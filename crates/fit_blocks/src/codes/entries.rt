@@ -2,7 +2,7 @@
 //! copies of the loop's blocks, as far as that one entry.
 use crate::codes::pruning::moved;
 use crate::stops::Stops;
-use fit_code::{Block, Function, Memory};
+use fit_code::{Block, Function, Heap};
 use fit_graph::{Tangle, reached_from, successors_of, tangle_of};
 
 /// So many steps may be copied of a function that has fewer itself.
@@ -57,7 +57,7 @@ fn copies_beside(
 /// Copies blocks of a loop that have other numbers, to which ways from elsewhere and those of the copies lead from then
 /// on.
 fn copy_blocks(
-    memory: &mut Memory,
+    memory: &mut Heap,
     function: &mut Function,
     holds: &[bool],
     numbers: &[Option<usize>],

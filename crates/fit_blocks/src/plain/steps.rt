@@ -1,9 +1,9 @@
 //! Steps.
-use fit_code::{Line, Step};
+use fit_code::{SourceLine, Step};
 use v8_formats::Instr;
 
 /// A step that is no call and names no object.
-pub fn step_of(instr: Instr, line: Line) -> Step {
+pub fn step_of(instr: Instr, line: SourceLine) -> Step {
     Step {
         instr,
         line,

@@ -24,7 +24,7 @@ pub fn operands_read(fields: &Three) -> u32 {
 
 /// An access to memory: its fields, how many bytes it moves, and whether it stores them.
 #[derive(Clone, Copy)]
-pub struct Access {
+pub struct MemoryAccess {
     pub fields: Three,
     pub bytes: u32,
     pub stores: bool,
@@ -34,12 +34,12 @@ pub struct Access {
 const MOVED: [u32; 16] = [4, 1, 2, 8, 4, 1, 2, 8, 0, 1, 2, 0, 0, 1, 0, 4];
 
 /// The access that an instruction makes.
-pub fn access_of(instr: &Instr) -> Option<Access> {
+pub fn access_of(instr: &Instr) -> Option<MemoryAccess> {
     let word = encode(instr);
     let minor = bits_of(word, 19, 6) as usize;
     let bytes = if minor < 16 { MOVED[minor] } else { 0 };
     if (word >> 30 == 3) & (bytes > 0) {
-        Some(Access {
+        Some(MemoryAccess {
             fields: three_of(word),
             bytes,
             stores: minor & 4 != 0,

@@ -1,7 +1,7 @@
 //! Where the objects of a program lie.
-use crate::stops::{Stop, Stops};
-use fit_code::{Line, Memory, NO_LINE, Naming, Object, Region};
-use fit_gas::{Fix, Linked, Source, SymbolPlace, links_of, owned, word_of};
+use crate::stops::{Obstacle, Stops};
+use fit_code::{Heap, NO_LINE, Naming, Object, Region, SourceLine};
+use fit_gas::{Assembly, Fix, Linked, SymbolPlace, links_of, owned, word_of};
 
 /// Where the data of an image begin.
 const DATA: u32 = 0x8_0000;
@@ -21,7 +21,7 @@ const MOST: u32 = 262_144;
 /// Where the last object may end.
 const LAST: u32 = DATA + MOST - TAIL;
 
-const TOO_MANY: Stop = Stop::TooMany("bytes of data", 262_144);
+const TOO_MANY: Obstacle = Obstacle::TooMany("bytes of data", 262_144);
 
 /// The bytes of a page; each region begins one.
 const PAGE: u32 = 4_096;
@@ -30,7 +30,7 @@ const PAGE: u32 = 4_096;
 #[derive(Drop)]
 pub struct Layout<'l> {
     pub stops: Stops,
-    pub source: &'l Source,
+    pub source: &'l Assembly,
     pub linked: Linked<'l>,
     pub objects: Vec<Object>,
     /// The regions that ended, by their addresses.
@@ -43,7 +43,7 @@ pub struct Layout<'l> {
     start: u32,
     /// Where the last object ends, and the line that it was added for.
     end: u32,
-    line: Line,
+    line: SourceLine,
 }
 
 impl Layout<'_> {
@@ -55,7 +55,7 @@ impl Layout<'_> {
         align: u32,
         bytes: &[u8],
         length: usize,
-        line: Line,
+        line: SourceLine,
     ) -> usize {
         let number = self.objects.len();
         let padded = self.end.saturating_add(PAD);
@@ -98,7 +98,7 @@ impl Layout<'_> {
     }
 
     /// The object of so many bytes for the arguments in memory of a function of the source, which a line asks for.
-    pub fn arguments_of(&mut self, function: usize, bytes: usize, line: Line) -> usize {
+    pub fn arguments_of(&mut self, function: usize, bytes: usize, line: SourceLine) -> usize {
         for (known, object) in self.arguments.as_slice() {
             if *known == function {
                 return *object;
@@ -140,7 +140,7 @@ impl Layout<'_> {
 
     /// The object that a symbol stands for, by its number here, and the address of it plus a number. It is a fault at a
     /// line where it stands for none.
-    pub fn reach(&mut self, symbol: usize, offset: i64, line: Line) -> (usize, u32) {
+    pub fn reach(&mut self, symbol: usize, offset: i64, line: SourceLine) -> (usize, u32) {
         let naming = match self.linked.place(symbol) {
             SymbolPlace::Object(datum) => {
                 let object = self.numbers.get(datum).copied().unwrap_or(0);
@@ -149,7 +149,7 @@ impl Layout<'_> {
             SymbolPlace::Nowhere => Naming::NotDefined,
             _ => Naming::AddressOfFunction,
         };
-        self.stops.note(line, Stop::Named(naming, symbol));
+        self.stops.note(line, Obstacle::Named(naming, symbol));
         (0, 0)
     }
 
@@ -164,7 +164,7 @@ impl Layout<'_> {
 }
 
 /// The name of a symbol; no text where there is none.
-pub fn name_of(source: &Source, symbol: usize) -> &str {
+pub fn name_of(source: &Assembly, symbol: usize) -> &str {
     if symbol < source.symbols.len() {
         source.symbols[symbol].name.as_str()
     } else {
@@ -186,9 +186,9 @@ fn put_word(bytes: &mut [u8], at: usize, word: u32) {
 /// Lays out the objects of a source: the constants first, on pages that may be read alone. What stops it is noted in
 /// the layout: a global name that stands at two places; an address of what is no object; more bytes than an image may
 /// have.
-pub fn layout_of(source: &Source) -> Layout<'_> {
+pub fn layout_of(source: &Assembly) -> Layout<'_> {
     let alloc = source.memory.alloc;
-    let mut memory = Memory::new(alloc);
+    let mut memory = Heap::new(alloc);
     let numbers = memory.repeat(0, source.objects.len());
     let (linked, second) = links_of(&mut memory, source);
     let mut stops = Stops {
@@ -197,7 +197,7 @@ pub fn layout_of(source: &Source) -> Layout<'_> {
         first: None,
     };
     if let Some((line, symbol)) = second {
-        stops.note(line, Stop::Named(Naming::DefinedTwice, symbol));
+        stops.note(line, Obstacle::Named(Naming::DefinedTwice, symbol));
     }
     let mut layout = Layout {
         stops,

@@ -1,20 +1,20 @@
 //! Where a function's body and its blocks begin, and how large its frame is.
-use crate::points::{Flow, Point, signed};
+use crate::points::{ControlFlow, Point, signed};
 use crate::stops::Stops;
-use fit_code::Memory;
+use fit_code::Heap;
 use v8_formats::{Instr, Operand, Three};
 use v8_word::{Cond, Reg};
 
 /// For each place, and the one behind the last, whether a block begins there: at the start, where branches go to, and
 /// behind the slots of such as may not be taken. None begins before the start.
-pub fn leads_of(memory: &mut Memory, points: &[Point], start: usize) -> Vec<Option<usize>> {
+pub fn leads_of(memory: &mut Heap, points: &[Point], start: usize) -> Vec<Option<usize>> {
     let mut marked = memory.repeat(None, points.len().saturating_add(1));
     let leads = marked.as_mut_slice();
     if start < leads.len() {
         leads[start] = Some(0);
     }
     for (place, point) in points.iter().enumerate() {
-        if let Flow::Branch { cond, to, .. } = point.flow {
+        if let ControlFlow::Branch { cond, to, .. } = point.flow {
             let lead = to.max(start);
             if lead < leads.len() {
                 leads[lead] = Some(0);

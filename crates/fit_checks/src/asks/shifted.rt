@@ -3,7 +3,7 @@
 //! doesn't overflow.
 use crate::cuts::by_immediate;
 use fit_code::{End, Step};
-use fit_graph::{Locations, effects_of, run_step};
+use fit_graph::{LocationSet, effects_of, run_step};
 use sbx_domain::State;
 use sbx_range::{Range, is_single};
 use v8_formats::{Instr, Operand, Three};
@@ -40,7 +40,7 @@ fn least_shift(frame: u32, steps: &[Step], place: usize, register: u8, live: u32
 
 /// The registers that are live behind the steps of a block with this end, or may be, where these locations are live at
 /// the blocks' beginnings; each has a bit.
-pub fn live_behind(end: End, live: &[Locations]) -> u32 {
+pub fn live_behind(end: End, live: &[LocationSet]) -> u32 {
     let (first, second) = match end {
         End::Jump(to) => (to, to),
         End::Branch { taken, next, .. } => (taken, next),

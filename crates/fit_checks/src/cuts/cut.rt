@@ -1,13 +1,13 @@
 //! Blocks in two.
-use fit_code::{Block, End, Line, Memory, Step};
+use fit_code::{Block, End, Heap, SourceLine, Step};
 use v8_formats::{Cond, Instr};
 
 /// Puts instructions that call nobody behind steps, those of them that are there.
 pub fn push_instrs(
-    memory: &mut Memory,
+    memory: &mut Heap,
     steps: &mut Vec<Step>,
     instrs: &[Option<Instr>],
-    line: Line,
+    line: SourceLine,
 ) {
     for instr in instrs {
         if let Some(instr) = *instr {
@@ -25,11 +25,11 @@ pub fn push_instrs(
 
 /// Puts an instruction that calls nobody before the step at a place of a block with a number, if there is such a place.
 pub fn insert_instr(
-    memory: &mut Memory,
+    memory: &mut Heap,
     blocks: &mut Vec<Block>,
     (number, place): (usize, usize),
     instr: Instr,
-    line: Line,
+    line: SourceLine,
 ) {
     let step = Step {
         instr,
@@ -48,11 +48,11 @@ pub fn insert_instr(
 
 /// A new block of instructions that call nobody, behind the others; its end has one of them in its slot, or nothing.
 pub fn push_block(
-    memory: &mut Memory,
+    memory: &mut Heap,
     blocks: &mut Vec<Block>,
     instrs: &[Option<Instr>],
     (end, slot): (End, Option<Instr>),
-    line: Line,
+    line: SourceLine,
 ) {
     let mut steps = Vec::new(memory.alloc);
     push_instrs(memory, &mut steps, instrs, line);
@@ -67,11 +67,11 @@ pub fn push_block(
 
 /// The same with an end that goes to a block where a condition holds, and else on to the block that is made then.
 pub fn push_branch(
-    memory: &mut Memory,
+    memory: &mut Heap,
     blocks: &mut Vec<Block>,
     instrs: &[Option<Instr>],
     (cond, taken): (Cond, usize),
-    line: Line,
+    line: SourceLine,
 ) {
     let next = blocks.len().saturating_add(1);
     let end = End::Branch { cond, taken, next };
@@ -81,7 +81,7 @@ pub fn push_branch(
 /// Puts a copy of a block's steps from a place on, and of its end, behind the other blocks; gives its number. With
 /// `cuts` the block itself ends before that place then, and goes on to the copy.
 pub fn copy_block(
-    memory: &mut Memory,
+    memory: &mut Heap,
     blocks: &mut Vec<Block>,
     (number, place): (usize, usize),
     cuts: bool,

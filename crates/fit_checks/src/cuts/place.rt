@@ -1,7 +1,7 @@
 //! What is in use between two steps of a block, and codes that are, set again behind.
 use crate::cuts::cut::push_instrs;
 use crate::cuts::words::by_immediate;
-use fit_code::{Block, End, Memory, Step};
+use fit_code::{Block, End, Heap, Step};
 use fit_graph::effects_of;
 use v8_formats::{Cond, Instr, bits_of, decode, encode};
 
@@ -105,7 +105,7 @@ const DESTINATION: u32 = 0x3e00_0000;
 /// use before, where a test has no place. Tells why not: not where that step sets them, and where no instruction does:
 /// not where they are those of two words, of which the second one's are worked out from the first one's.
 pub fn set_codes_again(
-    memory: &mut Memory,
+    memory: &mut Heap,
     frame: u32,
     block: &mut Block,
 ) -> Result<(), &'static str> {

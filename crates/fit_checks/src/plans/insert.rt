@@ -2,8 +2,8 @@
 use crate::cuts::{
     Y, by_immediate, in_use, last_writer, number_in, push_block, push_branch, register,
 };
-use crate::plans::plan::{Test, Way};
-use fit_code::{Block, End, Memory, Step};
+use crate::plans::plan::{Test, TestWay};
+use fit_code::{Block, End, Heap, Step};
 use v8_formats::{Cond, Instr, Operand, Reg, Three};
 
 /// The registers that tests work with.
@@ -81,7 +81,7 @@ impl Test {
     /// doesn't lie within its bounds. The first one of them is the function's next block. Before a word is compared it
     /// is made seen that its low bits are 0; what is left of it once the lower end of its bounds is subtracted is
     /// compared, and it is given back.
-    pub fn push_blocks(&self, memory: &mut Memory, blocks: &mut Vec<Block>, beyond: usize) {
+    pub fn push_blocks(&self, memory: &mut Heap, blocks: &mut Vec<Block>, beyond: usize) {
         let (tested, alignment, line) = (self.plan.register, self.plan.alignment, self.line);
         let rest = (End::Jump(self.rest), None);
         let mut mask = None;
@@ -93,10 +93,16 @@ impl Test {
             push_branch(memory, blocks, &test, (Cond::NotEqual, self.exit), line);
         }
         let (subtract, compared, hi, scratch) = match self.plan.way {
-            Way::Never => return push_block(memory, blocks, &[], (End::Jump(beyond), None), line),
-            Way::Known => return push_block(memory, blocks, &[mask], rest, line),
-            Way::Above(hi) => ([None; 4], tested, hi, FROM),
-            Way::Within { lo, length } => (subtracting(tested, lo), REST, length, NUMBER),
+            TestWay::Never => return push_block(
+                memory,
+                blocks,
+                &[],
+                (End::Jump(beyond), None),
+                line,
+            ),
+            TestWay::Known => return push_block(memory, blocks, &[mask], rest, line),
+            TestWay::Above(hi) => ([None; 4], tested, hi, FROM),
+            TestWay::Within { lo, length } => (subtracting(tested, lo), REST, length, NUMBER),
         };
         let [a, b, c, give_back] = subtract;
         let ([d, e], operand2) = operand_of(hi, scratch);
@@ -113,7 +119,7 @@ impl Test {
 
     /// The blocks of a test of a divisor, in which WRY and the division stand: twice, where the divisor may have either
     /// sign, since no range leaves out a 0 in its middle. The first one is the function's next block.
-    pub fn push_division(&self, memory: &mut Memory, blocks: &mut Vec<Block>, steps: &[Step; 2]) {
+    pub fn push_division(&self, memory: &mut Heap, blocks: &mut Vec<Block>, steps: &[Step; 2]) {
         let (range, line) = (self.plan.range, self.line);
         let compare = [Some(Instr::SubCc(by_immediate(0, self.plan.register, 0)))];
         let mut divisions = 1;

@@ -1,14 +1,14 @@
 //! Tests, where the run ends if one fails, and how what isn't shown is tested.
-use crate::asks::{Access, Ask, Lack, needed_alignment};
+use crate::asks::{Ask, Unshown, UnshownAccess, needed_alignment};
 use crate::cuts::{CODES, SCRATCH, Y};
-use fit_code::{Line, Program};
-use fit_ranges::{Bounds, Origin, bounds_in_constants, bounds_of};
+use fit_code::{Program, SourceLine};
+use fit_ranges::{Origin, WordBounds, bounds_in_constants, bounds_of};
 use sbx_range::{Range, all};
 use v8_formats::Operand;
 
 /// What a test asks for. The exit word is 65,536 times its number and the line.
 #[derive(Clone, Copy)]
-pub enum Kind {
+pub enum TestKind {
     /// That an index lies in an object.
     Index = 1,
     /// That an address lies in the data.
@@ -17,23 +17,23 @@ pub enum Kind {
     Divisor = 3,
 }
 
-impl Kind {
+impl TestKind {
     /// The exit word of a run that ends where a test in a line fails.
-    pub fn exit_word(self, line: Line) -> i32 {
+    pub fn exit_word(self, line: SourceLine) -> i32 {
         self as i32 * 65_536 + line.number.min(0xffff) as i32
     }
 }
 
 /// What is asked of a register's word, and where.
 #[derive(Clone, Copy)]
-pub struct Plan {
-    pub kind: Kind,
+pub struct TestPlan {
+    pub kind: TestKind,
     /// What is known of the index, the address or the divisor.
     pub range: Range,
     pub register: u8,
     /// The word has to lie within these, which also name the object that an index is one of; of a divisor they say
     /// nothing.
-    pub bounds: Bounds,
+    pub bounds: WordBounds,
     /// It has to be a multiple of 2 to this power, where that isn't known; else 0.
     pub alignment: u8,
     /// Before the steps of these places of the block the register has that word: from the first to the last.
@@ -42,16 +42,16 @@ pub struct Plan {
     /// What may not be in use where the test stands.
     pub changed: u64,
     /// How it is seen that the word lies within its bounds; of a divisor this says nothing, too.
-    pub way: Way,
+    pub way: TestWay,
     /// The same among the constants, where a load that doesn't pass the first test may pass this one.
-    pub constants: Option<Way>,
+    pub constants: Option<TestWay>,
     /// Whether nothing can be said of the word that isn't known.
     pub says_nothing: bool,
 }
 
 /// How it is seen that a word lies from `lo` to `hi`.
 #[derive(Clone, Copy)]
-pub enum Way {
+pub enum TestWay {
     /// That is known.
     Known,
     /// As an unsigned word it isn't above `hi`.
@@ -65,7 +65,7 @@ pub enum Way {
 /// A test that was put into a program.
 #[derive(Clone, Copy)]
 pub struct Test {
-    pub line: Line,
+    pub line: SourceLine,
     pub function: usize,
     /// Where the run ends if it fails.
     pub exit: usize,
@@ -73,14 +73,14 @@ pub struct Test {
     pub head: usize,
     pub rest: usize,
     /// What is tested.
-    pub plan: Plan,
+    pub plan: TestPlan,
 }
 
 /// The scratch register that the sum of an access's two parts is put into, %g7.
 pub const SUM: u8 = 7;
 
 /// Nothing is said of the bounds of a divisor.
-const NO_BOUNDS: Bounds = Bounds {
+const NO_BOUNDS: WordBounds = WordBounds {
     lo: 0,
     hi: 0,
     object: None,
@@ -88,14 +88,14 @@ const NO_BOUNDS: Bounds = Bounds {
 
 /// How it is seen that a word of which this is known lies in bounds; `is_aligned` where it is made seen before that its
 /// low bits are 0. The numbers that the word is compared with have to be signed words.
-fn way_in(range: Range, bounds: Bounds, is_aligned: bool) -> Way {
-    let Bounds { lo, hi, object } = bounds;
+fn way_in(range: Range, bounds: WordBounds, is_aligned: bool) -> TestWay {
+    let WordBounds { lo, hi, object } = bounds;
     let (least, greatest) = (range.lo as i64, range.hi as i64);
     if hi < lo {
-        return Way::Never;
+        return TestWay::Never;
     }
     if (lo <= least) & (greatest <= hi) {
-        return Way::Known;
+        return TestWay::Known;
     }
     let is_from_0 = (lo == 0) | (lo < 0) & (least >= 0);
     let first = if is_from_0 {
@@ -110,16 +110,16 @@ fn way_in(range: Range, bounds: Bounds, is_aligned: bool) -> Way {
         i32::try_from(first),
         i32::try_from(hi.saturating_sub(first)),
     ) {
-        (Ok(_), Ok(hi)) if is_from_0 & (hi >= 0) => Way::Above(hi),
-        (Ok(lo), Ok(length)) if length >= 0 => Way::Within { lo, length },
-        _ => Way::Never,
+        (Ok(_), Ok(hi)) if is_from_0 & (hi >= 0) => TestWay::Above(hi),
+        (Ok(lo), Ok(length)) if length >= 0 => TestWay::Within { lo, length },
+        _ => TestWay::Never,
     }
 }
 
 /// How an access is tested by the register that its address is worked out from. A load that doesn't lie in the data
 /// that may be written may lie among the constants. A sum that stands in %g7 for the access alone is tested there: the
 /// other scratch registers weren't in use before it.
-fn plan_by(program: &Program, access: &Access, origin: &Origin) -> Plan {
+fn plan_by(program: &Program, access: &UnshownAccess, origin: &Origin) -> TestPlan {
     let size = access.size as i64;
     let known = origin.range.unwrap_or(all(0));
     // So many low bits are 0 in each multiple of the factor.
@@ -128,7 +128,7 @@ fn plan_by(program: &Program, access: &Access, origin: &Origin) -> Plan {
     let alignment = if known.alignment < needed { needed } else { 0 };
     let bounds = bounds_of(program, origin, size);
     let way = way_in(known, bounds, alignment > 0);
-    let is_known = matches!(way, Way::Known);
+    let is_known = matches!(way, TestWay::Known);
     let mut constants = None;
     if !(access.writes | bounds.object.is_some() | is_known)
         && let Some(others) = bounds_in_constants(program, origin, size)
@@ -136,15 +136,15 @@ fn plan_by(program: &Program, access: &Access, origin: &Origin) -> Plan {
         constants = Some(way_in(known, others, alignment > 0));
     }
     let (kind, range) = match bounds.object {
-        Some(_) => (Kind::Index, known),
-        None => (Kind::Pointer, access.range),
+        Some(_) => (TestKind::Index, known),
+        None => (TestKind::Pointer, access.range),
     };
     let (first, changed) = if origin.register == SUM {
         (origin.last, CODES | Y)
     } else {
         (origin.first, CODES | Y | SCRATCH)
     };
-    Plan {
+    TestPlan {
         kind,
         range,
         register: origin.register,
@@ -160,9 +160,9 @@ fn plan_by(program: &Program, access: &Access, origin: &Origin) -> Plan {
 }
 
 /// How a divisor is tested that stands in a register at a place.
-fn plan_of_divisor(register: u8, range: Range, place: usize) -> Plan {
-    Plan {
-        kind: Kind::Divisor,
+fn plan_of_divisor(register: u8, range: Range, place: usize) -> TestPlan {
+    TestPlan {
+        kind: TestKind::Divisor,
         range,
         register,
         bounds: NO_BOUNDS,
@@ -170,7 +170,7 @@ fn plan_of_divisor(register: u8, range: Range, place: usize) -> Plan {
         first: place,
         last: place,
         changed: CODES,
-        way: Way::Never,
+        way: TestWay::Never,
         constants: None,
         says_nothing: false,
     }
@@ -178,10 +178,10 @@ fn plan_of_divisor(register: u8, range: Range, place: usize) -> Plan {
 
 /// How what isn't shown is tested, where it is a divisor or an address: that by what it is worked out from, if more can
 /// be known of that, else by the address itself, if one register has it.
-pub fn plan_of(program: &Program, ask: &Ask) -> Option<Plan> {
+pub fn plan_of(program: &Program, ask: &Ask) -> Option<TestPlan> {
     let access = match &ask.lack {
-        Lack::Placed(access) => access,
-        Lack::Divisible(Operand::Register(register), range) => {
+        Unshown::Placed(access) => access,
+        Unshown::Divisible(Operand::Register(register), range) => {
             return Some(plan_of_divisor(register.number(), *range, ask.place));
         }
         _ => return None,

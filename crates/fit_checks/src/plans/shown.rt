@@ -1,20 +1,20 @@
 //! Tests as notes to the author.
-use crate::plans::plan::{Kind, Test};
+use crate::plans::plan::{Test, TestKind};
 use fit_code::Program;
 use sbx_range::Range;
 use std::fmt::{Display, Error, Formatter, Write};
 
 /// A test as one line, with the name of its file.
 #[derive(Drop)]
-pub struct Shown<'p> {
+pub struct TestLine<'p> {
     test: Test,
     program: &'p Program,
 }
 
 impl Test {
     /// The test as one line of notes.
-    pub fn shown<'p>(&self, program: &'p Program) -> Shown<'p> {
-        Shown {
+    pub fn shown<'p>(&self, program: &'p Program) -> TestLine<'p> {
+        TestLine {
             test: *self,
             program,
         }
@@ -29,7 +29,7 @@ static ENDS: [&str; 4] = [
     ", and no multiple of 8: a test was added",
 ];
 
-impl Display for Shown<'_> {
+impl Display for TestLine<'_> {
     fn fmt<W: Write>(&self, f: &mut Formatter<W>) -> Result<(), Error> {
         let (line, plan, program) = (self.test.line, &self.test.plan, self.program);
         let (files, objects) = (program.files.as_slice(), program.objects.as_slice());
@@ -46,7 +46,7 @@ impl Display for Shown<'_> {
             write!(f, "note: the index into {name} ({bytes} bytes) may be ")
         } else {
             f.write_str(match plan.kind {
-                Kind::Divisor => "note: the divisor may be 0: it may be ",
+                TestKind::Divisor => "note: the divisor may be 0: it may be ",
                 _ => "note: the address may be ",
             })
         };

@@ -1,7 +1,7 @@
 //! By how much locations change along the ways of a loop.
-use crate::task::Setting;
-use crate::ways::{Sum, Way};
-use fit_code::Memory;
+use crate::task::FuelTask;
+use crate::ways::{LinearSum, WayOut};
+use fit_code::Heap;
 use fit_graph::{Loop, range_in, successors_in};
 use sbx_domain::State;
 use sbx_parts::{Cell, Term};
@@ -22,12 +22,12 @@ impl Counter {
     /// Takes in a way of a block that begins with these cells, behind which the state is this: the counter changes by
     /// how much its form is more than the number that it began with or, where that isn't known, by any number. Gives
     /// what the way costs: as much less as the counter changes there at least.
-    fn pass(&mut self, cells: &[Cell], state: &State, memory: &mut Memory) -> i64 {
+    fn pass(&mut self, cells: &[Cell], state: &State, memory: &mut Heap) -> i64 {
         let own = [Term {
             location: self.cell.location,
             coefficient: 1,
         }];
-        let mut change = Sum::without(memory.alloc, 0, &own);
+        let mut change = LinearSum::without(memory.alloc, 0, &own);
         change.add_terms(state, &own);
         memory.is_refused |= change.is_refused;
         let (least, most) = if change.is_cancelled() {
@@ -48,12 +48,12 @@ impl Counter {
 /// Adds the ways that stay in a loop of a function, for each of its counters. These have to be known throughout the
 /// loop, also where a way can't be gone.
 pub fn add_ways(
-    setting: &Setting<'_>,
+    setting: &FuelTask<'_>,
     within: &Loop,
     counters: &mut [Counter],
-    ways: &mut Vec<Way>,
+    ways: &mut Vec<WayOut>,
     state: &mut State,
-    memory: &mut Memory,
+    memory: &mut Heap,
 ) {
     let (ranges, number) = (setting.task.ranges, setting.task.number);
     // a block has two ways at most
@@ -69,7 +69,7 @@ pub fn add_ways(
                 let location = counter.cell.location;
                 if is_open | range_in(cells, location).is_none() {
                     let cost = counter.pass(cells, state, memory);
-                    let way = Way {
+                    let way = WayOut {
                         from,
                         to,
                         location,

@@ -1,13 +1,13 @@
 //! The loop that takes the most of a function's fuel.
 use crate::declaring::terms::has_place;
 use crate::meter::Meter;
-use crate::ways::{Fuel, constant_at};
-use fit_code::{Function, Line};
+use crate::ways::{FunctionFuel, constant_at};
+use fit_code::{Function, SourceLine};
 use fit_graph::Loop;
 
 /// What a loop's counter has to pay for: what is asked for on the dearest way into it, without what the ways out of it
 /// ask for.
-fn counted(fuel: &Fuel, within: &Loop) -> i64 {
+fn counted(fuel: &FunctionFuel, within: &Loop) -> i64 {
     let mut inside: i64 = 0;
     let mut behind: i64 = 0;
     for way in fuel.ways.as_slice() {
@@ -29,9 +29,9 @@ fn counted(fuel: &Fuel, within: &Loop) -> i64 {
 pub fn dearest_loop(
     function: &Function,
     loops: &[Loop],
-    fuel: &Fuel,
+    fuel: &FunctionFuel,
     meter: Option<&Meter>,
-) -> Option<Line> {
+) -> Option<SourceLine> {
     let mut found = None;
     let mut most = i64::MIN;
     for within in loops {

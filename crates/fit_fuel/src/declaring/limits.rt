@@ -1,5 +1,5 @@
 //! Limits of an image that a program may pass.
-use fit_code::{Block, End, Fault, Function, Line, Program, Reason};
+use fit_code::{Block, End, Fault, Function, Program, Reason, SourceLine};
 use fit_text::FunctionNotes;
 
 /// The most words of code.
@@ -11,7 +11,7 @@ const STACK: u64 = 16 * 4096 - 64;
 /// More of something than there may be.
 #[derive(Clone, Copy)]
 struct Excess {
-    line: Line,
+    line: SourceLine,
     what: &'static str,
     count: u64,
     most: u64,
@@ -19,7 +19,7 @@ struct Excess {
 
 /// What is found of a program's numbers.
 #[derive(Clone, Copy)]
-struct Found {
+struct Extent {
     /// The words of code.
     words: u64,
     /// The first of them that passes a limit.
@@ -38,9 +38,9 @@ fn words_of(block: &Block) -> u64 {
     words
 }
 
-impl Found {
+impl Extent {
     /// Takes in how much there is of something, and how much there may be.
-    fn check(&mut self, line: Line, what: &'static str, count: u64, most: u64) {
+    fn check(&mut self, line: SourceLine, what: &'static str, count: u64, most: u64) {
         if (count > most) & self.excess.is_none() {
             self.excess = Some(Excess {
                 line,
@@ -73,7 +73,7 @@ impl Found {
 /// Whether a program of which this is said is within the limits of an image; else the first one that it passes, with
 /// its line.
 pub fn check_limits(program: &Program, annotations: &[FunctionNotes]) -> Result<(), Fault> {
-    let mut found = Found {
+    let mut found = Extent {
         words: 0,
         excess: None,
     };

@@ -1,14 +1,18 @@
 //! What the places of a meter take.
 use crate::meter::{Meter, set_weight};
-use crate::ways::{Fuel, METER, constant_at};
-use fit_code::{Function, Line};
+use crate::ways::{FunctionFuel, METER, constant_at};
+use fit_code::{Function, SourceLine};
 
 /// Lets each place take so much that the way on is paid for, as much as the dearest way to the next place weighs, where
 /// these are the fuel's ways. Says whether one takes more than before.
 ///
 /// # Errors
 /// The line of one that would have to take more than the meter ever has.
-pub fn set_weights(function: &mut Function, meter: &Meter, fuel: &mut Fuel) -> Result<bool, Line> {
+pub fn set_weights(
+    function: &mut Function,
+    meter: &Meter,
+    fuel: &mut FunctionFuel,
+) -> Result<bool, SourceLine> {
     let mut takes_more = false;
     let constants = fuel.constants.as_slice();
     let blocks = function.blocks.as_mut_slice();

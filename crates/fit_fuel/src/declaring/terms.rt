@@ -1,14 +1,14 @@
 //! The terms of blocks: what is left in the meter, and so many turns for each round that is left to a counter.
-use crate::bounds::{Bound, Bounds};
-use crate::task::Setting;
-use crate::ways::{Fuel, constant_at};
-use fit_code::Memory;
+use crate::bounds::{Bound, LoopBounds};
+use crate::task::FuelTask;
+use crate::ways::{FunctionFuel, constant_at};
+use fit_code::Heap;
 use fit_graph::Loop;
 use sbx_domain::State;
 use sbx_parts::Term;
 
 /// Adds a term to those of a block, which stand by location.
-fn add_term(terms: &mut Vec<Term>, term: Term, memory: &mut Memory) {
+fn add_term(terms: &mut Vec<Term>, term: Term, memory: &mut Heap) {
     let mut place: usize = 0;
     let mut is_found = false;
     for other in terms.as_mut_slice() {
@@ -35,8 +35,8 @@ pub(crate) fn has_place(within: &Loop, places: &[u32]) -> bool {
 /// Adds the terms that pay for a loop's rounds; says whether there are some: none where it has no bound, where no way
 /// leads round, or where an inner loop gains.
 fn add_rounds(
-    setting: &Setting<'_>,
-    fuel: &mut Fuel,
+    setting: &FuelTask<'_>,
+    fuel: &mut FunctionFuel,
     within: &Loop,
     bound: Option<Bound>,
     state: &mut State,
@@ -72,9 +72,9 @@ fn add_rounds(
 /// Finds the terms of each block of a function with these loops and bounds, and then the constants; says whether there
 /// are some: none where a loop has neither a place of the meter nor a bound, or where a round of ways gains.
 pub fn find_fuel(
-    setting: &Setting<'_>,
-    bounds: &Bounds,
-    fuel: &mut Fuel,
+    setting: &FuelTask<'_>,
+    bounds: &LoopBounds,
+    fuel: &mut FunctionFuel,
     state: &mut State,
 ) -> bool {
     let count = setting.function.blocks.len();

@@ -1,9 +1,9 @@
 //! The fuel of a function's blocks while it is looked for.
-use crate::task::{Setting, Task};
+use crate::task::{FuelTask, Task};
 use crate::ways::longest::settle;
-use crate::ways::sums::Sum;
+use crate::ways::sums::LinearSum;
 use crate::ways::weights::weight_of_block;
-use fit_code::Memory;
+use fit_code::Heap;
 use fit_graph::{Loop, range_in, successors_in};
 use fit_text::BlockNotes;
 use sbx_domain::State;
@@ -14,7 +14,7 @@ pub const METER: u16 = u16::MAX;
 
 /// A way out of a block.
 #[derive(Clone, Copy)]
-pub struct Way {
+pub struct WayOut {
     pub from: usize,
     /// The block that it leads to; none where the function or the run ends.
     pub to: Option<usize>,
@@ -27,17 +27,17 @@ pub struct Way {
 
 /// Constants and terms of the blocks of a function, and the ways that they pay for.
 #[derive(Drop)]
-pub struct Fuel {
+pub struct FunctionFuel {
     /// What those blocks take that are places of the meter; 0 of the others.
     pub places: Vec<u32>,
     /// What is said of each block: cells and terms, and at the end its constant.
     pub blocks: Vec<BlockNotes>,
     /// The ways that are looked at: those of a loop, or all.
-    pub ways: Vec<Way>,
+    pub ways: Vec<WayOut>,
     /// The least constants that pay for these ways; none of a block from which no way on is known.
     pub constants: Vec<Option<i64>>,
     /// Whether memory was refused for one of these.
-    pub memory: Memory,
+    pub memory: Heap,
 }
 
 /// The terms of a block, by its number.
@@ -49,7 +49,7 @@ fn terms_at(blocks: &[BlockNotes], block: usize) -> &[Term] {
     }
 }
 
-impl Fuel {
+impl FunctionFuel {
     /// Begins with what is known where each of so many blocks begins, and with the term of the meter in those that know
     /// it.
     pub fn begin(&mut self, task: &Task<'_>, count: usize) {
@@ -78,14 +78,14 @@ impl Fuel {
     /// What a way out of a block costs behind which the state is this.
     fn cost_of(
         &mut self,
-        setting: &Setting<'_>,
+        setting: &FuelTask<'_>,
         from: usize,
         to: Option<usize>,
         state: &State,
     ) -> i64 {
         let (task, blocks) = (setting.task, self.blocks.as_slice());
         let weight = weight_of_block(setting, from);
-        let mut sum = Sum::without(task.alloc, weight, terms_at(blocks, from));
+        let mut sum = LinearSum::without(task.alloc, weight, terms_at(blocks, from));
         if let Some(to) = to {
             sum.add_terms(state, terms_at(blocks, to));
         }
@@ -97,7 +97,7 @@ impl Fuel {
 
     /// Finds what the ways in a loop cost, and the least constants that pay for them; says whether there are some, and
     /// no round gains. A way that can't be gone isn't looked at.
-    pub fn pay(&mut self, setting: &Setting<'_>, within: &Loop, state: &mut State) -> bool {
+    pub fn pay(&mut self, setting: &FuelTask<'_>, within: &Loop, state: &mut State) -> bool {
         let (program, task) = (setting.program, setting.task);
         let (ranges, number) = (task.ranges, task.number);
         self.ways.clear();
@@ -115,7 +115,7 @@ impl Fuel {
                 // the way on from a place of the meter is the one that isn't taken
                 let is_place = (way == 1) & (from < self.places.len()) && self.places[from] > 0;
                 let location = if is_place { METER } else { 0 };
-                let way = Way {
+                let way = WayOut {
                     from,
                     to,
                     location,

@@ -1,5 +1,5 @@
 //! The least constants that pay for all ways: the dearest way on from each block.
-use crate::ways::fuel::Way;
+use crate::ways::fuel::WayOut;
 
 /// The constant of a block; none where no way on is known.
 pub fn constant_at(constants: &[Option<i64>], block: usize) -> Option<i64> {
@@ -12,7 +12,7 @@ pub fn constant_at(constants: &[Option<i64>], block: usize) -> Option<i64> {
 
 /// Raises constants to what the ways ask for that this location pays for, once; says whether one rose. Nothing is asked
 /// for at the head of a loop, where a round ends.
-fn raise(constants: &mut [Option<i64>], ways: &[Way], head: usize, location: u16) -> bool {
+fn raise(constants: &mut [Option<i64>], ways: &[WayOut], head: usize, location: u16) -> bool {
     let mut has_risen = false;
     for place in (0..ways.len()).rev() {
         let way = &ways[place];
@@ -36,7 +36,7 @@ fn raise(constants: &mut [Option<i64>], ways: &[Way], head: usize, location: u16
 
 /// Finds the least constants that pay for the ways of a location, in the loop of a head; says whether there are some,
 /// and no round of ways gains.
-pub fn settle(constants: &mut [Option<i64>], ways: &[Way], head: usize, location: u16) -> bool {
+pub fn settle(constants: &mut [Option<i64>], ways: &[WayOut], head: usize, location: u16) -> bool {
     for _ in 0..=constants.len() {
         if !raise(constants, ways, head, location) {
             return true;

@@ -16,7 +16,7 @@ struct Multiple {
 
 /// A number, and multiples of locations.
 #[derive(Drop)]
-pub struct Sum {
+pub struct LinearSum {
     constant: i64,
     multiples: Vec<Multiple>,
     /// Whether memory was refused for one of them.
@@ -30,10 +30,10 @@ fn ends_of(times: i64, range: Range) -> (i64, i64) {
     (low.min(high), low.max(high))
 }
 
-impl Sum {
+impl LinearSum {
     /// A number, from which a block's own terms are taken away.
-    pub fn without(alloc: Global, constant: i64, terms: &[Term]) -> Sum {
-        let mut sum = Sum {
+    pub fn without(alloc: Global, constant: i64, terms: &[Term]) -> LinearSum {
+        let mut sum = LinearSum {
             constant,
             multiples: Vec::new(alloc),
             is_refused: false,

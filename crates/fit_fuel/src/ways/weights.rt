@@ -1,5 +1,5 @@
 //! What the words of a block weigh, in turns at worst.
-use crate::task::Setting;
+use crate::task::FuelTask;
 use crate::totals::called_by;
 use fit_code::End;
 use v8_formats::Instr;
@@ -9,7 +9,7 @@ const WINDOW: i64 = 25;
 
 /// What a block weighs, by its place in the function and what is known of what it calls, without what is spared. Before
 /// the steps of the first one stands SAVE.
-pub fn weight_of_block(setting: &Setting<'_>, place: usize) -> i64 {
+pub fn weight_of_block(setting: &FuelTask<'_>, place: usize) -> i64 {
     let (task, function) = (setting.task, setting.function);
     if place >= function.blocks.len() {
         return 0;

@@ -10,24 +10,24 @@ use v8_meaning::{Loading, Op, Operation, Transfer, operation_of};
 /// What a register holds, as far as its block tells: the word that a location had where the block began, and a number
 /// more; the number alone where the location is 0.
 #[derive(Clone, Copy)]
-struct Held {
+struct HeldWord {
     location: u16,
     more: i64,
 }
 
 /// A word of which nothing is known: no location has this number.
-const UNKNOWN: Held = Held {
+const UNKNOWN: HeldWord = HeldWord {
     location: 0xffff,
     more: 0,
 };
 
-const ZERO: Held = Held {
+const ZERO: HeldWord = HeldWord {
     location: 0,
     more: 0,
 };
 
 /// What an operation gives: a sum, of which one part has to be a number alone, or an OR of numbers.
-fn result_of(op: Op, first: Held, second: Held) -> Held {
+fn result_of(op: Op, first: HeldWord, second: HeldWord) -> HeldWord {
     let are_numbers = (first.location == 0) & (second.location == 0);
     let is_one_zero = (first.location == 0) & (first.more == 0)
         | (second.location == 0) & (second.more == 0);
@@ -36,7 +36,7 @@ fn result_of(op: Op, first: Held, second: Held) -> Held {
         Op::Sub | Op::SubCc if second.location == 0 => second.more.saturating_neg(),
         Op::Or | Op::OrCc if is_one_zero => second.more,
         Op::Or if are_numbers => {
-            return Held {
+            return HeldWord {
                 location: 0,
                 more: first.more | second.more,
             };
@@ -46,17 +46,17 @@ fn result_of(op: Op, first: Held, second: Held) -> Held {
     if (first.location != 0) & (second.location != 0) {
         return UNKNOWN;
     }
-    Held {
+    HeldWord {
         location: first.location.max(second.location),
         more: first.more.saturating_add(more),
     }
 }
 
 /// What an operand holds.
-fn word_of(held: &[Held; 32], operand: Operand) -> Held {
+fn word_of(held: &[HeldWord; 32], operand: Operand) -> HeldWord {
     match operand {
         Operand::Register(register) => held[usize::from(register.number())],
-        Operand::Immediate(number) => Held {
+        Operand::Immediate(number) => HeldWord {
             location: 0,
             more: i64::from(number.cast_signed()),
         },
@@ -65,7 +65,7 @@ fn word_of(held: &[Held; 32], operand: Operand) -> Held {
 
 /// Runs a step of a block on what the registers hold. Gives two words that it compares, unknown ones where it compares
 /// none.
-fn run(held: &mut [Held; 32], frame: u32, step: &Step) -> [Held; 2] {
+fn run(held: &mut [HeldWord; 32], frame: u32, step: &Step) -> [HeldWord; 2] {
     let mut compared = [UNKNOWN; 2];
     let result = match operation_of(&step.instr) {
         Operation::Compute(op, fields) => {
@@ -79,11 +79,11 @@ fn run(held: &mut [Held; 32], frame: u32, step: &Step) -> [Held; 2] {
             }
             result
         }
-        Operation::SetHigh(fields) => Held {
+        Operation::SetHigh(fields) => HeldWord {
             location: 0,
             more: i64::from(fields.imm22.wrapping_mul(1024).cast_signed()),
         },
-        Operation::Transfer(Transfer::Load(Loading::Word), operand) => Held {
+        Operation::Transfer(Transfer::Load(Loading::Word), operand) => HeldWord {
             location: frame_word_of(frame, &operand).unwrap_or(UNKNOWN.location),
             more: 0,
         },
@@ -100,7 +100,7 @@ fn run(held: &mut [Held; 32], frame: u32, step: &Step) -> [Held; 2] {
 
 impl Thresholds {
     /// Two words are compared: a location gets the number that it is compared with, and those beside it.
-    fn compare(&mut self, first: Held, second: Held) {
+    fn compare(&mut self, first: HeldWord, second: HeldWord) {
         let (one, other) = (first.location, second.location);
         let are_known = (one != UNKNOWN.location) & (other != UNKNOWN.location);
         if are_known & (one != other) {

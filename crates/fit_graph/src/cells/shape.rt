@@ -1,11 +1,11 @@
 //! The shape of a function, for who goes along its ways.
 use crate::graph::{Graph, Listed, Loop, Order, list, put_places};
-use crate::live::Locations;
-use fit_code::{Function, Memory};
+use crate::live::LocationSet;
+use fit_code::{Function, Heap};
 
 /// What stays the same while a function's ranges are looked for.
 #[derive(Drop)]
-pub struct Shape {
+pub struct FunctionShape {
     /// The blocks that can be reached from the first one, each before those that follow it but where a loop goes back,
     /// and a loop's blocks with no others between them: a loop is left for good before what stands behind it is looked
     /// at.
@@ -14,12 +14,12 @@ pub struct Shape {
     /// more where a branch isn't taken.
     pub sources: Vec<Vec<usize>>,
     /// Of each block, what is live where it begins.
-    pub live: Vec<Locations>,
+    pub live: Vec<LocationSet>,
 }
 
 /// The blocks of an order, where those of a loop stand right behind its head, in their order, and behind them those
 /// that stood between them.
-fn gathered(memory: &mut Memory, blocks: &[usize], within: &Loop) -> Vec<usize> {
+fn gathered(memory: &mut Heap, blocks: &[usize], within: &Loop) -> Vec<usize> {
     let mut gathered = Vec::new(memory.alloc);
     let mut others = Vec::new(memory.alloc);
     let mut is_behind = false;
@@ -35,7 +35,7 @@ fn gathered(memory: &mut Memory, blocks: &[usize], within: &Loop) -> Vec<usize> 
     gathered
 }
 
-impl Shape {
+impl FunctionShape {
     /// The place of the order behind the last one from which a way leads to a block; 0 where none does.
     pub fn end_of(&self, block: usize) -> usize {
         let mut end: usize = 0;
@@ -50,7 +50,7 @@ impl Shape {
     }
 
     /// The shape of a function, before it is known what is live in it.
-    pub fn of(memory: &mut Memory, function: &Function) -> Shape {
+    pub fn of(memory: &mut Heap, function: &Function) -> FunctionShape {
         let graph = Graph::of(memory, function);
         let loops = graph.loops(memory);
         let mut order = graph.order;
@@ -58,10 +58,10 @@ impl Shape {
             order.blocks = gathered(memory, order.blocks.as_slice(), within);
         }
         put_places(order.places.as_mut_slice(), order.blocks.as_slice());
-        Shape {
+        FunctionShape {
             order,
             sources: list(memory, function, Listed::Ways),
-            live: memory.repeat(Locations::none(), function.blocks.len()),
+            live: memory.repeat(LocationSet::none(), function.blocks.len()),
         }
     }
 }

@@ -1,5 +1,5 @@
 //! The numbers at which a range that grows may stop.
-use fit_code::{Function, Memory, Program};
+use fit_code::{Function, Heap, Program};
 use sbx_domain::LOCATIONS;
 use sbx_range::Range;
 
@@ -34,7 +34,7 @@ const MOST: usize = 100;
 /// Where the ranges of a function's locations may stop.
 #[derive(Drop)]
 pub struct Thresholds {
-    pub(crate) memory: Memory,
+    pub(crate) memory: Heap,
     /// Each number behind its location; once all are there by location, the least number first, and each once.
     numbers: Vec<(u16, i32)>,
     /// Locations that are compared with other ones, whose numbers they get.
@@ -160,7 +160,7 @@ impl Thresholds {
 
 /// The thresholds of a function that is called with these params.
 pub fn thresholds_of(
-    memory: &mut Memory,
+    memory: &mut Heap,
     program: &Program,
     function: &Function,
     params: &[Range],

@@ -2,7 +2,7 @@
 use crate::graph::loops::{Loop, last_around};
 use crate::graph::reach::{is_held, reach};
 use crate::graph::{Listed, Order, list, order_in, successors_in};
-use fit_code::{Function, Memory};
+use fit_code::{Function, Heap};
 
 /// The blocks of a function, and where control comes from to each of them.
 #[derive(Drop)]
@@ -14,7 +14,7 @@ pub struct Graph {
 
 impl Graph {
     /// The graph of a function.
-    pub fn of(memory: &mut Memory, function: &Function) -> Graph {
+    pub fn of(memory: &mut Heap, function: &Function) -> Graph {
         Graph {
             order: order_in(memory, function),
             predecessors: list(memory, function, Listed::Sources),
@@ -22,7 +22,7 @@ impl Graph {
     }
 
     /// For each block whether it is one of some, or can come to one of them, without a head.
-    fn come_from(&self, memory: &mut Memory, blocks: &[usize], head: usize) -> Vec<bool> {
+    fn come_from(&self, memory: &mut Heap, blocks: &[usize], head: usize) -> Vec<bool> {
         let mut within = memory.repeat(true, self.predecessors.len());
         let slots = within.as_mut_slice();
         if head < slots.len() {
@@ -38,7 +38,7 @@ impl Graph {
 
     /// Of a way that goes back, from a block to itself or to one before it, whether the other block is on each way from
     /// the first one to it. Nothing of a way that goes on.
-    fn goes_to_head(&self, memory: &mut Memory, from: usize, to: usize) -> Option<bool> {
+    fn goes_to_head(&self, memory: &mut Heap, from: usize, to: usize) -> Option<bool> {
         match (self.order.place(to), self.order.place(from)) {
             (Some(above), Some(below)) if above <= below => {
                 let before = self.come_from(memory, &[from], to);
@@ -50,7 +50,7 @@ impl Graph {
 
     /// The loops whose heads are on each way to their blocks, one for each head, by their heads' order: an outer one
     /// before an inner one.
-    pub fn loops(&self, memory: &mut Memory) -> Vec<Loop> {
+    pub fn loops(&self, memory: &mut Heap) -> Vec<Loop> {
         let mut loops = Vec::new(memory.alloc);
         let predecessors = self.predecessors.as_slice();
         for head in self.order.blocks.as_slice() {
@@ -83,7 +83,7 @@ impl Graph {
 
     /// A block that control goes back to, though it isn't on each way to where control comes from: a loop that has
     /// another entry beside it. None where each loop of the function has one entry, which is its head.
-    pub fn entered_beside(&self, memory: &mut Memory, function: &Function) -> Option<usize> {
+    pub fn entered_beside(&self, memory: &mut Heap, function: &Function) -> Option<usize> {
         let blocks = self.order.blocks.as_slice();
         for way in 0..blocks.len().saturating_mul(2) {
             if way / 2 < blocks.len()

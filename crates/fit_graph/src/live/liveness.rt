@@ -1,13 +1,13 @@
 //! Which locations are live: read later before they are written, whatever the words on the way are.
-use crate::cells::Shape;
+use crate::cells::FunctionShape;
 use crate::live::effects::{LOST, bits_of, effects_of, of_registers};
-use crate::live::locations::Locations;
+use crate::live::locations::LocationSet;
 use crate::means::Means;
 use fit_code::{Block, End, Function, NO_LINE, Program, Step};
 
 /// How many of %o0 to %o5 a function takes for granted at its entry, and how many its callers do behind a call.
 #[derive(Clone, Copy, PartialEq, Eq)]
-pub struct Counts {
+pub struct RegisterCounts {
     pub params: u8,
     pub results: u8,
 }
@@ -52,8 +52,13 @@ pub fn read_at_end(function: &Function, results: u8, end: &End) -> u32 {
 }
 
 /// What is live behind the steps of a block.
-fn live_behind(function: &Function, results: u8, block: &Block, live: &[Locations]) -> Locations {
-    let mut behind = Locations::none();
+fn live_behind(
+    function: &Function,
+    results: u8,
+    block: &Block,
+    live: &[LocationSet],
+) -> LocationSet {
+    let mut behind = LocationSet::none();
     let ways = block.end.ways();
     for way in 0..2 {
         if let Some(to) = ways[way]
@@ -72,11 +77,16 @@ fn live_behind(function: &Function, results: u8, block: &Block, live: &[Location
 
 /// Before a step. The callee of a call is asked for as many results as are live behind it; says whether these are more
 /// than before.
-fn pass_step(counts: &mut [Counts], live: &mut Locations, frame: u32, step: &Step) -> bool {
+fn pass_step(
+    counts: &mut [RegisterCounts],
+    live: &mut LocationSet,
+    frame: u32,
+    step: &Step,
+) -> bool {
     let mut is_new = false;
     if let Some(callee) = step.callee {
         if callee < counts.len() {
-            let Counts { params, results } = counts[callee];
+            let RegisterCounts { params, results } = counts[callee];
             let asked = last_of_six(live.registers() >> 8);
             is_new = asked > results;
             counts[callee].results = results.max(asked);
@@ -95,15 +105,15 @@ fn pass_step(counts: &mut [Counts], live: &mut Locations, frame: u32, step: &Ste
 /// what it takes for granted at its entry, but for the first function of a program, which is called by nobody. Says
 /// whether more is live or asked for than before.
 fn pass_function(
-    counts: &mut [Counts],
+    counts: &mut [RegisterCounts],
     number: usize,
     function: &Function,
-    shape: &mut Shape,
+    shape: &mut FunctionShape,
 ) -> bool {
     if number >= counts.len() {
         return false;
     }
-    let Counts { params, results } = counts[number];
+    let RegisterCounts { params, results } = counts[number];
     let (blocks, live) = (function.blocks.as_slice(), shape.live.as_mut_slice());
     let mut is_new = false;
     for place in shape.order.blocks.as_slice().iter().rev() {
@@ -126,9 +136,13 @@ fn pass_function(
 /// Finds what is live where the blocks of a program begin, whose functions have these shapes: goes over it until no
 /// more is live or asked for, through all functions once and again, those that are called first. Gives how many params
 /// and results the functions have.
-pub fn find_live(means: &mut Means, program: &Program, shapes: &mut [Shape]) -> Vec<Counts> {
+pub fn find_live(
+    means: &mut Means,
+    program: &Program,
+    shapes: &mut [FunctionShape],
+) -> Vec<RegisterCounts> {
     let functions = program.functions.as_slice();
-    let none = Counts {
+    let none = RegisterCounts {
         params: 0,
         results: 0,
     };

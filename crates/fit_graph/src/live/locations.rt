@@ -6,14 +6,14 @@ const WORDS: usize = 17;
 
 /// A set of registers and frame words, by their numbers as locations: 1 to 31, and 32 + k for word k of the frame.
 #[derive(Clone, Copy, PartialEq, Eq)]
-pub struct Locations {
+pub struct LocationSet {
     words: [u64; WORDS],
 }
 
-impl Locations {
+impl LocationSet {
     /// No location.
-    pub fn none() -> Locations {
-        Locations { words: [0; WORDS] }
+    pub fn none() -> LocationSet {
+        LocationSet { words: [0; WORDS] }
     }
 
     /// Whether a location is in the set.
@@ -38,7 +38,7 @@ impl Locations {
     }
 
     /// Puts another set's locations in. Says whether the set grew.
-    pub fn add(&mut self, other: &Locations) -> bool {
+    pub fn add(&mut self, other: &LocationSet) -> bool {
         let before = *self;
         for place in 0..WORDS {
             self.words[place] |= other.words[place];

@@ -3,8 +3,8 @@
 //! no loop, has one all the same: else each round of that loop would pay for it, since the run may go on there.
 use crate::metering::registers::free_register;
 use fit_checks::{insert_instr, push_block, register};
-use fit_code::{Block, End, Function, Memory, NO_LINE};
-use fit_fuel::{Bounds, Meter, counting, number_in};
+use fit_code::{Block, End, Function, Heap, NO_LINE};
+use fit_fuel::{LoopBounds, Meter, counting, number_in};
 use fit_graph::{Graph, Loop, successors_in};
 use v8_formats::{Cond, Instr, Operand, Reg, Three};
 
@@ -15,7 +15,7 @@ const EMPTY: u32 = 4 << 16;
 const GREATEST: u64 = 0x7fff_ffff;
 
 /// Leaves of the heads of loops with bounds only those behind a loop without one, and in no loop.
-fn drop_bounded(heads: &mut [bool], bounds: &Bounds) {
+fn drop_bounded(heads: &mut [bool], bounds: &LoopBounds) {
     let loops = bounds.loops.as_slice();
     let mut is_behind = false;
     for number in 0..loops.len() {
@@ -31,7 +31,7 @@ fn drop_bounded(heads: &mut [bool], bounds: &Bounds) {
 /// Which blocks of a function get a place of the meter on each way to them: those that control goes back to, as an
 /// order of the blocks has it, since each round of a loop comes through one of them; but of the heads of loops with
 /// bounds only some.
-fn heads_of(memory: &mut Memory, function: &Function, bounds: &Bounds) -> Vec<bool> {
+fn heads_of(memory: &mut Heap, function: &Function, bounds: &LoopBounds) -> Vec<bool> {
     let mut heads = memory.repeat(false, function.blocks.len());
     let order = Graph::of(memory, function).order;
     let are_heads = heads.as_mut_slice();
@@ -113,7 +113,7 @@ fn redirect(blocks: &mut [Block], from: usize, to: usize, within: &[bool]) {
 /// Puts a place of the meter before a block, and a block where the run ends because the meter is empty: whatever went
 /// to the block goes to the place, but for the blocks of a loop, which is given by whether each block is in it.
 fn put_place(
-    memory: &mut Memory,
+    memory: &mut Heap,
     blocks: &mut Vec<Block>,
     meter: &Meter,
     head: usize,
@@ -143,7 +143,7 @@ fn put_place(
 }
 
 /// Puts places of a meter before the heads among a function's blocks.
-fn put_at_heads(memory: &mut Memory, blocks: &mut Vec<Block>, meter: &Meter, heads: &[bool]) {
+fn put_at_heads(memory: &mut Heap, blocks: &mut Vec<Block>, meter: &Meter, heads: &[bool]) {
     for head in 0..heads.len() {
         if heads[head] {
             put_place(memory, blocks, meter, head, &[]);
@@ -154,7 +154,7 @@ fn put_at_heads(memory: &mut Memory, blocks: &mut Vec<Block>, meter: &Meter, hea
 /// Puts places of a meter before loops that go without it in one that has it, on the ways into them, so that what comes
 /// before pays for the way there alone, and not for their rounds.
 fn put_at_entries(
-    memory: &mut Memory,
+    memory: &mut Heap,
     blocks: &mut Vec<Block>,
     meter: &Meter,
     loops: &[Loop],
@@ -178,11 +178,11 @@ fn put_at_entries(
 /// begins with is set where the function begins. Says whether the function has the register, or the word, that its
 /// meter needs.
 pub fn insert_meter(
-    memory: &mut Memory,
+    memory: &mut Heap,
     meters: &mut Vec<Option<Meter>>,
     function: &mut Function,
     turns: u64,
-    bounds: &Bounds,
+    bounds: &LoopBounds,
 ) -> bool {
     let heads = heads_of(memory, function, bounds);
     let heads = heads.as_slice();

@@ -1,6 +1,6 @@
 //! Filling delay slots, and what becomes of blocks that control doesn't come to.
-use fit_checks::{CODES, Kind, Y, number_in, push_instrs, use_of};
-use fit_code::{Block, End, Memory, Program, Step};
+use fit_checks::{CODES, TestKind, Y, number_in, push_instrs, use_of};
+use fit_code::{Block, End, Heap, Program, Step};
 use fit_ranges::Ranges;
 use v8_meaning::{Operation, Transfer, operation_of};
 
@@ -71,14 +71,14 @@ fn fill_calls(steps: &mut Vec<Step>) {
 /// Blocks stand in their places then, and go on to the next one without a jump. Those to which control doesn't come,
 /// as behind a test that always fails, are ends of the run, with the exit word of their lines as where a test of an
 /// index fails: nothing is known where they begin, and the verifier refuses a block that reads what no cell names.
-pub fn fill(memory: &mut Memory, program: &mut Program, ranges: &Ranges) {
+pub fn fill(memory: &mut Heap, program: &mut Program, ranges: &Ranges) {
     for (number, function) in program.functions.iter_mut().enumerate() {
         for (place, block) in function.blocks.iter_mut().enumerate() {
             if ranges.reaches(number, place) {
                 fill_end(block, place.saturating_add(1));
                 fill_calls(&mut block.steps);
             } else {
-                let instrs = number_in(EXIT_WORD, Kind::Index.exit_word(block.line));
+                let instrs = number_in(EXIT_WORD, TestKind::Index.exit_word(block.line));
                 block.steps.clear();
                 block.end = End::Exit;
                 block.slot = None;

@@ -1,6 +1,6 @@
 //! What is known of a function's blocks so far.
-use fit_code::{Block, Function, Memory};
-use fit_graph::{Effects, Locations, effects_in, effects_of, range_in};
+use fit_code::{Block, Function, Heap};
+use fit_graph::{Effects, LocationSet, effects_in, effects_of, range_in};
 use sbx_range::Cell;
 use std::mem;
 
@@ -9,7 +9,7 @@ const NARROWINGS: u32 = 6;
 
 /// What is known of a block.
 #[derive(Drop)]
-pub struct Known {
+pub struct BlockRanges {
     /// What is known where it begins; nothing where no way comes there.
     pub cells: Option<Vec<Cell>>,
     /// What is known where each of its ways ends; nothing of one that can't be gone.
@@ -17,7 +17,7 @@ pub struct Known {
     /// The same before its ranges were last forgotten.
     before: [Option<Vec<Cell>>; 2],
     /// What it reads or writes.
-    touched: Locations,
+    touched: LocationSet,
     /// How often its cells grew since they were last forgotten, and how often they were narrowed.
     pub changes: u32,
     narrowings: u32,
@@ -47,7 +47,7 @@ pub fn replace(slot: &mut Option<Vec<Cell>>, new: Option<Vec<Cell>>) -> bool {
 }
 
 /// Adds what is read and written: one word of the frame at most, which is both at times.
-fn add_effects(touched: &mut Locations, effects: &Effects) {
+fn add_effects(touched: &mut LocationSet, effects: &Effects) {
     touched.pass(&Effects {
         reads: effects.reads | effects.writes,
         writes: 0,
@@ -57,8 +57,8 @@ fn add_effects(touched: &mut Locations, effects: &Effects) {
 }
 
 /// The locations that a block reads or writes. What its branch is taken by is among them, since a compare reads it.
-pub fn touched_in(function: &Function, block: &Block) -> Locations {
-    let mut touched = Locations::none();
+pub fn touched_in(function: &Function, block: &Block) -> LocationSet {
+    let mut touched = LocationSet::none();
     for step in block.steps.as_slice() {
         add_effects(&mut touched, &effects_in(function.frame, step));
         if let Some(slot) = &step.slot {
@@ -71,14 +71,14 @@ pub fn touched_in(function: &Function, block: &Block) -> Locations {
     touched
 }
 
-impl Known {
+impl BlockRanges {
     /// Nothing is known of a block.
-    pub fn nothing() -> Known {
-        Known {
+    pub fn nothing() -> BlockRanges {
+        BlockRanges {
             cells: None,
             ways: [None, None],
             before: [None, None],
-            touched: Locations::none(),
+            touched: LocationSet::none(),
             changes: 0,
             narrowings: 0,
         }
@@ -86,7 +86,7 @@ impl Known {
 
     /// Forgets what is known of a block that reads or writes these locations, but for what was known where its ways
     /// end.
-    pub fn forget(&mut self, touched: Locations) {
+    pub fn forget(&mut self, touched: LocationSet) {
         self.before = mem::replace(&mut self.ways, [None, None]);
         self.cells = None;
         self.touched = touched;
@@ -135,7 +135,7 @@ impl Known {
 
     /// What is known where a way ends, if it can be gone, with the ranges that what the block doesn't touch has where
     /// it begins.
-    pub fn passed_on(&self, memory: &mut Memory, way: usize) -> Option<Vec<Cell>> {
+    pub fn passed_on(&self, memory: &mut Heap, way: usize) -> Option<Vec<Cell>> {
         let (Some(cells), Some(end)) = (&self.cells, &self.ways[way % 2]) else {
             return None;
         };

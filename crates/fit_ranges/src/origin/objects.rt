@@ -5,7 +5,7 @@ use fit_code::{Object, Program, Region};
 /// The numbers of a register with which an access lies where it has to: from `lo` to `hi`, both as signed words; none
 /// where `hi` is below `lo`.
 #[derive(Clone, Copy)]
-pub struct Bounds {
+pub struct WordBounds {
     pub lo: i64,
     pub hi: i64,
     /// The object in which the access has to lie; where none is known it has to lie in the data.
@@ -100,12 +100,12 @@ fn bounds_between(
     size: i64,
     (from, to): (i64, i64),
     object: Option<usize>,
-) -> Bounds {
+) -> WordBounds {
     let least = from.saturating_sub(origin.constant).saturating_neg();
     let greatest = to.saturating_sub(size).saturating_sub(origin.constant);
     // `times` is above 0, so that each quotient is rounded down
     let below = least.checked_div_euclid(origin.times).unwrap_or(0);
-    Bounds {
+    WordBounds {
         lo: below.saturating_neg(),
         hi: greatest.checked_div_euclid(origin.times).unwrap_or(0),
         object,
@@ -114,7 +114,7 @@ fn bounds_between(
 
 /// Where the word of an origin's register may lie for an access of so many bytes: that it lies in the object that its
 /// base names, else in the data that may be written.
-pub fn bounds_of(program: &Program, origin: &Origin, size: i64) -> Bounds {
+pub fn bounds_of(program: &Program, origin: &Origin, size: i64) -> WordBounds {
     let named = named_object(program, origin).or(least_object(program, origin));
     let objects = program.objects.as_slice();
     let addresses = match named {
@@ -128,7 +128,7 @@ pub fn bounds_of(program: &Program, origin: &Origin, size: i64) -> Bounds {
 }
 
 /// The same of a load from the constants; nothing where the program has none.
-pub fn bounds_in_constants(program: &Program, origin: &Origin, size: i64) -> Option<Bounds> {
+pub fn bounds_in_constants(program: &Program, origin: &Origin, size: i64) -> Option<WordBounds> {
     match program.regions.first() {
         Some(region) if region.readonly => {
             let addresses = window(Some(region), origin.constant);

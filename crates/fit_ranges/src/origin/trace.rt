@@ -1,5 +1,5 @@
 //! What is known of the operands of a block's steps.
-use fit_code::{Block, Memory};
+use fit_code::{Block, Heap};
 use fit_graph::run_step;
 use sbx_domain::{State, frame_word_of};
 use sbx_range::{Range, known};
@@ -9,12 +9,12 @@ use v8_meaning::{Operation, operation_of};
 
 /// The ranges of a step's first operand and of its second one, before the step; nothing where one is undefined, or
 /// the step has none.
-pub type Operands = [Option<Range>; 2];
+pub type OperandRanges = [Option<Range>; 2];
 
 /// The operands of each step of a block.
 #[derive(Drop)]
 pub struct Trace {
-    pub operands: Vec<Operands>,
+    pub operands: Vec<OperandRanges>,
 }
 
 /// The operands of an instruction that has two. Of a load or a store they are the parts of its address, and one of a
@@ -52,7 +52,7 @@ pub fn trace_of(
     block: &Block,
     state: &mut State,
 ) -> Result<Trace, AllocError> {
-    let mut memory = Memory::new(alloc);
+    let mut memory = Heap::new(alloc);
     let mut operands = Vec::new(alloc);
     for step in block.steps.as_slice() {
         let known = match operands_of(frame, &step.instr) {
@@ -70,7 +70,7 @@ pub fn trace_of(
 
 impl Trace {
     /// The operands of a step, by its place in the block.
-    pub fn at(&self, place: usize) -> Operands {
+    pub fn at(&self, place: usize) -> OperandRanges {
         if place < self.operands.len() {
             self.operands[place]
         } else {
