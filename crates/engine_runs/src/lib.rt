@@ -3,13 +3,13 @@
 #![tactic(auto)]
 
 mod counts;
-mod course;
-mod paced;
+mod flat_run;
+mod flat_session;
 mod runs;
 mod tally;
 
-pub use course::{Course, Halt};
-pub use paced::{Paced, Stand, Step};
-pub use runs::{Finished, run_flat};
+pub use flat_run::{FlatRun, FlatStop};
+pub use flat_session::{FlatSession, FlatStand, FlatStep};
+pub use runs::{FlatFinished, run_flat};
 pub use sbx_verify::Accepted;
 pub use tally::Tally;

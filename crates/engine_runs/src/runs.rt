@@ -4,14 +4,14 @@ ghost use Rattle.sbx_flat.specs.Runs.{AreBytes};
 ghost use Rattle.engine_runs.specs.Answer.{IsAnswer, Serves};
 ghost use Rattle.engine_runs.specs.Halts.{HaltsSo};
 
-use crate::course::{Course, Halt, MOST};
+use crate::flat_run::{FlatRun, FlatStop, MOST};
 use sbx_verify::Accepted;
 use std::alloc::{AllocError, Global};
 
 /// What a run gave: the exit word, the bytes written, the turns that it would make on a machine with the windows that
 /// were asked for, and how often that would have no window to save to or to restore from.
 #[derive(Drop)]
-pub struct Finished {
+pub struct FlatFinished {
     pub status: u32,
     pub output: Vec<u8>,
     pub turns: u64,
@@ -30,20 +30,20 @@ fn tells_bytes(bytes: &[u8])
 /// the exit word.
 #[tactic(auto, using(crate::proofs::Stepping::byte_asks, crate::proofs::Stepping::room_asks, crate::proofs::Stepping::ended_exits, crate::proofs::Stepping::not_short))]
 fn serve(
-    course: &mut Course,
-    halt: Halt,
+    course: &mut FlatRun,
+    halt: FlatStop,
     input: &[u8],
     read: &mut usize,
     output: &mut Vec<u8>,
 ) -> Result<Option<u32>, AllocError>
     requires halts { HaltsSo (2 ^ 62) course.old halt }
     requires few { course.old.tally.traffic.turns < 2 ^ 40 }
-    requires found { halt ≢ Halt.Lost }
+    requires found { halt ≢ FlatStop.Lost }
     requires within { read.old ≤ length input.now }
     ensures { IfOk result (Serves input.now read.old output.old.items course.old read.new output.new.items course.new) }
 {
     match halt {
-        Halt::Byte(after) => {
+        FlatStop::Byte(after) => {
             if *read < input.len() {
                 course.take_byte(input[*read], after);
                 *read += 1;
@@ -52,14 +52,14 @@ fn serve(
             course.take_end(after);
             Ok(None)
         }
-        Halt::Room(after) => {
+        FlatStop::Room(after) => {
             output.push(course.give_byte(after))?;
             Ok(None)
         }
-        Halt::Ended(status) => Ok(Some(status)),
-        Halt::Refused(want) => Err(AllocError::from(want)),
-        Halt::Short => unreachable!(),
-        Halt::Lost => unreachable!(),
+        FlatStop::Ended(status) => Ok(Some(status)),
+        FlatStop::Refused(want) => Err(AllocError::from(want)),
+        FlatStop::Short => unreachable!(),
+        FlatStop::Lost => unreachable!(),
     }
 }
 
@@ -71,12 +71,12 @@ pub fn run_flat(
     accepted: &Accepted,
     windows: u32,
     input: &[u8],
-) -> Result<Finished, AllocError>
+) -> Result<FlatFinished, AllocError>
     requires { 2 ≤ windows }
     ensures { IfOk result (λ finished. IsAnswer accepted.now windows input.now finished) }
 {
     tells_bytes(input);
-    let mut course = Course::new(alloc, accepted, windows)?;
+    let mut course = FlatRun::new(alloc, accepted, windows)?;
     let mut output = Vec::new(alloc);
     let mut read = 0;
     'rounds: for _round in 0..u64::MAX {
@@ -85,7 +85,7 @@ pub fn run_flat(
             None => {}
             Some(status) => {
                 let counts = course.tally.traffic;
-                return Ok(Finished {
+                return Ok(FlatFinished {
                     status,
                     output,
                     turns: counts.turns,

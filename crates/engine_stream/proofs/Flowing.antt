@@ -12,7 +12,7 @@ use Rattle.want.specs.declared.Want.{Want}
 use Rattle.sbx_raw.specs.declared.fault.RunFault.{RunFault}
 use Rattle.sbx_raw.specs.declared.fault.RunFault.TheVariants.{Memory, Reader, Writer}
 use Rattle.engine_runs.specs.Going.{IsAllOf, IsUnderWay, NeverGoes, StillGoes, beyond}
-use Rattle.engine_runs.specs.declared.course.Course.{Course}
+use Rattle.engine_runs.specs.declared.flat_run.FlatRun.{FlatRun}
 use Rattle.engine_runs.specs.Halts.{AsksWithin}
 use Rattle.engine_runs.specs.declared.tally.Tally.{Tally}
 use Rattle.engine_core.specs.declared.asking.Asked.{Asked}
@@ -20,18 +20,18 @@ use Rattle.engine_runs.proofs.Ends.{few, front, whole, within}
 use Rattle.engine_runs.proofs.Onward.{bytes_after, end_known, no_bytes, one_byte}
 use Rattle.engine_stream.specs.Flows.{Flows, IsCutOff, IsFlowed, StopsSo, StreamsOn}
 use Rattle.engine_stream.specs.declared.flow.RunEnd.TheVariants.{Ended, Fault}
-use Rattle.engine_stream.specs.declared.flow.Flowed.{Flowed}
+use Rattle.engine_stream.specs.declared.flow.FlatEnded.{FlatEnded}
 
 -- nothing read, nothing written
-pub begun : (parts : Parts) (n : ℕ) (course : Course) (reader writer : Option (List ℕ)) → IsUnderWay parts n [] [] false course → Streamed reader reader writer writer (Flows parts n false course)
+pub begun : (parts : Parts) (n : ℕ) (course : FlatRun) (reader writer : Option (List ℕ)) → IsUnderWay parts n [] [] false course → Streamed reader reader writer writer (Flows parts n false course)
 begun parts n course reader writer goes = ([], false, [], (goes, refl), no_bytes, Consumes-nil reader, (λ yes. absurd (cc)), Appends-nil writer)
 
 -- the course alone went on
-pub advanced : (met : Bool) (old new : Course) (reader writer : Option (List ℕ)) → StillGoes old new → StreamsOn met old reader writer met new reader writer
+pub advanced : (met : Bool) (old new : FlatRun) (reader writer : Option (List ℕ)) → StillGoes old new → StreamsOn met old reader writer met new reader writer
 advanced met old new reader writer goes parts n first written_first (read, told, written, (under, same), bytes, got, end, put) =
     (read, told, written, (goes parts n read written told under, same), bytes, got, end, put)
 
-module _ (parts : Parts) (n : ℕ) (first written_first : Option (List ℕ)) (old new : Course) where
+module _ (parts : Parts) (n : ℕ) (first written_first : Option (List ℕ)) (old new : FlatRun) where
   -- a byte was read
   pub byte_read : (reader reader_now out : Option (List ℕ)) (byte : ℕ) → byte < 2 ^ 8 → Consumes reader reader_now (byte ∷ []) →
       ((read written : List ℕ) → IsUnderWay parts n read written false old → IsUnderWay parts n (read ++ byte ∷ []) written false new)
@@ -104,7 +104,7 @@ module _ (parts : Parts) (n : ℕ) (first written_first : Option (List ℕ)) (ol
 -- ---- where it stops
 
 -- a reader failed
-pub reader_failed : (parts : Parts) (n : ℕ) (first written_first reader reader_now out : Option (List ℕ)) (old : Course) → Consumes reader reader_now [] →
+pub reader_failed : (parts : Parts) (n : ℕ) (first written_first reader reader_now out : Option (List ℕ)) (old : FlatRun) → Consumes reader reader_now [] →
     Streamed first reader written_first out (Flows parts n false old) → Streamed first reader_now written_first out (IsCutOff parts Reader)
 reader_failed parts n first written_first reader reader_now out old got (read, told, written, (under, same), bytes, so_far, end, put) = (
   read,
@@ -120,7 +120,7 @@ reader_failed parts n first written_first reader reader_now out old got (read, t
 )
 
 -- memory was refused
-pub memory_failed : (parts : Parts) (n : ℕ) (want : Want) (met : Bool) (first written_first reader out : Option (List ℕ)) (old : Course) →
+pub memory_failed : (parts : Parts) (n : ℕ) (want : Want) (met : Bool) (first written_first reader out : Option (List ℕ)) (old : FlatRun) →
     Streamed first reader written_first out (Flows parts n met old) → Streamed first reader written_first out (IsCutOff parts (Memory want))
 memory_failed parts n want met first written_first reader out old (read, told, written, (under, same), bytes, got, end, put) = (
   read,
@@ -139,7 +139,7 @@ not_empty : (byte : ℕ) (rest : List ℕ) → (byte ∷ rest) ≢ []
 not_empty byte rest is = absurd (cc)
 
 -- a writer failed, whose byte the run has put out
-pub writer_failed : (parts : Parts) (n : ℕ) (met : Bool) (first written_first input writer writer_now : Option (List ℕ)) (old new : Course) (byte : ℕ) →
+pub writer_failed : (parts : Parts) (n : ℕ) (met : Bool) (first written_first input writer writer_now : Option (List ℕ)) (old new : FlatRun) (byte : ℕ) →
     Appends writer writer_now [] →
     ((read written : List ℕ) (m : Bool) → IsUnderWay parts n read written m old → IsUnderWay parts n read (written ++ byte ∷ []) m new)
     → Streamed first input written_first writer (Flows parts n met old) → Streamed first input written_first writer_now (IsCutOff parts Writer)
@@ -162,7 +162,7 @@ writer_failed parts n met first written_first input writer writer_now old new by
 )
 
 -- the run has ended
-pub flowed_so : (parts : Parts) (n : ℕ) (met : Bool) (first written_first reader writer : Option (List ℕ)) (now : Course) (flowed : Flowed) →
+pub flowed_so : (parts : Parts) (n : ℕ) (met : Bool) (first written_first reader writer : Option (List ℕ)) (now : FlatRun) (flowed : FlatEnded) →
     now.engine.exit ≡ Some flowed.status → flowed.counts ≡ now.tally.traffic
     → Streamed first reader written_first writer (Flows parts n met now) → Streamed first reader written_first writer (IsFlowed parts n flowed)
 flowed_so parts n met first written_first reader writer now flowed ended counts (read, told, written, (under, same), bytes, got, end, put) =
@@ -183,55 +183,55 @@ flowed_so parts n met first written_first reader writer now flowed ended counts 
 -- ---- the same, as the calls tell it
 
 -- a step that was asked for makes turns, within those that are counted
-pub onward : {what : Asked} (old new : Course) (after : Tally) → AsksWithin what (2 ^ 62) old after → new.tally ≡ after →
+pub onward : {what : Asked} (old new : FlatRun) (after : Tally) → AsksWithin what (2 ^ 62) old after → new.tally ≡ after →
     (old.tally.traffic.turns < new.tally.traffic.turns) × (new.tally.traffic.turns ≤ 2 ^ 62)
 onward old new after asks counts = (
   subst (λ (t : Tally). old.tally.traffic.turns < t.traffic.turns) (sym counts) asks.0.more,
   subst (λ (t : Tally). t.traffic.turns ≤ 2 ^ 62) (sym counts) asks.1,
 )
 
-pub on_end_again : (met : Bool) (old new : Course) (reader : Option (List ℕ)) → met ≡ true →
+pub on_end_again : (met : Bool) (old new : FlatRun) (reader : Option (List ℕ)) → met ≡ true →
     ((parts : Parts) (n : ℕ) (read written : List ℕ) → IsUnderWay parts n read written true old → IsUnderWay parts n read written true new)
     → (out : Option (List ℕ)) → StreamsOn met old reader out true new reader out
 on_end_again met old new reader is goes out parts n first written_first so =
     end_again parts n first written_first old new reader out (goes parts n) (subst (λ (m : Bool). Streamed first reader written_first out (Flows parts n m old)) is so)
 
-pub on_byte : (met : Bool) (old new : Course) (reader reader_now : Option (List ℕ)) (byte : ℕ) → met ≡ false → byte < 2 ^ 8 → Consumes reader reader_now (byte ∷ [])
+pub on_byte : (met : Bool) (old new : FlatRun) (reader reader_now : Option (List ℕ)) (byte : ℕ) → met ≡ false → byte < 2 ^ 8 → Consumes reader reader_now (byte ∷ [])
     → ((parts : Parts) (n : ℕ) (read written : List ℕ) → IsUnderWay parts n read written false old → IsUnderWay parts n (read ++ byte ∷ []) written false new)
     → (out : Option (List ℕ)) → StreamsOn met old reader out false new reader_now out
 on_byte met old new reader reader_now byte is small got goes out parts n first written_first so =
     byte_read parts n first written_first old new reader reader_now out byte small got (goes parts n) (subst (λ (m : Bool). Streamed first reader written_first out (Flows parts n m old)) is so)
 
-pub on_end : (met : Bool) (old new : Course) (reader reader_now : Option (List ℕ)) → met ≡ false → Consumes reader reader_now [] → IsAtEnd reader_now
+pub on_end : (met : Bool) (old new : FlatRun) (reader reader_now : Option (List ℕ)) → met ≡ false → Consumes reader reader_now [] → IsAtEnd reader_now
     → ((parts : Parts) (n : ℕ) (read written : List ℕ) → IsUnderWay parts n read written true old → IsUnderWay parts n read written true new)
     → (out : Option (List ℕ)) → StreamsOn met old reader out true new reader_now out
 on_end met old new reader reader_now is got end goes out parts n first written_first so =
     end_read parts n first written_first old new reader reader_now out got end (goes parts n) (subst (λ (m : Bool). Streamed first reader written_first out (Flows parts n m old)) is so)
 
-pub on_put : (old new : Course) (writer writer_now : Option (List ℕ)) (byte : ℕ) → Appends writer writer_now (byte ∷ [])
+pub on_put : (old new : FlatRun) (writer writer_now : Option (List ℕ)) (byte : ℕ) → Appends writer writer_now (byte ∷ [])
     → ((parts : Parts) (n : ℕ) (read written : List ℕ) (met : Bool) → IsUnderWay parts n read written met old → IsUnderWay parts n read (written ++ byte ∷ []) met new)
     → (met : Bool) (input : Option (List ℕ)) → StreamsOn met old input writer met new input writer_now
 on_put old new writer writer_now byte put goes met input parts n first written_first so = byte_put parts n first written_first old new met input writer writer_now byte put (goes parts n) so
 
 -- a reader's fault, or a writer's
-pub off_reader : (fault : RunFault) (met : Bool) (old new : Course) (reader reader_now : Option (List ℕ)) → fault ≡ Reader → met ≡ false →
+pub off_reader : (fault : RunFault) (met : Bool) (old new : FlatRun) (reader reader_now : Option (List ℕ)) → fault ≡ Reader → met ≡ false →
     Consumes reader reader_now [] → (out : Option (List ℕ)) → StopsSo (Fault fault) met old reader out new reader_now out
 off_reader fault met old new reader reader_now is not_met got out parts n first written_first so =
     subst (λ (f : RunFault). Streamed first reader_now written_first out (IsCutOff parts f)) (sym is)
     (reader_failed parts n first written_first reader reader_now out old got (subst (λ (m : Bool). Streamed first reader written_first out (Flows parts n m old)) not_met so))
 
-pub off_writer : (fault : RunFault) (old new : Course) (writer writer_now : Option (List ℕ)) (byte : ℕ) → fault ≡ Writer → Appends writer writer_now []
+pub off_writer : (fault : RunFault) (old new : FlatRun) (writer writer_now : Option (List ℕ)) (byte : ℕ) → fault ≡ Writer → Appends writer writer_now []
     → ((parts : Parts) (n : ℕ) (read written : List ℕ) (met : Bool) → IsUnderWay parts n read written met old → IsUnderWay parts n read (written ++ byte ∷ []) met new)
     → (met : Bool) (input : Option (List ℕ)) → StopsSo (Fault fault) met old input writer new input writer_now
 off_writer fault old new writer writer_now byte is put goes met input parts n first written_first so =
     subst (λ (f : RunFault). Streamed first input written_first writer_now (IsCutOff parts f)) (sym is)
     (writer_failed parts n met first written_first input writer writer_now old new byte put (goes parts n) so)
 
-pub off_memory : (want : Want) (met : Bool) (old new : Course) (reader writer : Option (List ℕ)) → StopsSo (Fault (Memory want)) met old reader writer new reader writer
+pub off_memory : (want : Want) (met : Bool) (old new : FlatRun) (reader writer : Option (List ℕ)) → StopsSo (Fault (Memory want)) met old reader writer new reader writer
 off_memory want met old new reader writer parts n first written_first so = memory_failed parts n want met first written_first reader writer old so
 
 -- the run halted at an exit word, and nothing was read or written
-pub ended_so : (word : ℕ) (met : Bool) (course : Course) (reader writer : Option (List ℕ)) → course.engine.exit ≡ Some word → StopsSo (Ended word) met course reader writer course reader writer
+pub ended_so : (word : ℕ) (met : Bool) (course : FlatRun) (reader writer : Option (List ℕ)) → course.engine.exit ≡ Some word → StopsSo (Ended word) met course reader writer course reader writer
 ended_so word met course reader writer is = (is, λ parts n first written_first so. so)
 
 -- where there was no memory for a beginning nothing was read or written
@@ -241,9 +241,9 @@ no_beginning parts fault reader writer safe is =
     ([], false, [], (λ j more. let s = safe j more in (s.0, s.1, s.2, s.3, tt)), no_bytes, Consumes-nil reader, (λ yes. absurd (cc)), Appends-nil writer)
 
 -- its turns are few
-pub few_turns : (parts : Parts) (n : ℕ) (met : Bool) (course : Course) (a b c d : Option (List ℕ)) → Streamed a b c d (Flows parts n met course) → course.tally.traffic.turns < 2 ^ 40
+pub few_turns : (parts : Parts) (n : ℕ) (met : Bool) (course : FlatRun) (a b c d : Option (List ℕ)) → Streamed a b c d (Flows parts n met course) → course.tally.traffic.turns < 2 ^ 40
 few_turns parts n met course a b c d (read, told, written, (under, same), bytes, got, end, put) = few parts n read written told course under
 
 -- and it is never lost
-pub not_lost : (parts : Parts) (n : ℕ) (met : Bool) (course : Course) (a b c d : Option (List ℕ)) → Streamed a b c d (Flows parts n met course) → NeverGoes course → ⊥
+pub not_lost : (parts : Parts) (n : ℕ) (met : Bool) (course : FlatRun) (a b c d : Option (List ℕ)) → Streamed a b c d (Flows parts n met course) → NeverGoes course → ⊥
 not_lost parts n met course a b c d (read, told, written, (under, same), bytes, got, end, put) never = never parts n read written told under

@@ -9,8 +9,8 @@ use Rattle.sbx_port.specs.Streams.{Streamed}
 use Rattle.sbx_raw.specs.declared.fault.RunFault.{RunFault}
 use Rattle.sbx_raw.specs.declared.fault.RunFault.TheVariants.{Memory, Reader, Writer}
 use Rattle.engine_runs.specs.Going.{IsAllOf, IsUnderWay, beyond}
-use Rattle.engine_runs.specs.declared.course.Course.{Course}
-use Rattle.engine_stream.specs.declared.flow.Flowed.{Flowed}
+use Rattle.engine_runs.specs.declared.flat_run.FlatRun.{FlatRun}
+use Rattle.engine_stream.specs.declared.flow.FlatEnded.{FlatEnded}
 use Rattle.engine_stream.specs.declared.flow.RunEnd.{RunEnd}
 use Rattle.engine_stream.specs.declared.flow.RunEnd.TheVariants.{Ended, Fault}
 
@@ -19,7 +19,7 @@ use Rattle.engine_stream.specs.declared.flow.RunEnd.TheVariants.{Ended, Fault}
 -- On every input that begins with the bytes read, or on these alone where their end was met, what was written is all of
 -- the image's output, this is the exit word, and the counts are those of its path on n windows. The turns are within
 -- the budget.
-abbrev pub IsFlowed : Parts → ℕ → Flowed → List ℕ → Bool → List ℕ → Type 0
+abbrev pub IsFlowed : Parts → ℕ → FlatEnded → List ℕ → Bool → List ℕ → Type 0
 IsFlowed parts n flowed read met written = IsAllOf parts n read met written flowed.status flowed.counts
     × (flowed.counts.turns ≤ budget parts)
 
@@ -44,11 +44,11 @@ IsRead before now (Some byte) = Consumes before now (byte ∷ [])
 IsRead before now None = Consumes before now [] × IsAtEnd now
 
 -- The run has read these bytes and written those, and whether their end was met is known so.
-abbrev pub Flows : Parts → ℕ → Bool → Course → List ℕ → Bool → List ℕ → Type 0
+abbrev pub Flows : Parts → ℕ → Bool → FlatRun → List ℕ → Bool → List ℕ → Type 0
 Flows parts n met course read told written = IsUnderWay parts n read written told course × (told ≡ met)
 
 -- whatever was read and written before, the streams stand so now
-abbrev pub StreamsOn : Bool → Course → Option (List ℕ) → Option (List ℕ) → Bool → Course → Option (List ℕ) →
+abbrev pub StreamsOn : Bool → FlatRun → Option (List ℕ) → Option (List ℕ) → Bool → FlatRun → Option (List ℕ) →
     Option (List ℕ) → Type 0
 StreamsOn met old reader writer now_met new reader_now writer_now =
     (parts : Parts) (n : ℕ) (first written_first : Option (List ℕ)) →
@@ -57,7 +57,7 @@ StreamsOn met old reader writer now_met new reader_now writer_now =
 
 -- or they stop: at an exit word all is as it was; where a fault ended the run what was written are the first bytes of
 -- its output
-abbrev pub StopsSo : RunEnd → Bool → Course → Option (List ℕ) → Option (List ℕ) → Course → Option (List ℕ) →
+abbrev pub StopsSo : RunEnd → Bool → FlatRun → Option (List ℕ) → Option (List ℕ) → FlatRun → Option (List ℕ) →
     Option (List ℕ) → Type 0
 StopsSo (Ended word) met old reader writer new reader_now writer_now =
     (new.engine.exit ≡ Some word) × StreamsOn met old reader writer met new reader_now writer_now
@@ -68,7 +68,7 @@ StopsSo (Fault fault) met old reader writer new reader_now writer_now =
 
 -- What a run halted for is done, by a step within the turns that are counted, and whether the end was met is known; or
 -- they stop.
-abbrev pub Exchanges : Bool → Course → Option (List ℕ) → Option (List ℕ) → Course → Option (List ℕ) →
+abbrev pub Exchanges : Bool → FlatRun → Option (List ℕ) → Option (List ℕ) → FlatRun → Option (List ℕ) →
     Option (List ℕ) → Result Bool RunEnd → Type 0
 Exchanges met old reader writer new reader_now writer_now (Ok now_met) =
     StreamsOn met old reader writer now_met new reader_now writer_now

@@ -7,7 +7,7 @@ ghost use Rattle.engine_runs.specs.Halts.{AsksWithin, HaltsSo};
 ghost use Rattle.engine_stream.specs.Flows.{Exchanges, IsCutOff, IsFlowed};
 
 use crate::bytes::{read_byte, write_byte};
-use engine_runs::{Course, Halt, Tally};
+use engine_runs::{FlatRun, FlatStop, Tally};
 use sbx_flat::Traffic;
 use sbx_run::RunFault;
 use sbx_verify::Accepted;
@@ -19,7 +19,7 @@ const MOST: u64 = 1 << 62;
 
 /// What a run told at its end: the exit word, and its counts on the windows that were asked for.
 #[derive(Clone, Copy)]
-pub struct Flowed {
+pub struct FlatEnded {
     pub status: u32,
     pub counts: Traffic,
 }
@@ -48,7 +48,7 @@ fn tells_byte(byte: u8)
 /// Makes the step of a get with the next byte of a reader, and tells whether the end is known then. An input that has
 /// ended isn't asked again.
 fn get<R: Read>(
-    course: &mut Course,
+    course: &mut FlatRun,
     after: Tally,
     met: bool,
     reader: &mut R,
@@ -77,7 +77,7 @@ fn get<R: Read>(
 
 /// Makes the step of a put, whose byte goes to a writer. Of the input's end is known what was.
 fn put<W: Write>(
-    course: &mut Course,
+    course: &mut FlatRun,
     after: Tally,
     met: bool,
     writer: &mut W,
@@ -96,25 +96,25 @@ fn put<W: Write>(
 /// Does what a run halted for, and tells whether the input's end is known then.
 #[tactic(auto, using(crate::proofs::Flowing::ended_so, engine_runs::proofs::Stepping::not_short, engine_runs::proofs::Stepping::byte_asks, engine_runs::proofs::Stepping::byte_within, engine_runs::proofs::Stepping::room_asks, engine_runs::proofs::Stepping::room_within, engine_runs::proofs::Stepping::ended_exits))]
 fn exchange<R: Read, W: Write>(
-    course: &mut Course,
-    halt: Halt,
+    course: &mut FlatRun,
+    halt: FlatStop,
     met: bool,
     reader: &mut R,
     writer: &mut W,
 ) -> Result<bool, RunEnd>
     requires halts { HaltsSo (2 ^ 62) course.old halt }
     requires few { course.old.tally.traffic.turns < 2 ^ 40 }
-    requires found { halt ≢ Halt.Lost }
+    requires found { halt ≢ FlatStop.Lost }
     ensures { Exchanges met course.old (R.remaining reader.old) (W.contents writer.old) course.new
         (R.remaining reader.new) (W.contents writer.new) result }
 {
     match halt {
-        Halt::Byte(after) => get(course, after, met, reader),
-        Halt::Room(after) => put(course, after, met, writer),
-        Halt::Ended(word) => Err(RunEnd::Ended(word)),
-        Halt::Refused(want) => Err(RunEnd::Fault(RunFault::Memory(want))),
-        Halt::Short => unreachable!(),
-        Halt::Lost => unreachable!(),
+        FlatStop::Byte(after) => get(course, after, met, reader),
+        FlatStop::Room(after) => put(course, after, met, writer),
+        FlatStop::Ended(word) => Err(RunEnd::Ended(word)),
+        FlatStop::Refused(want) => Err(RunEnd::Fault(RunFault::Memory(want))),
+        FlatStop::Short => unreachable!(),
+        FlatStop::Lost => unreachable!(),
     }
 }
 
@@ -133,7 +133,7 @@ pub fn run_over<R: Read, W: Write>(
     windows: u32,
     reader: &mut R,
     writer: &mut W,
-) -> Result<Flowed, RunFault>
+) -> Result<FlatEnded, RunFault>
     requires { 2 ≤ windows }
     ensures whole { IfOk result
         (λ flowed. Streamed (R.remaining reader.old) (R.remaining reader.new) (W.contents writer.old)
@@ -145,7 +145,7 @@ pub fn run_over<R: Read, W: Write>(
         (IsCutOff accepted.now fault)) }
 {
     tells_safe(accepted);
-    let mut course = match Course::new(alloc, accepted, windows) {
+    let mut course = match FlatRun::new(alloc, accepted, windows) {
         Ok(course) => course,
         Err(error) => return Err(RunFault::from(error)),
     };
@@ -155,7 +155,7 @@ pub fn run_over<R: Read, W: Write>(
         match exchange(&mut course, halt, met, reader, writer) {
             Ok(now_met) => met = now_met,
             Err(RunEnd::Ended(status)) => {
-                return Ok(Flowed {
+                return Ok(FlatEnded {
                     status,
                     counts: course.tally().traffic,
                 });

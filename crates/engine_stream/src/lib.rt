@@ -4,5 +4,5 @@
 mod bytes;
 mod flow;
 
-pub use flow::{Flowed, run_over};
+pub use flow::{FlatEnded, run_over};
 pub use sbx_verify::Accepted;

@@ -1,5 +1,5 @@
 //! What isn't shown of a source, as notes to its author.
-use fit_checks::{Unshown, UnshownAccess, needed_alignment};
+use fit_checks::{NotShown, UnshownAccess, needed_alignment};
 use fit_code::Fault;
 use fit_text::FaultWords;
 use inspect_image::Location;
@@ -10,7 +10,7 @@ use std::fmt::{self, Error, Formatter, Write};
 #[derive(Drop)]
 pub enum Unproved {
     /// Of a step or an end.
-    Shown(Unshown),
+    Shown(NotShown),
     /// A counter of the loop that a block begins.
     Counter,
     /// A function's fuel.
@@ -82,19 +82,19 @@ pub const NO_CALLEE: &str =
 impl fmt::Display for Unproved {
     fn fmt<W: Write>(&self, f: &mut Formatter<W>) -> Result<(), Error> {
         match self {
-            Unproved::Shown(Unshown::Defined(location)) => {
+            Unproved::Shown(NotShown::Defined(location)) => {
                 let location = Location(*location);
                 write!(
                     f,
                     "{location} is read, and may be undefined: give it a value on each way here"
                 )
             }
-            Unproved::Shown(Unshown::Given(location)) => {
+            Unproved::Shown(NotShown::Given(location)) => {
                 let location = Location(*location);
                 write!(f, "{location} {GIVEN}")
             }
-            Unproved::Shown(Unshown::Placed(access)) => write_access(f, access),
-            Unproved::Shown(Unshown::Divisible(_, range)) => {
+            Unproved::Shown(NotShown::Placed(access)) => write_access(f, access),
+            Unproved::Shown(NotShown::Divisible(_, range)) => {
                 let words = RangeWords(*range);
                 write!(f, "the divisor may be 0: it may be {words}; {DIVISOR}")
             }

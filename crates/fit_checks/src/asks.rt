@@ -28,7 +28,7 @@ pub struct UnshownAccess {
 
 /// What isn't shown.
 #[derive(Clone, Copy)]
-pub enum Unshown {
+pub enum NotShown {
     /// That a location is defined which is read.
     Defined(u16),
     /// That a location is defined which a callee takes for granted.
@@ -48,7 +48,7 @@ pub struct Ask {
     pub block: usize,
     pub place: usize,
     pub line: SourceLine,
-    pub lack: Unshown,
+    pub lack: NotShown,
 }
 
 /// A program and what is known of it.
@@ -65,14 +65,14 @@ pub struct Asking<'a> {
 const RESERVED: u32 = 0xc000_c000;
 
 /// The first register that isn't defined of some that are read, or that are given to a callee; each has a bit.
-fn lack_of_registers(registers: u32, is_given: bool, state: &State) -> Option<Unshown> {
+fn lack_of_registers(registers: u32, is_given: bool, state: &State) -> Option<NotShown> {
     let asked = registers & !RESERVED;
     for register in 1..32u16 {
         if asked >> register & 1 == 1 && state.range(register).is_none() {
             return Some(if is_given {
-                Unshown::Given(register)
+                NotShown::Given(register)
             } else {
-                Unshown::Defined(register)
+                NotShown::Defined(register)
             });
         }
     }
@@ -92,7 +92,7 @@ impl Asking<'_> {
         parts: (Reg, Operand),
         range: Range,
         origin: Option<Origin>,
-    ) -> Option<Unshown> {
+    ) -> Option<NotShown> {
         let (size, writes) = (bytes_in(transfer.size()), transfer.writes_memory());
         let from = range.lo as i64;
         let to = range.hi as i64 + size as i64;
@@ -116,7 +116,7 @@ impl Asking<'_> {
         if is_shown {
             return None;
         }
-        Some(Unshown::Placed(UnshownAccess {
+        Some(NotShown::Placed(UnshownAccess {
             range,
             size,
             writes,
@@ -134,7 +134,7 @@ impl Asking<'_> {
         trace: &Trace,
         (place, step): (usize, &Step),
         state: &mut State,
-    ) -> Option<Unshown> {
+    ) -> Option<NotShown> {
         if let Some(callee) = step.callee {
             run_to_call(frame, step, state);
             let params = self.ranges.params(callee).len().min(6) as u32;
@@ -146,14 +146,14 @@ impl Asking<'_> {
         let effects = effects_of(frame, &step.instr);
         // a frame word before registers
         let mut lack = match effects.word_read {
-            Some(word) if state.range(word).is_none() => Some(Unshown::Defined(word)),
+            Some(word) if state.range(word).is_none() => Some(NotShown::Defined(word)),
             _ => lack_of_registers(effects.reads, false, state),
         };
         if lack.is_none() {
             let [first, second] = trace.at(place);
             lack = match (operation_of(&step.instr), first, second) {
                 (Operation::Divide(_, fields), _, Some(range)) if !excludes_zero(range) => {
-                    Some(Unshown::Divisible(fields.operand2, range))
+                    Some(NotShown::Divisible(fields.operand2, range))
                 }
                 (Operation::Transfer(transfer, fields), Some(first), Some(second)) => {
                     let range = range_of_address(first, second);

@@ -7,7 +7,7 @@ mod cuts;
 mod plans;
 mod settling;
 
-pub use asks::{Asking, Unshown, UnshownAccess, asks_of, needed_alignment};
+pub use asks::{Asking, NotShown, UnshownAccess, asks_of, needed_alignment};
 pub use cuts::{CODES, Y, insert_instr, number_in, push_block, push_instrs, register, use_of};
 pub use plans::{Test, TestKind};
 pub use settling::{TestOptions, add_tests};

@@ -1,6 +1,6 @@
 //! Tests put into a program until nothing is left that isn't shown: a compare, and a branch to an end of the run whose
 //! exit word tells kind and line. Nothing rests on them, since the verifier asks all again.
-use crate::asks::{Ask, Asking, Unshown, UnshownAccess, asks_of, live_behind, shorten_steps};
+use crate::asks::{Ask, Asking, NotShown, UnshownAccess, asks_of, live_behind, shorten_steps};
 use crate::cuts::{
     CODES, SCRATCH, Y, clearing, copy_block, drop_compare, in_use, insert_instr, number_in,
     push_block, register, set_codes_again,
@@ -229,14 +229,14 @@ impl Tests {
             return Ok(());
         }
         let blocks = &mut program.functions[ask.function].blocks;
-        if let Unshown::Defined(location) = ask.lack {
+        if let NotShown::Defined(location) = ask.lack {
             return self.clear_at_entry(blocks, ask, location);
         }
         let at = (ask.function, ask.block);
         if self.changed.contains(&at) {
             return Ok(());
         }
-        if let Unshown::Placed(_) = ask.lack
+        if let NotShown::Placed(_) = ask.lack
             && let Some(plan) = &plan
         {
             let key = (plan.register, plan.bounds.object);
@@ -248,10 +248,10 @@ impl Tests {
         self.memory.push(&mut self.changed, at);
         let instr = match (&ask.lack, &plan) {
             (_, Some(plan)) => return self.put_test(blocks, ask, plan),
-            (Unshown::Divisible(..), None) => return Err("a division by 0"),
-            (Unshown::Placed(access), None) => join_address(blocks.as_mut_slice(), ask, access),
+            (NotShown::Divisible(..), None) => return Err("a division by 0"),
+            (NotShown::Placed(access), None) => join_address(blocks.as_mut_slice(), ask, access),
             // one that a step reads was answered at the entry
-            (Unshown::Given(location) | Unshown::Defined(location), None) => Some(clearing(
+            (NotShown::Given(location) | NotShown::Defined(location), None) => Some(clearing(
                 *location,
             )),
         };
@@ -384,7 +384,7 @@ impl Tests {
             return Err(Fault::from(AllocError));
         }
         if let (Some(ask), Err(what)) = (&self.asked, self.refused) {
-            let is_by_zero = matches!(ask.lack, Unshown::Divisible(Operand::Immediate(_), _));
+            let is_by_zero = matches!(ask.lack, NotShown::Divisible(Operand::Immediate(_), _));
             if is_by_zero || ask.function >= program.functions.len() {
                 return Err(Fault::new(ask.line, Reason::Unreadable(what)));
             }

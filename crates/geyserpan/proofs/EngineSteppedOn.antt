@@ -3,9 +3,9 @@ use Rattle.std.proofs.Common.{◌≡◌, ◌≢◌, ◌-◌, ◌≤◌, ℕ, ◌
 use Rattle.sbx_flat.specs.Runs.{budget}
 use Rattle.engine_runs.specs.Going.{IsAllOf, IsFrontOf}
 use Rattle.engine_runs.specs.Steps.{Goes, IsStep, StandsSo, turns_of}
-use Rattle.engine_runs.specs.declared.paced.Stand.{Stand}
-use Rattle.engine_runs.specs.declared.paced.Stand.TheVariants.{Ended, Full, Lost, Paused, Wants}
-use Rattle.engine_runs.specs.declared.paced.Step.{Step}
+use Rattle.engine_runs.specs.declared.flat_session.FlatStand.{FlatStand}
+use Rattle.engine_runs.specs.declared.flat_session.FlatStand.TheVariants.{Ended, Full, Lost, Paused, Wants}
+use Rattle.engine_runs.specs.declared.flat_session.FlatStep.{FlatStep}
 use Rattle.geyserpan.proofs.Fronts.{behind_same, longer, written_same}
 use Rattle.geyserpan.specs.Engines.{GoesOn, StepsSo, is_last}
 use Rattle.geyserpan.specs.declared.engine_slot.EngineRun.{EngineRun}
@@ -14,7 +14,7 @@ use Rattle.geyserpan.specs.declared.run_slot.Done.{Done}
 use Rattle.geyserpan.specs.declared.statuses.TheConstants.{ENDED, FULL, HANDLE, LOST, OUTPUT, PAUSED, WANTS}
 
 -- what the engine's step says, of the whole room
-pub engine_stepped_on : (old new : EngineRun) (most : ℕ) (input before after front front_after rest : List ℕ) (last : Bool) (step : Step) (done : Done) (status : ℕ)
+pub engine_stepped_on : (old new : EngineRun) (most : ℕ) (input before after front front_after rest : List ℕ) (last : Bool) (step : FlatStep) (done : Done) (status : ℕ)
     → IsStep old.paced new.paced most input last front front_after step
     → before ≡ front ++ rest → after ≡ front_after ++ rest → length front ≡ length front_after
     → done.read ≡ step.read → done.written ≡ step.written
@@ -61,8 +61,8 @@ engine_stepped_on old new most input before after front front_after rest last st
       met = is.met;
     }
   where
-    stands : (stand : Stand) → step.stand ≡ stand → StandsSo stand input last front_after step.read step.written
-    stands stand same = subst (λ (s : Stand). StandsSo s input last front_after step.read step.written) same is.stands
+    stands : (stand : FlatStand) → step.stand ≡ stand → StandsSo stand input last front_after step.read step.written
+    stands stand same = subst (λ (s : FlatStand). StandsSo s input last front_after step.read step.written) same is.stands
 
 one_run : (a b : EngineRun) → Some a ≡ Some b → a ≡ b
 one_run a b is = cc

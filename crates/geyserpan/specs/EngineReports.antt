@@ -2,14 +2,14 @@
 use Rattle.std.specs.Prelude.{◌≡◌, ℕ, ◌<◌, ◌≤◌, List, [], ◌∷◌, length, Some}
 use Rattle.sbx_image.specs.Parts.{Parts}
 use Rattle.engine_runs.specs.Answer.{IsAnswer}
-use Rattle.engine_runs.specs.declared.runs.Finished.{Finished}
+use Rattle.engine_runs.specs.declared.runs.FlatFinished.{FlatFinished}
 use Rattle.geyserpan.specs.Reports.{Hands}
 use Rattle.geyserpan.specs.declared.image_slot.ImageSlot.{ImageSlot}
 use Rattle.geyserpan.specs.declared.image_slot.Kept.{Kept}
 use Rattle.geyserpan.specs.declared.running.Report.{Report}
 
 -- The report tells each thing that the run gave. No page is told of, since the engine has none.
-pub record Tells (finished : Finished) (report : Report) : Type 0 where
+pub record Tells (finished : FlatFinished) (report : Report) : Type 0 where
   pub exit : report.exit ≡ finished.status
   pub turns : report.turns ≡ finished.turns
   pub overflows : report.overflows ≡ finished.overflows
@@ -20,13 +20,13 @@ pub record Tells (finished : Finished) (report : Report) : Type 0 where
 
 -- The report is of the image's run on this input, with the counts of its path on so many windows.
 abbrev pub HasReport : Parts → ℕ → List ℕ → Report → Type 0
-HasReport parts windows input report = (finished : Finished) × IsAnswer parts windows input finished
+HasReport parts windows input report = (finished : FlatFinished) × IsAnswer parts windows input finished
     × Tells finished report
 
 -- The room begins with the output of that run, goes on as it was, and the report tells the rest.
 abbrev pub HasRun : Parts → ℕ → List ℕ → List ℕ → List ℕ → Report → Type 0
 HasRun parts windows input before after report =
-    (finished : Finished) × IsAnswer parts windows input finished × Hands finished.output.items before after
+    (finished : FlatFinished) × IsAnswer parts windows input finished × Hands finished.output.items before after
     × Tells finished report
 
 -- ---- of an image that a handle holds, with counts on as many windows as its terms say

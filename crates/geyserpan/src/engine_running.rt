@@ -6,12 +6,12 @@ use crate::room::hand_on;
 use crate::running::Report;
 use crate::statuses::{MEMORY, OK, OUTPUT, ROOM, WINDOWS};
 use crate::terms::{LEAST_WINDOWS, Terms};
-use engine_runs::{Finished, run_flat};
+use engine_runs::{FlatFinished, run_flat};
 use sbx_run::Accepted;
 use std::alloc::Global;
 
 /// The report of a run on the engine, which has no pages.
-fn report_of(finished: &Finished) -> Report
+fn report_of(finished: &FlatFinished) -> Report
     ensures { Tells finished.now result }
 {
     Report {

@@ -5,13 +5,13 @@ use crate::image_slot::Kept;
 use crate::run_slot::Done;
 use crate::statuses::{ENDED, FULL, HANDLE, LOST, MEMORY, OK, OUTPUT, PAUSED, WANTS, WINDOWS};
 use crate::terms::LEAST_WINDOWS;
-use engine_runs::{Paced, Stand};
+use engine_runs::{FlatSession, FlatStand};
 use std::alloc::Global;
 
 /// A run that counts on as many windows as its image's terms say, and how many bytes of output it is still granted.
 #[derive(Drop)]
 pub struct EngineRun {
-    pub paced: Paced,
+    pub paced: FlatSession,
     pub granted: u64,
 }
 
@@ -22,22 +22,22 @@ pub struct EngineSlot {
 }
 
 /// The status of a step, and the exit word; the step might write so many bytes of so much room.
-fn status_of(stand: Stand, most: usize, room: usize) -> (u32, u32)
-    ensures ended { result.0 ≡ ENDED → stand ≡ Stand.Ended result.1 }
-    ensures wants { result.0 ≡ WANTS → stand ≡ Stand.Wants }
-    ensures full { result.0 ≡ FULL → (stand ≡ Stand.Full) × (room ≤ most) }
-    ensures cut { result.0 ≡ OUTPUT → (stand ≡ Stand.Full) × (most < room) }
-    ensures paused { result.0 ≡ PAUSED → stand ≡ Stand.Paused }
-    ensures lost { result.0 ≡ LOST → stand ≡ Stand.Lost }
+fn status_of(stand: FlatStand, most: usize, room: usize) -> (u32, u32)
+    ensures ended { result.0 ≡ ENDED → stand ≡ FlatStand.Ended result.1 }
+    ensures wants { result.0 ≡ WANTS → stand ≡ FlatStand.Wants }
+    ensures full { result.0 ≡ FULL → (stand ≡ FlatStand.Full) × (room ≤ most) }
+    ensures cut { result.0 ≡ OUTPUT → (stand ≡ FlatStand.Full) × (most < room) }
+    ensures paused { result.0 ≡ PAUSED → stand ≡ FlatStand.Paused }
+    ensures lost { result.0 ≡ LOST → stand ≡ FlatStand.Lost }
     ensures holds { result.0 ≢ HANDLE }
 {
     match stand {
-        Stand::Ended(word) => (ENDED, word),
-        Stand::Wants => (WANTS, 0),
-        Stand::Full => (if most < room { OUTPUT } else { FULL }, 0),
-        Stand::Paused => (PAUSED, 0),
-        Stand::Refused(_want) => (MEMORY, 0),
-        Stand::Lost => (LOST, 0),
+        FlatStand::Ended(word) => (ENDED, word),
+        FlatStand::Wants => (WANTS, 0),
+        FlatStand::Full => (if most < room { OUTPUT } else { FULL }, 0),
+        FlatStand::Paused => (PAUSED, 0),
+        FlatStand::Refused(_want) => (MEMORY, 0),
+        FlatStand::Lost => (LOST, 0),
     }
 }
 
@@ -83,7 +83,7 @@ impl EngineSlot {
         if kept.terms.windows < LEAST_WINDOWS {
             return WINDOWS;
         }
-        match Paced::new(alloc, &kept.accepted, kept.terms.windows) {
+        match FlatSession::new(alloc, &kept.accepted, kept.terms.windows) {
             Ok(paced) => {
                 self.run = Some(EngineRun {
                     paced,

@@ -6,14 +6,14 @@ use Rattle.sbx_stream.specs.Finished.{Finished}
 use Rattle.sbx_stream.specs.RunFault.{RunFault}
 use Rattle.cmd_command.specs.Streaming.{RunGives}
 use Rattle.engine_stream.specs.Flows.{IsCutOff, IsFlowed}
-use Rattle.engine_stream.specs.declared.flow.Flowed.{Flowed}
-use Rattle.host.specs.declared.running.Told.{Told}
+use Rattle.engine_stream.specs.declared.flow.FlatEnded.{FlatEnded}
+use Rattle.host.specs.declared.running.EndCounts.{EndCounts}
 
 -- what is told of a run on a board, and on the flat machine
-abbrev pub told_of : Finished → Told
+abbrev pub told_of : Finished → EndCounts
 told_of f = record { status = f.status; turns = f.turns; overflows = f.overflows; underflows = f.underflows }
 
-abbrev pub told_of_flow : Flowed → Told
+abbrev pub told_of_flow : FlatEnded → EndCounts
 told_of_flow f =
     record {
       status = f.status;
@@ -27,7 +27,7 @@ told_of_flow f =
 -- with its exit word and the counts of its path on so many windows, within its budget; where a fault ended it, the
 -- first bytes of that output.
 abbrev pub EngineGives : ℕ → Parts → Option (List ℕ) → Option (List ℕ) → Option (List ℕ) → Option (List ℕ) →
-    Result Flowed RunFault → Type 0
+    Result FlatEnded RunFault → Type 0
 EngineGives windows parts reader reader_now writer writer_now (Ok flowed) =
     Streamed reader reader_now writer writer_now (IsFlowed parts windows flowed)
 EngineGives windows parts reader reader_now writer writer_now (Err fault) =
@@ -35,9 +35,9 @@ EngineGives windows parts reader reader_now writer writer_now (Err fault) =
 
 -- what is told is what one of the two gave
 abbrev pub RunsSo : Bool → ℕ → Parts → Option (List ℕ) → Option (List ℕ) → Option (List ℕ) → Option (List ℕ) →
-    Result Told RunFault → Type 0
+    Result EndCounts RunFault → Type 0
 RunsSo true windows parts reader reader_now writer writer_now (Ok told) =
-    (flowed : Flowed) × (told ≡ told_of_flow flowed)
+    (flowed : FlatEnded) × (told ≡ told_of_flow flowed)
     × EngineGives windows parts reader reader_now writer writer_now (Ok flowed)
 RunsSo true windows parts reader reader_now writer writer_now (Err fault) =
     EngineGives windows parts reader reader_now writer writer_now (Err fault)

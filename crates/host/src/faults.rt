@@ -7,7 +7,7 @@ use want::Want;
 
 /// Why the host stops before its job is done. Its text is its line on standard error.
 #[derive(Clone, Copy)]
-pub enum Fault<'a> {
+pub enum HostFault<'a> {
     /// Memory was refused.
     Memory(Want),
     /// There was no room for a file or a stream.
@@ -20,19 +20,19 @@ pub enum Fault<'a> {
     Report,
 }
 
-impl From<AllocError> for Fault<'_> {
+impl From<AllocError> for HostFault<'_> {
     fn from(error: AllocError) -> Self {
-        Fault::Memory(Want::from(error))
+        HostFault::Memory(Want::from(error))
     }
 }
 
-impl Display for Fault<'_> {
+impl Display for HostFault<'_> {
     fn fmt<W: Write>(&self, f: &mut Formatter<W>) -> fmt::Result {
         match self {
-            Fault::Memory(_) | Fault::NoRoom(_) => f.write_str("memory"),
-            Fault::File(name, fault) => write!(f, "{name}: {fault}"),
-            Fault::Output => f.write_str("output: can't be written"),
-            Fault::Report => f.write_str("standard error: can't be written"),
+            HostFault::Memory(_) | HostFault::NoRoom(_) => f.write_str("memory"),
+            HostFault::File(name, fault) => write!(f, "{name}: {fault}"),
+            HostFault::Output => f.write_str("output: can't be written"),
+            HostFault::Report => f.write_str("standard error: can't be written"),
         }
     }
 }

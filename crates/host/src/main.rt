@@ -24,9 +24,9 @@ mod words;
 
 use cmd_command::{Full, ReadFault, read_whole};
 use cmd_files::{FileFault, command_words, hold_streams, open_file};
-use faults::Fault;
+use faults::HostFault;
 use judging::{MOST, judge};
-use running::{Halt, Ran, Source, converse};
+use running::{HostRun, RunHalt, Source, converse};
 use sbx_run::Accepted;
 use std::fs::File;
 use std::io::{Cursor, Read};
@@ -48,24 +48,24 @@ const OTHER_WORDS: u8 = 3;
 const FAILED: u8 = 4;
 
 /// What an error of the file at a path, or of the input, stops the host with.
-fn fault_at<'a>(name: &'a str, error: &io::Error) -> Fault<'a> {
+fn fault_at<'a>(name: &'a str, error: &io::Error) -> HostFault<'a> {
     match Full::of(error) {
-        Some(full) => Fault::NoRoom(full),
-        None => Fault::File(name, FileFault::of(error)),
+        Some(full) => HostFault::NoRoom(full),
+        None => HostFault::File(name, FileFault::of(error)),
     }
 }
 
 /// What stops the host where the bytes of a file, or of the input, aren't there.
-fn fault_of_read(name: &str, fault: ReadFault) -> Fault<'_> {
+fn fault_of_read(name: &str, fault: ReadFault) -> HostFault<'_> {
     match fault {
-        ReadFault::Memory(want) => Fault::Memory(want),
-        ReadFault::TooLong => Fault::File(name, FileFault::TooLong),
-        ReadFault::Reader => Fault::File(name, FileFault::Failing),
+        ReadFault::Memory(want) => HostFault::Memory(want),
+        ReadFault::TooLong => HostFault::File(name, FileFault::TooLong),
+        ReadFault::Reader => HostFault::File(name, FileFault::Failing),
     }
 }
 
 /// The file at a path, to be read.
-fn opened<'a>(rt: &HostRuntime, path: &'a str) -> Result<File, Fault<'a>> {
+fn opened<'a>(rt: &HostRuntime, path: &'a str) -> Result<File, HostFault<'a>> {
     match open_file(rt, path) {
         Ok(file) => Ok(file),
         Err(error) => Err(fault_at(path, &error)),
@@ -79,7 +79,7 @@ fn add<'a>(
     terms: &Terms<'a>,
     path: &'a str,
     images: &mut Vec<Accepted>,
-) -> Result<bool, Fault<'a>> {
+) -> Result<bool, HostFault<'a>> {
     let mut file = opened(rt, path)?;
     match judge(rt.alloc(), terms.policy, &mut file, images) {
         Ok(None) => {}
@@ -96,7 +96,10 @@ fn add<'a>(
 }
 
 /// The images at all paths, if each is admitted.
-fn admitted<'a>(rt: &HostRuntime, asked: &Asked<'a>) -> Result<Option<Vec<Accepted>>, Fault<'a>> {
+fn admitted<'a>(
+    rt: &HostRuntime,
+    asked: &Asked<'a>,
+) -> Result<Option<Vec<Accepted>>, HostFault<'a>> {
     let mut images = Vec::new(rt.alloc());
     let mut all = true;
     for path in asked.paths.as_slice() {
@@ -111,17 +114,17 @@ fn stopped<'a>(
     rt: &HostRuntime,
     terms: &Terms<'a>,
     path: &'a str,
-    halt: Halt,
-) -> Result<u8, Fault<'a>> {
+    halt: RunHalt,
+) -> Result<u8, HostFault<'a>> {
     match halt {
-        Halt::TooMuch(output) => {
+        RunHalt::TooMuch(output) => {
             tell_stopped(rt, terms.report, path, output)?;
             Ok(DENIED)
         }
-        Halt::Memory(want) => Err(Fault::Memory(want)),
-        Halt::NoRoom(full) => Err(Fault::NoRoom(full)),
-        Halt::Input => Err(Fault::File(terms.input_name(), FileFault::Failing)),
-        Halt::Output => Err(Fault::Output),
+        RunHalt::Memory(want) => Err(HostFault::Memory(want)),
+        RunHalt::NoRoom(full) => Err(HostFault::NoRoom(full)),
+        RunHalt::Input => Err(HostFault::File(terms.input_name(), FileFault::Failing)),
+        RunHalt::Output => Err(HostFault::Output),
     }
 }
 
@@ -131,8 +134,8 @@ fn told<'a>(
     terms: &Terms<'a>,
     path: &'a str,
     accepted: &Accepted,
-    ran: Result<Ran, Halt>,
-) -> Result<u8, Fault<'a>> {
+    ran: Result<HostRun, RunHalt>,
+) -> Result<u8, HostFault<'a>> {
     match ran {
         Ok(ran) => {
             tell_run(rt, terms.report, path, accepted, &ran)?;
@@ -155,7 +158,7 @@ fn run_one<'a>(
     rt: &HostRuntime,
     terms: &Terms<'a>,
     accepted: &Accepted,
-) -> Result<Result<Ran, Halt>, Fault<'a>> {
+) -> Result<Result<HostRun, RunHalt>, HostFault<'a>> {
     let Some(path) = terms.input else {
         let source = Source::Standard(rt.stdin());
         return Ok(converse(rt, terms, accepted, source, is_input_plain(rt)));
@@ -170,7 +173,7 @@ fn run_one<'a>(
 }
 
 /// All of the input.
-fn whole_input<'a>(rt: &HostRuntime, terms: &Terms<'a>) -> Result<Vec<u8>, Fault<'a>> {
+fn whole_input<'a>(rt: &HostRuntime, terms: &Terms<'a>) -> Result<Vec<u8>, HostFault<'a>> {
     let bytes = match terms.input {
         Some(path) => read_whole(rt.alloc(), &mut opened(rt, path)?, MOST),
         None => read_whole(rt.alloc(), &mut rt.stdin(), MOST),
@@ -182,7 +185,11 @@ fn whole_input<'a>(rt: &HostRuntime, terms: &Terms<'a>) -> Result<Vec<u8>, Fault
 }
 
 /// Runs several images on the same input, one after another, and gives the greatest status of one.
-fn run_each<'a>(rt: &HostRuntime, asked: &Asked<'a>, images: &[Accepted]) -> Result<u8, Fault<'a>> {
+fn run_each<'a>(
+    rt: &HostRuntime,
+    asked: &Asked<'a>,
+    images: &[Accepted],
+) -> Result<u8, HostFault<'a>> {
     let input = whole_input(rt, &asked.terms)?;
     let mut status = 0;
     for (path, accepted) in asked.paths.as_slice().iter().zip(images) {
@@ -195,7 +202,7 @@ fn run_each<'a>(rt: &HostRuntime, asked: &Asked<'a>, images: &[Accepted]) -> Res
 }
 
 /// Runs the images at the paths that the words give, where each is admitted, and gives the status.
-fn perform<'a>(rt: &HostRuntime, asked: &Asked<'a>) -> Result<u8, Fault<'a>> {
+fn perform<'a>(rt: &HostRuntime, asked: &Asked<'a>) -> Result<u8, HostFault<'a>> {
     let Some(images) = admitted(rt, asked)? else {
         return Ok(DENIED);
     };
@@ -242,7 +249,7 @@ fn main(rt: HostRuntime) -> ExitCode {
             let fault = fault_at("the words of a command line", &error);
             let _ = eprintln!(rt; "host: {fault}");
             match fault {
-                Fault::NoRoom(_) => FAILED,
+                HostFault::NoRoom(_) => FAILED,
                 _ => OTHER_WORDS,
             }
         }

@@ -8,7 +8,7 @@ use crate::words::Terms;
 use cmd_command::Full;
 use cmd_files::{Counted, Hearer, Speaker};
 use cmd_jobs::Windows;
-use engine_stream::{Flowed, run_over};
+use engine_stream::{FlatEnded, run_over};
 use sbx_counts::on_windows;
 use sbx_stream::{Accepted, Finished, RunFault, run_stream};
 use std::alloc::Global;
@@ -19,7 +19,7 @@ use want::Want;
 
 /// What a run told at its end: the exit word, and the counts.
 #[derive(Clone, Copy)]
-pub struct Told {
+pub struct EndCounts {
     pub status: u32,
     pub turns: u64,
     pub overflows: u64,
@@ -28,9 +28,9 @@ pub struct Told {
 
 /// What a run gave.
 #[derive(Clone, Copy)]
-pub struct Ran {
+pub struct HostRun {
     /// The exit word, and the counts.
-    pub told: Told,
+    pub told: EndCounts,
     /// How many bytes were put out.
     pub output: u64,
     /// Whether input was left; None where nobody can know without waiting for it.
@@ -39,7 +39,7 @@ pub struct Ran {
 
 /// Why a run has no end of its own.
 #[derive(Clone, Copy)]
-pub enum Halt {
+pub enum RunHalt {
     /// Memory was refused.
     Memory(Want),
     /// There was no room for a stream.
@@ -52,11 +52,11 @@ pub enum Halt {
     TooMuch(u64),
 }
 
-impl Halt {
+impl RunHalt {
     /// What an error of a stream halts a run with: want of memory where it is of that kind, else what is given.
-    fn of(error: &io::Error, other: Halt) -> Halt {
+    fn of(error: &io::Error, other: RunHalt) -> RunHalt {
         match Full::of(error) {
-            Some(full) => Halt::NoRoom(full),
+            Some(full) => RunHalt::NoRoom(full),
             None => other,
         }
     }
@@ -95,10 +95,10 @@ pub fn stream_windows<I: Read, O: Write>(
 }
 
 /// What a run on a board told.
-fn told_by_board(finished: &Finished) -> Told
+fn told_by_board(finished: &Finished) -> EndCounts
     ensures { result ≡ told_of finished.now }
 {
-    Told {
+    EndCounts {
         status: finished.status,
         turns: finished.turns,
         overflows: finished.overflows,
@@ -107,10 +107,10 @@ fn told_by_board(finished: &Finished) -> Told
 }
 
 /// What a run on the flat machine told.
-fn told_by_engine(flowed: &Flowed) -> Told
+fn told_by_engine(flowed: &FlatEnded) -> EndCounts
     ensures { result ≡ told_of_flow flowed.now }
 {
-    Told {
+    EndCounts {
         status: flowed.status,
         turns: flowed.counts.turns,
         overflows: flowed.counts.overflows,
@@ -125,7 +125,7 @@ fn stream_flat<I: Read, O: Write>(
     accepted: &Accepted,
     input: &mut I,
     out: &mut O,
-) -> Result<Flowed, RunFault>
+) -> Result<FlatEnded, RunFault>
     ensures { EngineGives windows accepted.now (I.remaining input.old) (I.remaining input.new)
         (O.contents out.old) (O.contents out.new) result }
 {
@@ -140,7 +140,7 @@ pub fn stream_so<I: Read, O: Write>(
     accepted: &Accepted,
     input: &mut I,
     out: &mut O,
-) -> Result<Told, RunFault>
+) -> Result<EndCounts, RunFault>
     ensures { RunsSo terms.now.engine terms.now.windows accepted.now (I.remaining input.old) (I.remaining input.new)
         (O.contents out.old) (O.contents out.new) result }
 {
@@ -157,35 +157,38 @@ pub fn stream_so<I: Read, O: Write>(
 }
 
 /// What a run's fault is, beside the writer that it had.
-fn halt_of<W: Write>(fault: RunFault, out: &Bounded<W>) -> Halt {
+fn halt_of<W: Write>(fault: RunFault, out: &Bounded<W>) -> RunHalt {
     match fault {
-        RunFault::Memory(want) => Halt::Memory(want),
-        RunFault::Reader => Halt::Input,
-        RunFault::Writer if out.is_over() => Halt::TooMuch(out.count()),
-        RunFault::Writer => Halt::Output,
+        RunFault::Memory(want) => RunHalt::Memory(want),
+        RunFault::Reader => RunHalt::Input,
+        RunFault::Writer if out.is_over() => RunHalt::TooMuch(out.count()),
+        RunFault::Writer => RunHalt::Output,
     }
 }
 
 /// Why a run stopped, once what it put out up to its bound was handed on.
-fn left_off<W: Write>(fault: RunFault, out: &mut Bounded<W>) -> Halt {
+fn left_off<W: Write>(fault: RunFault, out: &mut Bounded<W>) -> RunHalt {
     match halt_of(fault, out) {
-        Halt::TooMuch(count) => match out.flush() {
-            Ok(()) => Halt::TooMuch(count),
-            Err(_) => Halt::Output,
+        RunHalt::TooMuch(count) => match out.flush() {
+            Ok(()) => RunHalt::TooMuch(count),
+            Err(_) => RunHalt::Output,
         },
         halt => halt,
     }
 }
 
 /// What a run told, once all that it put out was handed on.
-fn told_at_last<W: Write>(ran: Result<Told, RunFault>, out: &mut Bounded<W>) -> Result<Told, Halt> {
+fn told_at_last<W: Write>(
+    ran: Result<EndCounts, RunFault>,
+    out: &mut Bounded<W>,
+) -> Result<EndCounts, RunHalt> {
     let told = match ran {
         Ok(told) => told,
         Err(fault) => return Err(left_off(fault, out)),
     };
     match out.flush() {
         Ok(()) => Ok(told),
-        Err(_) => Err(Halt::Output),
+        Err(_) => Err(RunHalt::Output),
     }
 }
 
@@ -234,14 +237,14 @@ pub fn converse(
     accepted: &Accepted,
     source: Source,
     is_plain: bool,
-) -> Result<Ran, Halt> {
+) -> Result<HostRun, RunHalt> {
     let input = match BufReader::new(rt.alloc(), source) {
         Ok(input) => input,
-        Err(error) => return Err(Halt::of(&error, Halt::Input)),
+        Err(error) => return Err(RunHalt::of(&error, RunHalt::Input)),
     };
     let out = match LineWriter::new(rt.alloc(), rt.stdout()) {
         Ok(out) => out,
-        Err(error) => return Err(Halt::of(&error, Halt::Output)),
+        Err(error) => return Err(RunHalt::of(&error, RunHalt::Output)),
     };
     let out = RefCell::new(out);
     let mut heard = Counted::new(Hearer::new(input, &out));
@@ -249,7 +252,7 @@ pub fn converse(
     let ran = stream_so(rt.alloc(), terms, accepted, &mut heard, &mut said);
     let told = told_at_last(ran, &mut said)?;
     let output = said.count();
-    Ok(Ran {
+    Ok(HostRun {
         told,
         output,
         has_left: left_behind(heard, is_plain),

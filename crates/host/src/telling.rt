@@ -1,7 +1,7 @@
 //! What is told of images on standard error.
-use crate::faults::Fault;
+use crate::faults::HostFault;
 use crate::policy::Denial;
-use crate::running::Ran;
+use crate::running::HostRun;
 use crate::words::Report;
 use bitflags::Flags;
 use sbx_run::{Accepted, budget};
@@ -10,11 +10,11 @@ use std::alloc::{AllocError, Global};
 use std::io::Write;
 
 /// Writes a line on standard error by one call.
-fn put_line(rt: &HostRuntime, mut line: String) -> Result<(), Fault<'static>> {
+fn put_line(rt: &HostRuntime, mut line: String) -> Result<(), HostFault<'static>> {
     line.push('\n')?;
     match rt.stderr().write_all(line.as_bytes()) {
         Ok(()) => Ok(()),
-        Err(_) => Err(Fault::Report),
+        Err(_) => Err(HostFault::Report),
     }
 }
 
@@ -36,7 +36,7 @@ pub fn tell_asked(
     rt: &HostRuntime,
     report: Report,
     accepted: &Accepted,
-) -> Result<(), Fault<'static>> {
+) -> Result<(), HostFault<'static>> {
     match report {
         Report::Lines => put_line(rt, asked_line(rt.alloc(), accepted)?),
         Report::Faults | Report::Json => Ok(()),
@@ -55,7 +55,7 @@ pub fn tell_denial(
     report: Report,
     path: &str,
     denial: &Denial,
-) -> Result<(), Fault<'static>> {
+) -> Result<(), HostFault<'static>> {
     let alloc = rt.alloc();
     let line = match report {
         Report::Lines => format!(in alloc; "denied: {denial}")?,
@@ -66,7 +66,7 @@ pub fn tell_denial(
 }
 
 /// An object that names an image, and tells its run beside its budget.
-fn run_object(alloc: Global, path: &str, budget: u64, ran: &Ran) -> Result<String, AllocError> {
+fn run_object(alloc: Global, path: &str, budget: u64, ran: &HostRun) -> Result<String, AllocError> {
     json!(in alloc; {
         "image": path,
         "exit": ran.told.status,
@@ -86,8 +86,8 @@ pub fn tell_run(
     report: Report,
     path: &str,
     accepted: &Accepted,
-    ran: &Ran,
-) -> Result<(), Fault<'static>> {
+    ran: &HostRun,
+) -> Result<(), HostFault<'static>> {
     let (alloc, status, turns) = (rt.alloc(), ran.told.status, ran.told.turns);
     let line = match report {
         Report::Lines => format!(in alloc; "exit word {status}, {turns} turns")?,
@@ -109,7 +109,7 @@ pub fn tell_stopped(
     report: Report,
     path: &str,
     output: u64,
-) -> Result<(), Fault<'static>> {
+) -> Result<(), HostFault<'static>> {
     let alloc = rt.alloc();
     let line = match report {
         Report::Lines | Report::Faults => format!(in alloc;

@@ -1,10 +1,10 @@
 -- What a command line may ask for.
 use Rattle.std.specs.Prelude.{◌≤◌}
-use Rattle.inspect.specs.declared.words.Job.{Job}
-use Rattle.inspect.specs.declared.words.Job.TheVariants.{Image, Run, Trace, States, Machine, Why}
+use Rattle.inspect.specs.declared.words.InspectJob.{InspectJob}
+use Rattle.inspect.specs.declared.words.InspectJob.TheVariants.{Image, Run, Trace, States, Machine, Why}
 
 -- its numbers are in their ranges
-abbrev pub IsInRange : Job → Type 0
+abbrev pub IsInRange : InspectJob → Type 0
 IsInRange (Image image form) = Unit {0}
 IsInRange (Run image windows limit form) = (4 ≤ windows) × (windows ≤ 32) × (limit ≤ 9999999999)
 IsInRange (Trace image windows limit) = (4 ≤ windows) × (windows ≤ 32) × (limit ≤ 9999999999)

@@ -1,9 +1,9 @@
 //! The commands that read a source: what their words ask for, and their files.
-use crate::faults::Fault;
+use crate::faults::InspectFault;
 use crate::naming::{Known, tell_by_source};
 use crate::progress::Lines;
 use crate::sources::{source_in, tell_check, tell_map};
-use crate::words::{Form, Job, read_words};
+use crate::words::{Form, InspectJob, read_words};
 use crate::{opened, path_of};
 use cmd_command::{CommandStop, MOST};
 use cmd_files::{Counted, FileFault};
@@ -77,11 +77,11 @@ fn job_alone(words: &[String]) -> Option<Alone<'_>> {
 }
 
 /// Whether a job is told by names too.
-fn has_names(job: &Job<'_>) -> bool {
+fn has_names(job: &InspectJob<'_>) -> bool {
     match *job {
-        Job::Image { form, .. } | Job::Why { form, .. } => form == Form::Text,
-        Job::Trace { .. } => true,
-        Job::Run { .. } | Job::States { .. } | Job::Machine { .. } => false,
+        InspectJob::Image { form, .. } | InspectJob::Why { form, .. } => form == Form::Text,
+        InspectJob::Trace { .. } => true,
+        InspectJob::Run { .. } | InspectJob::States { .. } | InspectJob::Machine { .. } => false,
     }
 }
 
@@ -102,20 +102,20 @@ fn tell<F: Read, O: Write>(
 }
 
 /// A stop at the file of a path.
-fn at_file<'a>(path: &'a str, stop: CommandStop) -> Fault<'a> {
+fn at_file<'a>(path: &'a str, stop: CommandStop) -> InspectFault<'a> {
     match stop {
-        CommandStop::File => Fault::File(path, FileFault::Failing),
-        stop => Fault::Stop(stop),
+        CommandStop::File => InspectFault::File(path, FileFault::Failing),
+        stop => InspectFault::Stop(stop),
     }
 }
 
 /// Tells of the source at a path.
-fn perform_alone<'a>(rt: &HostRuntime, job: Alone<'a>) -> Result<(), Fault<'a>> {
+fn perform_alone<'a>(rt: &HostRuntime, job: Alone<'a>) -> Result<(), InspectFault<'a>> {
     let (Alone::Check(source, _) | Alone::Map(source)) = job;
     let mut file = opened(rt, source)?;
     let mut out = match BufWriter::new(rt.alloc(), rt.stdout()) {
         Ok(out) => out,
-        Err(error) => return Err(Fault::Stop(CommandStop::of(&error, CommandStop::Output))),
+        Err(error) => return Err(InspectFault::Stop(CommandStop::of(&error, CommandStop::Output))),
     };
     match tell(rt.alloc(), job, &mut file, &mut out) {
         Ok(()) => Ok(()),
@@ -124,7 +124,7 @@ fn perform_alone<'a>(rt: &HostRuntime, job: Alone<'a>) -> Result<(), Fault<'a>> 
 }
 
 /// The bytes of the source at a path.
-fn source_at<'a>(rt: &HostRuntime, source: &'a str) -> Result<Vec<u8>, Fault<'a>> {
+fn source_at<'a>(rt: &HostRuntime, source: &'a str) -> Result<Vec<u8>, InspectFault<'a>> {
     let mut file = opened(rt, source)?;
     match source_in(rt.alloc(), &mut file) {
         Ok(bytes) => Ok(bytes),
@@ -136,12 +136,12 @@ fn source_at<'a>(rt: &HostRuntime, source: &'a str) -> Result<Vec<u8>, Fault<'a>
 fn perform_on<'a>(
     rt: &HostRuntime,
     text: &[u8],
-    job: &Job<'a>,
+    job: &InspectJob<'a>,
     mut file: File,
-) -> Result<Known, Fault<'a>> {
+) -> Result<Known, InspectFault<'a>> {
     let mut out = match BufWriter::new(rt.alloc(), rt.stdout()) {
         Ok(out) => out,
-        Err(error) => return Err(Fault::Stop(CommandStop::of(&error, CommandStop::Output))),
+        Err(error) => return Err(InspectFault::Stop(CommandStop::of(&error, CommandStop::Output))),
     };
     let (alloc, mut input) = (rt.alloc(), Counted::new(rt.stdin()));
     let mut lines = Lines::new(rt);
@@ -149,7 +149,7 @@ fn perform_on<'a>(
         alloc, text, job, &mut file, &mut input, &mut out, &mut lines,
     ) {
         Ok(known) => Ok(known),
-        Err(CommandStop::Input) if input.count() > MOST as u64 => Err(Fault::Input(
+        Err(CommandStop::Input) if input.count() > MOST as u64 => Err(InspectFault::Input(
             FileFault::TooLong,
         )),
         Err(stop) => Err(at_file(path_of(job), stop)),
@@ -157,18 +157,22 @@ fn perform_on<'a>(
 }
 
 /// Does a job on an image by the source at a path.
-fn perform_by<'a>(rt: &HostRuntime, source: &'a str, job: &Job<'a>) -> Result<(), Fault<'a>> {
+fn perform_by<'a>(
+    rt: &HostRuntime,
+    source: &'a str,
+    job: &InspectJob<'a>,
+) -> Result<(), InspectFault<'a>> {
     let text = source_at(rt, source)?;
     let file = opened(rt, path_of(job))?;
     match perform_on(rt, text.as_slice(), job, file)? {
         Known::Own => Ok(()),
-        Known::Foreign => Err(Fault::Foreign(source)),
-        Known::Broken(line) => Err(Fault::Broken(source, line)),
+        Known::Foreign => Err(InspectFault::Foreign(source)),
+        Known::Broken(line) => Err(InspectFault::Broken(source, line)),
     }
 }
 
 /// What a job gives as the exit status.
-fn status_of(rt: &HostRuntime, done: Result<(), Fault<'_>>) -> u8 {
+fn status_of(rt: &HostRuntime, done: Result<(), InspectFault<'_>>) -> u8 {
     match done {
         Ok(()) => 0,
         Err(fault) => fault.report(rt),
@@ -196,7 +200,9 @@ fn answer_by<'a>(rt: &HostRuntime, words: &'a [String], source: &'a str) -> Opti
 pub fn answer(rt: &HostRuntime, words: &[String]) -> Option<u8> {
     let split = match parted(rt.alloc(), words) {
         Ok(split) => split,
-        Err(error) => return Some(Fault::Stop(CommandStop::Memory(Want::from(error))).report(rt)),
+        Err(error) => return Some(InspectFault::Stop(CommandStop::Memory(Want::from(error))).report(
+            rt,
+        )),
     };
     match split.source {
         None => answer_alone(rt, split.words.as_slice()),

@@ -1,7 +1,7 @@
 //! Why nothing is told, and how that is told.
 use cmd_command::CommandStop;
 use cmd_files::FileFault;
-use inspect_start::{Cause, StartFault};
+use inspect_start::{StartCause, StartFault};
 use std::io::Write;
 
 /// The status where a file or a stream fails.
@@ -12,7 +12,7 @@ const BYTES: u8 = 2;
 
 /// Why nothing is told.
 #[derive(Clone, Copy)]
-pub enum Fault<'a> {
+pub enum InspectFault<'a> {
     /// The job has stopped.
     Stop(CommandStop),
     /// There is something wrong with the file at a path.
@@ -27,25 +27,25 @@ pub enum Fault<'a> {
     Start(&'a str, &'a str, StartFault),
 }
 
-impl Fault<'_> {
+impl InspectFault<'_> {
     /// Tells it on standard error, and gives the exit status.
     pub fn report(self, rt: &HostRuntime) -> u8 {
         match self {
-            Fault::Stop(stop) => stop.report(&mut rt.stderr()).status,
-            Fault::File(path, fault) => {
+            InspectFault::Stop(stop) => stop.report(&mut rt.stderr()).status,
+            InspectFault::File(path, fault) => {
                 let _ = eprintln!(rt; "inspect: {path}: {fault}");
                 FILE
             }
-            Fault::Foreign(path) => {
+            InspectFault::Foreign(path) => {
                 let _ = eprintln!(rt; "inspect: {path}: the source is another image's");
                 BYTES
             }
-            Fault::Broken(path, line) => {
+            InspectFault::Broken(path, line) => {
                 let _ = eprintln!(rt; "inspect: {path}: line {line} is none of a map");
                 BYTES
             }
-            Fault::Start(binary, file, fault) => report_start(rt, binary, file, fault),
-            Fault::Input(fault) => {
+            InspectFault::Start(binary, file, fault) => report_start(rt, binary, file, fault),
+            InspectFault::Input(fault) => {
                 let _ = eprintln!(rt; "inspect: input: {fault}");
                 FILE
             }
@@ -56,7 +56,7 @@ impl Fault<'_> {
 /// Tells what is wrong with the start of a machine, and gives the exit status.
 fn report_start(rt: &HostRuntime, binary: &str, file: &str, fault: StartFault) -> u8 {
     let StartFault { line, cause } = fault;
-    if let Cause::Memory(want) = cause {
+    if let StartCause::Memory(want) = cause {
         return CommandStop::Memory(want).report(&mut rt.stderr()).status;
     }
     let _ = if line == 0 {

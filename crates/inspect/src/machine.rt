@@ -1,7 +1,7 @@
 //! A machine of one's own that a file sets.
 ghost use Rattle.inspect.specs.Machines.{MachineOf};
 
-use crate::faults::Fault;
+use crate::faults::InspectFault;
 use crate::opened;
 use cmd_command::{CommandStop, MOST, ReadFault, Windows, read_whole};
 use cmd_files::FileFault;
@@ -22,7 +22,7 @@ pub enum MachineFault {
 /// What a machine is made of, beside the lines of its file: its windows, the most turns, and a binary from an address
 /// on.
 #[derive(Clone, Copy)]
-pub struct Setting<'a> {
+pub struct InspectSetting<'a> {
     pub windows: Windows,
     pub limit: u64,
     pub binary: Option<&'a str>,
@@ -33,7 +33,7 @@ pub struct Setting<'a> {
 /// RAM that it changed; or what is wrong with the file, and then nothing is written.
 pub fn tell_machine<O: Write>(
     alloc: Global,
-    setting: &Setting<'_>,
+    setting: &InspectSetting<'_>,
     binary: &[u8],
     file: &[u8],
     out: &mut O,
@@ -53,18 +53,21 @@ pub fn tell_machine<O: Write>(
 }
 
 /// All bytes of the file at a path.
-fn bytes_of<'a>(rt: &HostRuntime, path: &'a str) -> Result<Vec<u8>, Fault<'a>> {
+fn bytes_of<'a>(rt: &HostRuntime, path: &'a str) -> Result<Vec<u8>, InspectFault<'a>> {
     let mut file = opened(rt, path)?;
     match read_whole(rt.alloc(), &mut file, MOST) {
         Ok(bytes) => Ok(bytes),
-        Err(ReadFault::Memory(want)) => Err(Fault::Stop(CommandStop::Memory(want))),
-        Err(ReadFault::TooLong) => Err(Fault::File(path, FileFault::TooLong)),
-        Err(ReadFault::Reader) => Err(Fault::File(path, FileFault::Failing)),
+        Err(ReadFault::Memory(want)) => Err(InspectFault::Stop(CommandStop::Memory(want))),
+        Err(ReadFault::TooLong) => Err(InspectFault::File(path, FileFault::TooLong)),
+        Err(ReadFault::Reader) => Err(InspectFault::File(path, FileFault::Failing)),
     }
 }
 
 /// The bytes of a setting's binary, none where there is none.
-fn binary_of<'a>(rt: &HostRuntime, setting: &Setting<'a>) -> Result<Vec<u8>, Fault<'a>> {
+fn binary_of<'a>(
+    rt: &HostRuntime,
+    setting: &InspectSetting<'a>,
+) -> Result<Vec<u8>, InspectFault<'a>> {
     match setting.binary {
         Some(path) => bytes_of(rt, path),
         None => Ok(Vec::new(rt.alloc())),
@@ -75,13 +78,13 @@ fn binary_of<'a>(rt: &HostRuntime, setting: &Setting<'a>) -> Result<Vec<u8>, Fau
 pub fn run_machine<'a>(
     rt: &HostRuntime,
     path: &'a str,
-    setting: &Setting<'a>,
-) -> Result<(), Fault<'a>> {
+    setting: &InspectSetting<'a>,
+) -> Result<(), InspectFault<'a>> {
     let binary = binary_of(rt, setting)?;
     let file = bytes_of(rt, path)?;
     let mut out = match BufWriter::new(rt.alloc(), rt.stdout()) {
         Ok(out) => out,
-        Err(error) => return Err(Fault::Stop(CommandStop::of(&error, CommandStop::Output))),
+        Err(error) => return Err(InspectFault::Stop(CommandStop::of(&error, CommandStop::Output))),
     };
     match tell_machine(
         rt.alloc(),
@@ -91,8 +94,8 @@ pub fn run_machine<'a>(
         &mut out,
     ) {
         Ok(()) => Ok(()),
-        Err(MachineFault::Stop(stop)) => Err(Fault::Stop(stop)),
-        Err(MachineFault::Start(fault)) => Err(Fault::Start(
+        Err(MachineFault::Stop(stop)) => Err(InspectFault::Stop(stop)),
+        Err(MachineFault::Start(fault)) => Err(InspectFault::Start(
             setting.binary.unwrap_or(path),
             path,
             fault,

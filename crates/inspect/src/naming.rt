@@ -1,10 +1,10 @@
 //! What is told of an image by the names and the lines of its source.
 use crate::commands::put_out;
 use crate::sources::digest_of;
-use crate::words::Job;
+use crate::words::InspectJob;
 use cmd_command::{CommandStop, Windows, image_in, input_of};
 use inspect_image::push_image;
-use inspect_names::{MapText, NamedWriter, Names, Told, names_in, push_renamed, read_map};
+use inspect_names::{MapText, NamedWriter, Names, SourceTold, names_in, push_renamed, read_map};
 use inspect_refusal::push_why;
 use inspect_run::{Progress, watch_windows};
 use sbx_asm::assemble;
@@ -38,7 +38,7 @@ fn put_renamed<O: Write>(
     text: &str,
 ) -> Result<(), CommandStop> {
     let mut renamed = String::new(alloc);
-    stopped(push_renamed(&mut renamed, names, text.as_bytes(), Told::Addresses))?;
+    stopped(push_renamed(&mut renamed, names, text.as_bytes(), SourceTold::Addresses))?;
     put_out(out, renamed.as_bytes())
 }
 
@@ -93,21 +93,22 @@ fn explain<O: Write>(
 fn tell_named<I: Read, O: Write, P: Progress>(
     alloc: Global,
     names: &Names<'_>,
-    job: &Job<'_>,
+    job: &InspectJob<'_>,
     image: Image,
     input: &mut I,
     out: &mut O,
     progress: &mut P,
 ) -> Result<(), CommandStop> {
     match *job {
-        Job::Trace { windows, limit, .. } => {
+        InspectJob::Trace { windows, limit, .. } => {
             trace(alloc, names, windows, limit, &image, input, out, progress)
         }
-        Job::Why { .. } => explain(alloc, names, image, out),
+        InspectJob::Why { .. } => explain(alloc, names, image, out),
         // (the other jobs aren't told by names, and don't come here)
-        Job::Image { .. } | Job::Run { .. } | Job::States { .. } | Job::Machine { .. } => {
-            show(alloc, names, &image, out)
-        }
+        InspectJob::Image { .. }
+        | InspectJob::Run { .. }
+        | InspectJob::States { .. }
+        | InspectJob::Machine { .. } => { show(alloc, names, &image, out) }
     }
 }
 
@@ -148,7 +149,7 @@ fn names_for<'s>(
 pub fn tell_by_source<F: Read, I: Read, O: Write, P: Progress>(
     alloc: Global,
     text: &[u8],
-    job: &Job<'_>,
+    job: &InspectJob<'_>,
     file: &mut F,
     input: &mut I,
     out: &mut O,

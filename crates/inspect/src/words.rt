@@ -2,7 +2,7 @@
 ghost use Rattle.std.specs.Prelude.{IfSome};
 ghost use Rattle.inspect.specs.Jobs.{IsInRange};
 
-use crate::machine::Setting;
+use crate::machine::InspectSetting;
 use cmd_command::{Windows, turns, window_count};
 use inspect_start::address;
 use std::convert::AsStr;
@@ -18,7 +18,7 @@ pub enum Form {
 
 /// One thing to tell of an image file.
 #[derive(Clone, Copy)]
-pub enum Job<'a> {
+pub enum InspectJob<'a> {
     /// What it declares.
     Image {
         image: &'a str,
@@ -46,7 +46,7 @@ pub enum Job<'a> {
     /// The states of a machine of one's own, which the lines of a file set.
     Machine {
         file: &'a str,
-        setting: Setting<'a>,
+        setting: InspectSetting<'a>,
     },
     /// Why it is refused.
     Why {
@@ -179,24 +179,24 @@ fn options_of<S: AsStr>(words: &[S]) -> Option<Options<'_>> {
 }
 
 /// The job of a command that has numbers.
-fn numbered<'a>(command: &str, image: &'a str, options: &Options<'a>) -> Option<Job<'a>>
+fn numbered<'a>(command: &str, image: &'a str, options: &Options<'a>) -> Option<InspectJob<'a>>
     ensures { IfSome result IsInRange }
 {
     let windows = window_count(options.windows)?;
     let limit = turns(options.limit)?;
     match (command, options.form) {
-        ("run", form) => Some(Job::Run {
+        ("run", form) => Some(InspectJob::Run {
             image,
             windows,
             limit,
             form,
         }),
-        ("trace", Form::Text) => Some(Job::Trace {
+        ("trace", Form::Text) => Some(InspectJob::Trace {
             image,
             windows,
             limit,
         }),
-        ("states", Form::Text) => Some(Job::States {
+        ("states", Form::Text) => Some(InspectJob::States {
             image,
             windows,
             limit,
@@ -214,7 +214,7 @@ fn place(text: Option<&str>) -> Option<u64> {
 }
 
 /// The job of a machine of one's own. An address is that of a binary.
-fn machine_job<'a>(file: &'a str, options: &Options<'a>) -> Option<Job<'a>>
+fn machine_job<'a>(file: &'a str, options: &Options<'a>) -> Option<InspectJob<'a>>
     ensures { IfSome result IsInRange }
 {
     let windows = window_count(options.windows)?;
@@ -222,9 +222,9 @@ fn machine_job<'a>(file: &'a str, options: &Options<'a>) -> Option<Job<'a>>
     let at = place(options.at)?;
     match (options.form, options.binary, options.at) {
         (Form::Json, _, _) | (Form::Text, None, Some(_)) => None,
-        (Form::Text, binary, _) => Some(Job::Machine {
+        (Form::Text, binary, _) => Some(InspectJob::Machine {
             file,
-            setting: Setting {
+            setting: InspectSetting {
                 windows,
                 limit,
                 binary,
@@ -235,7 +235,7 @@ fn machine_job<'a>(file: &'a str, options: &Options<'a>) -> Option<Job<'a>>
 }
 
 /// The job of a command with its options.
-fn job_of<'a>(command: &str, image: &'a str, options: &Options<'a>) -> Option<Job<'a>>
+fn job_of<'a>(command: &str, image: &'a str, options: &Options<'a>) -> Option<InspectJob<'a>>
     ensures { IfSome result IsInRange }
 {
     if command == "machine" {
@@ -246,14 +246,14 @@ fn job_of<'a>(command: &str, image: &'a str, options: &Options<'a>) -> Option<Jo
     }
     let form = options.form;
     match (command, options.windows, options.limit) {
-        ("image", None, None) => Some(Job::Image { image, form }),
-        ("why", None, None) => Some(Job::Why { image, form }),
+        ("image", None, None) => Some(InspectJob::Image { image, form }),
+        ("why", None, None) => Some(InspectJob::Why { image, form }),
         _ => numbered(command, image, options),
     }
 }
 
 /// The job that the words after the program's name ask for.
-pub fn read_words<S: AsStr>(words: &[S]) -> Option<Job<'_>>
+pub fn read_words<S: AsStr>(words: &[S]) -> Option<InspectJob<'_>>
     ensures { IfSome result IsInRange }
 {
     let (command, rest) = words.split_first()?;

@@ -5,6 +5,6 @@ mod marks;
 mod settings;
 mod texts;
 
-pub use inspect_shapes::{Mark, Reason};
+pub use inspect_shapes::{Mark, ShapeReason};
 pub use marks::{mark_of, whole_reason};
 pub use settings::Setting;

@@ -4,7 +4,7 @@ ghost use Rattle.std.specs.Prelude.{◌≤◌, IfOk, length};
 use crate::settings::Setting;
 use crate::texts::text_mark;
 use inspect_operands::{operand_mark, symbol_mark, value_mark};
-use inspect_shapes::{LimitReason, Mark, PlaceReason, Reason, statement_mark};
+use inspect_shapes::{LimitReason, Mark, PlaceReason, ShapeReason, statement_mark};
 use sbx_asm::{Cause, Line};
 use sbx_directives::{Directive, Name, Statement, Width};
 use sbx_text::Token;
@@ -75,7 +75,7 @@ fn name_of<'l>(line: &'l Line<'_, '_>) -> Option<(&'l Token, &'l [Token])> {
 }
 
 /// A mark where what stands behind a line's labels begins.
-fn at_statement(line: &Line<'_, '_>, reason: Reason) -> Mark {
+fn at_statement(line: &Line<'_, '_>, reason: ShapeReason) -> Mark {
     let at = match name_of(line) {
         Some((first, _)) => first.start,
         None => 0,
@@ -92,7 +92,7 @@ fn values_mark<S: Symbols>(
 ) -> Mark {
     match name_of(line) {
         Some((_, rest)) if !setting.in_code => value_mark(line.bytes(), width, rest, symbols),
-        _ => at_statement(line, Reason::Place(PlaceReason::DataInCode)),
+        _ => at_statement(line, ShapeReason::Place(PlaceReason::DataInCode)),
     }
 }
 
@@ -104,13 +104,13 @@ fn directive_mark<S: Symbols>(line: &Line<'_, '_>, symbols: &S, setting: Setting
         }
         Ok(Statement::Directive(directive)) => {
             let reason = directive_reason(directive, setting);
-            at_statement(line, Reason::Place(reason))
+            at_statement(line, ShapeReason::Place(reason))
         }
         Ok(Statement::Malformed(keyword, _)) => match name_of(line) {
             Some((name, rest)) => operand_mark(line.bytes(), keyword, name, rest),
-            None => at_statement(line, Reason::Place(PlaceReason::NoFunction)),
+            None => at_statement(line, ShapeReason::Place(PlaceReason::NoFunction)),
         },
-        _ => at_statement(line, Reason::Place(instruction_reason(setting))),
+        _ => at_statement(line, ShapeReason::Place(instruction_reason(setting))),
     }
 }
 
@@ -167,12 +167,15 @@ fn mark_for<S: Symbols>(
         Cause::Text(fault) => text_mark(alloc, line.bytes(), fault)?,
         Cause::Syntax(fault) => syntax_mark(line, fault, symbols),
         Cause::DuplicateLabel => Mark {
-            reason: Reason::Place(PlaceReason::RepeatedLabel),
+            reason: ShapeReason::Place(PlaceReason::RepeatedLabel),
             at: label_place(line, symbols),
         },
         Cause::Directive => directive_mark(line, symbols, setting),
-        Cause::Limit => at_statement(line, Reason::Limit(limit_reason(line, setting))),
-        Cause::Annotation => at_statement(line, Reason::Place(annotation_reason(line, setting))),
+        Cause::Limit => at_statement(line, ShapeReason::Limit(limit_reason(line, setting))),
+        Cause::Annotation => at_statement(
+            line,
+            ShapeReason::Place(annotation_reason(line, setting)),
+        ),
         Cause::Memory(want) => return Err(AllocError::from(want)),
     })
 }
@@ -197,9 +200,9 @@ pub fn mark_of<S: Symbols>(
 }
 
 /// Why a source is told as a whole, at the line after its last.
-pub fn whole_reason(cause: Cause) -> Reason {
+pub fn whole_reason(cause: Cause) -> ShapeReason {
     match cause {
-        Cause::Limit => Reason::Limit(LimitReason::Pages),
-        _ => Reason::Place(PlaceReason::NoFunction),
+        Cause::Limit => ShapeReason::Limit(LimitReason::Pages),
+        _ => ShapeReason::Place(PlaceReason::NoFunction),
     }
 }

@@ -1,5 +1,5 @@
 //! Where the text of a line is at fault.
-use inspect_shapes::{Mark, Reason, TextReason};
+use inspect_shapes::{Mark, ShapeReason, TextReason};
 use sbx_text::{TextFault, push_tokens};
 use std::alloc::{AllocError, Global};
 
@@ -53,7 +53,7 @@ pub(crate) fn text_mark(alloc: Global, line: &[u8], fault: TextFault) -> Result<
         TextFault::Memory(want) => return Err(AllocError::from(want)),
     };
     Ok(Mark {
-        reason: Reason::Text(reason),
+        reason: ShapeReason::Text(reason),
         at,
     })
 }

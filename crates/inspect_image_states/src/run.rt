@@ -6,7 +6,7 @@ ghost use Rattle.sbx_raw.specs.Runs.{IsBegun};
 ghost use Rattle.inspect_image_states.specs.Told.{Stated, run_fault};
 
 use crate::loaded::{machine_of, memory_of, regs};
-use inspect_states::{Teller, tell_states};
+use inspect_states::{StateTeller, tell_states};
 use sbx_counts::on_windows;
 use sbx_image::Image;
 use sbx_raw::{RunFault, SlicePort, begun};
@@ -43,7 +43,7 @@ fn states_of<const N: usize, W: Write>(
     let memory = memory_of(alloc, board, input)?;
     let regs = regs();
     let mut machine = machine_of::<N, _>(memory, &regs);
-    let mut teller = Teller::new(alloc, known);
+    let mut teller = StateTeller::new(alloc, known);
     match tell_states(&mut machine, &regs, limit, &mut teller, out) {
         Ok(()) => Ok(()),
         Err(fault) => Err(run_fault(fault)),

@@ -10,7 +10,7 @@ use crate::lists::{Told, put_member};
 use crate::members::{
     close_object, line_of, new_line, open_object, put_flag, put_number, put_text,
 };
-use inspect_names::{Code, Finding};
+use inspect_names::{Finding, SourceCode};
 use json::Writer;
 use std::alloc::{AllocError, Global};
 
@@ -23,7 +23,7 @@ fn put_place(out: &mut Writer, finding: Finding) -> Result<(), AllocError>
 }
 
 /// The member that has the number of a fault or of a rule.
-fn put_code(alloc: Global, out: &mut Writer, code: Code) -> Result<(), AllocError>
+fn put_code(alloc: Global, out: &mut Writer, code: SourceCode) -> Result<(), AllocError>
     ensures { OnOk result (Adds out.old out.new (member_tokens (codes "code") (string (code_text code)))) }
 {
     let name = format!(in alloc; "{code}")?;

@@ -8,7 +8,7 @@ ghost use Rattle.inspect_image_states.specs.Told.{device_of};
 ghost use Rattle.inspect_machine.specs.Bare.{SameRest, started, with_control, with_register};
 ghost use Rattle.want.specs.Wants.{refused};
 
-use inspect_start::{Control, Register, Start};
+use inspect_start::{ControlValue, Register, Start};
 use sbx_raw::{RunFault, SlicePort};
 use std::alloc::Global;
 use v8_core::Machine;
@@ -18,7 +18,7 @@ use v8_mmu::{Bus, MmuRegs};
 use v8_word::Reg;
 
 /// The registers of the MMU that a start sets.
-pub fn mmu_of(control: &Control) -> MmuRegs
+pub fn mmu_of(control: &ControlValue) -> MmuRegs
     requires reach { control.now.table < 2 ^ 36 }
     requires whole { control.now.table % 4 ≡ 0 }
     ensures { (result.table ≡ control.now.table) × (result.context ≡ control.now.context) }
@@ -71,7 +71,7 @@ fn set_registers<const N: usize, B: Bus>(machine: &mut Machine<N, B>, registers:
 }
 
 /// Writes the state registers, PC, nPC and Y.
-fn set_control<const N: usize, B: Bus>(machine: &mut Machine<N, B>, control: &Control)
+fn set_control<const N: usize, B: Bus>(machine: &mut Machine<N, B>, control: &ControlValue)
     requires places { (control.now.pc % 4 ≡ 0) × (control.now.npc % 4 ≡ 0) }
     requires window { psr_window control.now.psr < N }
     requires rest { SameRest (started_with 0) machine.old.cpu.control }

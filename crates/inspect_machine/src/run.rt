@@ -10,7 +10,7 @@ use crate::bare::{machine_of, memory_of, mmu_of};
 use crate::changed::push_changes;
 use inspect_image_states::run_fault;
 use inspect_start::Start;
-use inspect_states::{Teller, tell_states};
+use inspect_states::{StateTeller, tell_states};
 use sbx_counts::on_windows;
 use sbx_put::put_through;
 use sbx_raw::RunFault;
@@ -60,7 +60,7 @@ fn own_run<const N: usize, W: Write>(
     let memory = memory_of(alloc, start.ram.as_slice())?;
     let regs = mmu_of(&start.control);
     let mut machine = machine_of::<N, _>(memory, &regs, start);
-    let mut teller = Teller::new(alloc, known);
+    let mut teller = StateTeller::new(alloc, known);
     match tell_states(&mut machine, &regs, limit, &mut teller, out) {
         Ok(()) => tell_changes(alloc, &first, machine.bus(), out),
         Err(fault) => Err(run_fault(fault)),

@@ -5,7 +5,7 @@ use Rattle.sbx_asm.specs.declared.fault.AsmFault.{AsmFault}
 use Rattle.sbx_asm.specs.Images.{source_image}
 use Rattle.sbx_asm.specs.Items.{Item, each, items_of}
 use Rattle.sbx_asm.specs.Rules.{code_of}
-use Rattle.inspect_names.specs.declared.rows.Row.{Row}
+use Rattle.inspect_names.specs.declared.rows.SourceRow.{SourceRow}
 use Rattle.inspect_names.specs.Rows.{row_at}
 use Rattle.inspect_check.specs.declared.faults.Faults.{Faults}
 use Rattle.inspect_check.specs.Faults.{AreTold}
@@ -14,36 +14,36 @@ use Rattle.sbx_rules.specs.Causes.{shown_cause}
 use Rattle.sbx_rules.specs.Verdicts.{Checked, IsFirst}
 use Rattle.inspect_names.specs.declared.checking.Verdict.{Verdict}
 use Rattle.inspect_names.specs.declared.checking.Verdict.TheVariants.{Faulty, Refused, Accepted}
-use Rattle.inspect_names.specs.declared.findings.Code.{Code}
-use Rattle.inspect_names.specs.declared.findings.Code.TheVariants.{Fault, Rule}
+use Rattle.inspect_names.specs.declared.findings.SourceCode.{SourceCode}
+use Rattle.inspect_names.specs.declared.findings.SourceCode.TheVariants.{Fault, Rule}
 use Rattle.inspect_names.specs.declared.findings.Finding.{Finding}
 
 -- a fault is shown as `A2`, a rule as `V14`
-abbrev pub code_text : Code → List ℕ
+abbrev pub code_text : SourceCode → List ℕ
 code_text (Fault cause) = code_of cause
 code_text (Rule cause) = shown_cause cause
 
-abbrev pub finding_place : Finding → ℕ × Code
+abbrev pub finding_place : Finding → ℕ × SourceCode
 finding_place f = (f.line, f.code)
 
-abbrev pub fault_place : AsmFault → ℕ × Code
+abbrev pub fault_place : AsmFault → ℕ × SourceCode
 fault_place f = (f.line, Fault f.cause)
 
 -- the line of the last of some words that stands at an address or before it
-abbrev pub last_line : Option ℕ → List Row → ℕ → Option ℕ
+abbrev pub last_line : Option ℕ → List SourceRow → ℕ → Option ℕ
 last_line found [] address = found
 last_line found (row ∷ rows) address =
     last_line (if nat_le row.address address then Some row.line else found) rows address
 
 -- 1 where there is none, as there is of each word of an image
-abbrev pub line_among : List Row → ℕ → ℕ
+abbrev pub line_among : List SourceRow → ℕ → ℕ
 line_among rows address = elim (last_line None rows address) [
   | Some line ↦ line
   | None ↦ 1
 ]
 
 -- A refusal stands at the line that its word comes from.
-abbrev pub refusal_place : List Item → Refusal → ℕ × Code
+abbrev pub refusal_place : List Item → Refusal → ℕ × SourceCode
 refusal_place items refusal = (line_among (each row_at [] items) refusal.address, Rule refusal.cause)
 
 -- A source means no image: of each of its faults, which are the one that the assembler tells and those of lines behind

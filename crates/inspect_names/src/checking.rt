@@ -6,10 +6,10 @@ ghost use Rattle.inspect_check.specs.Faults.{AreTold};
 ghost use Rattle.inspect_names.specs.Findings.{IsAccepted, IsCheck, IsRefused, finding_place, last_line, line_among};
 ghost use Rattle.inspect_names.specs.Findings.{refusal_place};
 
-use crate::findings::{Code, Finding, findings_of};
+use crate::findings::{Finding, SourceCode, findings_of};
 use crate::names::names_of;
-use crate::renaming::{Told, push_renamed};
-use crate::rows::{Row, rows_of};
+use crate::renaming::{SourceTold, push_renamed};
+use crate::rows::{SourceRow, rows_of};
 use crate::told::push_findings;
 use inspect_check::{Faults, judge};
 use inspect_refusal::{push_why, rule_text};
@@ -62,7 +62,7 @@ fn statement_column(lines: &[Line<'_, '_>], number: usize) -> usize {
 }
 
 /// The line of the last of some words that stands at an address or before it.
-fn last_line(rows: &[Row], address: u32) -> Option<usize>
+fn last_line(rows: &[SourceRow], address: u32) -> Option<usize>
     ensures { result ≡ last_line None rows.now address }
 {
     let mut found = None;
@@ -75,7 +75,7 @@ fn last_line(rows: &[Row], address: u32) -> Option<usize>
 }
 
 /// The line of the word at an address; 1 where there is none.
-fn line_among(rows: &[Row], address: u32) -> usize
+fn line_among(rows: &[SourceRow], address: u32) -> usize
     ensures { result ≡ line_among rows.now address }
 {
     match last_line(rows, address) {
@@ -97,7 +97,7 @@ fn refusal_finding(
     Ok(Finding {
         line,
         column: statement_column(lines, line),
-        code: Code::Rule(refusal.cause),
+        code: SourceCode::Rule(refusal.cause),
         sentence: rule_text(refusal.cause),
     })
 }
@@ -112,7 +112,7 @@ fn push_reasons(
 ) -> Result<(), AllocError> {
     let names = names_of(alloc, lines)?;
     let reasons = behind_line(behind_line(why.as_bytes()));
-    push_renamed(out, &names, reasons, Told::Addresses)
+    push_renamed(out, &names, reasons, SourceTold::Addresses)
 }
 
 /// A refusal, and all that is told of it.

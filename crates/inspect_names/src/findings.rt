@@ -10,18 +10,18 @@ use std::fmt::{self, Error, Formatter, Write};
 
 /// The number of a fault, as `A2`, or of a rule, as `V14`.
 #[derive(Clone, Copy)]
-pub enum Code {
+pub enum SourceCode {
     Fault(Cause),
     Rule(sbx_rules::Cause),
 }
 
-impl fmt::Display for Code {
+impl fmt::Display for SourceCode {
     ghost output = { λ c. Some (code_text c) };
 
     fn fmt<W: Write>(&self, f: &mut Formatter<W>) -> Result<(), Error> {
         match *self {
-            Code::Fault(cause) => write!(f, "{cause}"),
-            Code::Rule(cause) => write!(f, "{cause}"),
+            SourceCode::Fault(cause) => write!(f, "{cause}"),
+            SourceCode::Rule(cause) => write!(f, "{cause}"),
         }
     }
 }
@@ -33,7 +33,7 @@ pub struct Finding {
     pub line: usize,
     /// In bytes, from 1.
     pub column: usize,
-    pub code: Code,
+    pub code: SourceCode,
     /// What is wrong, in words.
     pub sentence: &'static str,
 }
@@ -111,7 +111,7 @@ impl<'l, 'a, 't> Walk<'l, 'a, 't> {
         Ok(Finding {
             line: fault.line,
             column,
-            code: Code::Fault(fault.cause),
+            code: SourceCode::Fault(fault.cause),
             sentence,
         })
     }

@@ -14,9 +14,9 @@ mod told;
 mod writer;
 
 pub use checking::{Check, Verdict, check_source};
-pub use findings::{Code, Finding};
+pub use findings::{Finding, SourceCode};
 pub use map::push_map;
 pub use names::{Named, Names, names_in};
 pub use reading::{MapText, SourceMap, read_map};
-pub use renaming::{Told, push_renamed};
+pub use renaming::{SourceTold, push_renamed};
 pub use writer::NamedWriter;

@@ -7,7 +7,7 @@ use std::alloc::AllocError;
 
 /// What is told by a source's names and lines: functions, blocks and places by these, or addresses of the code too.
 #[derive(Clone, Copy, PartialEq, Eq)]
-pub enum Told {
+pub enum SourceTold {
     Places,
     Addresses,
 }
@@ -126,8 +126,8 @@ impl Names<'_> {
     }
 
     /// The place in the code whose address a word is, where addresses are told by names.
-    fn place_at(&self, word: &[u8], told: Told) -> Option<CodePlace<'_>> {
-        if word.len() != 8 || told == Told::Places {
+    fn place_at(&self, word: &[u8], told: SourceTold) -> Option<CodePlace<'_>> {
+        if word.len() != 8 || told == SourceTold::Places {
             return None;
         }
         let address = hexadecimal(word)?;
@@ -165,7 +165,7 @@ impl Names<'_> {
         &self,
         out: &mut String,
         rest: &'t [u8],
-        told: Told,
+        told: SourceTold,
     ) -> Result<&'t [u8], AllocError> {
         let (word, others) = rest.split_at(word_length(rest));
         if word.is_empty() {
@@ -200,7 +200,7 @@ pub fn push_renamed(
     out: &mut String,
     names: &Names<'_>,
     text: &[u8],
-    told: Told,
+    told: SourceTold,
 ) -> Result<(), AllocError> {
     let mut rest = text;
     for _ in 0..text.len() {

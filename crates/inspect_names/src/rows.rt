@@ -10,7 +10,7 @@ use std::alloc::{AllocError, Global};
 
 /// Where the words of a line begin in the code.
 #[derive(Clone, Copy, PartialEq, Eq)]
-pub struct Row {
+pub struct SourceRow {
     /// The address of the first one.
     pub address: u32,
     /// The number of the line, from 1.
@@ -19,7 +19,7 @@ pub struct Row {
 
 /// Adds the row of a line at its place, if it has words.
 fn push_row(
-    rows: &mut Vec<Row>,
+    rows: &mut Vec<SourceRow>,
     place: LocationCounter,
     line: &Line<'_, '_>,
 ) -> Result<(), AllocError>
@@ -28,7 +28,7 @@ fn push_row(
 {
     match line.said() {
         Ok(Statement::Instruction) => {
-            rows.push(Row {
+            rows.push(SourceRow {
                 address: place.next_word,
                 line: line.number(),
             })?;
@@ -39,7 +39,7 @@ fn push_row(
 }
 
 /// The rows of some lines, which are all of a source from its first on: one for each that is a statement of the code.
-pub fn rows_of(alloc: Global, lines: &[Line<'_, '_>]) -> Result<Vec<Row>, AllocError>
+pub fn rows_of(alloc: Global, lines: &[Line<'_, '_>]) -> Result<Vec<SourceRow>, AllocError>
     ensures { IfOk result (λ rows. rows.items ≡ each row_at [] lines.now) }
 {
     let mut rows = Vec::new(alloc);

@@ -1,6 +1,6 @@
 //! A writer that passes lines on with the names of a source.
 use crate::names::Names;
-use crate::renaming::{Told, push_renamed};
+use crate::renaming::{SourceTold, push_renamed};
 use std::alloc::{AllocError, Global};
 use std::io::{self, Write};
 use want::Want;
@@ -42,7 +42,12 @@ impl<'n, 'a, W: Write + Drop> NamedWriter<'n, 'a, W> {
     /// What is kept, with the source's names.
     fn renamed(&self) -> Result<String, AllocError> {
         let mut text = String::new(self.alloc);
-        push_renamed(&mut text, self.names, self.line.as_slice(), Told::Places)?;
+        push_renamed(
+            &mut text,
+            self.names,
+            self.line.as_slice(),
+            SourceTold::Places,
+        )?;
         Ok(text)
     }
 

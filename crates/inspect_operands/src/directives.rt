@@ -1,6 +1,6 @@
 //! Where the operands of a directive are at fault.
 use crate::lists::{List, Operand};
-use inspect_shapes::{Mark, OperandReason, Reason, StatementReason};
+use inspect_shapes::{Mark, OperandReason, ShapeReason, StatementReason};
 use sbx_directives::{Keyword, Width};
 use sbx_text::Token;
 use v8_syntax::{StatementToken, Symbols, bytes_between, statement_token};
@@ -18,7 +18,7 @@ type Wrong = Option<Mark>;
 
 fn wrong_at(at: usize, reason: OperandReason) -> Wrong {
     Some(Mark {
-        reason: Reason::Operand(reason),
+        reason: ShapeReason::Operand(reason),
         at,
     })
 }
@@ -185,7 +185,7 @@ fn shape_of(keyword: Keyword) -> OperandReason {
 pub fn operand_mark(line: &[u8], keyword: Keyword, name: &Token, tokens: &[Token]) -> Mark {
     let list = List { line, tokens };
     let found = list.of(keyword).unwrap_or(Mark {
-        reason: Reason::Operand(shape_of(keyword)),
+        reason: ShapeReason::Operand(shape_of(keyword)),
         at: name.start,
     });
     if tokens.is_empty() {
@@ -235,7 +235,7 @@ fn bounds_of(width: Width) -> (i64, i64, OperandReason) {
 pub fn symbol_mark<S: Symbols>(line: &[u8], tokens: &[Token], symbols: &S) -> Mark {
     let list = List { line, tokens };
     let mut mark = Mark {
-        reason: Reason::Statement(StatementReason::UnknownSymbol),
+        reason: ShapeReason::Statement(StatementReason::UnknownSymbol),
         at: list.end(),
     };
     for number in 0..list.count() {
@@ -243,7 +243,7 @@ pub fn symbol_mark<S: Symbols>(line: &[u8], tokens: &[Token], symbols: &S) -> Ma
         if value_of(operand, symbols).is_none() {
             mark.at = operand.place;
             if operand.is_one_of(b".", b".") {
-                mark.reason = Reason::Statement(StatementReason::BareDot);
+                mark.reason = ShapeReason::Statement(StatementReason::BareDot);
             }
             return mark;
         }
@@ -268,7 +268,7 @@ pub fn value_mark<S: Symbols>(line: &[u8], width: Width, tokens: &[Token], symbo
         }
     }
     Mark {
-        reason: Reason::Operand(reason),
+        reason: ShapeReason::Operand(reason),
         at,
     }
 }

@@ -7,6 +7,6 @@ mod shapes;
 mod statements;
 
 pub use reasons::{
-    LimitReason, Mark, OperandReason, PlaceReason, Reason, StatementReason, TextReason,
+    LimitReason, Mark, OperandReason, PlaceReason, ShapeReason, StatementReason, TextReason,
 };
 pub use statements::statement_mark;

@@ -114,7 +114,7 @@ pub enum LimitReason {
 
 /// Why a line is told.
 #[derive(Clone, Copy)]
-pub enum Reason {
+pub enum ShapeReason {
     Text(TextReason),
     Statement(StatementReason),
     Operand(OperandReason),
@@ -258,15 +258,15 @@ impl LimitReason {
     }
 }
 
-impl Reason {
+impl ShapeReason {
     /// Its sentence, as docs/faults.md has it.
     pub fn sentence(self) -> &'static str {
         match self {
-            Reason::Text(reason) => reason.sentence(),
-            Reason::Statement(reason) => reason.sentence(),
-            Reason::Operand(reason) => reason.sentence(),
-            Reason::Place(reason) => reason.sentence(),
-            Reason::Limit(reason) => reason.sentence(),
+            ShapeReason::Text(reason) => reason.sentence(),
+            ShapeReason::Statement(reason) => reason.sentence(),
+            ShapeReason::Operand(reason) => reason.sentence(),
+            ShapeReason::Place(reason) => reason.sentence(),
+            ShapeReason::Limit(reason) => reason.sentence(),
         }
     }
 }
@@ -274,6 +274,6 @@ impl Reason {
 /// Why a line is told, and where: how many of its bytes stand before the place.
 #[derive(Clone, Copy)]
 pub struct Mark {
-    pub reason: Reason,
+    pub reason: ShapeReason,
     pub at: usize,
 }

@@ -1,14 +1,14 @@
 //! Where a statement is at fault.
 ghost use Rattle.std.specs.Prelude.{◌≤ℤ◌, negsuc, pos};
 
-use crate::reasons::{Mark, Reason, StatementReason};
+use crate::reasons::{Mark, ShapeReason, StatementReason};
 use crate::shapes::{Operands, form_of, is_branch, range_of};
 use sbx_text::{Kind, Token};
 use v8_forms::{Part, Range};
 use v8_syntax::{NameKind, StatementToken, Symbols, SyntaxFault, bytes_between, sign_byte};
 
 /// A mark at a token, or behind the last one.
-fn mark_at(tokens: &[Token], at: usize, reason: Reason) -> Mark {
+fn mark_at(tokens: &[Token], at: usize, reason: ShapeReason) -> Mark {
     let place = match tokens.get(at) {
         Some(token) => token.start,
         None => match tokens.last() {
@@ -123,18 +123,18 @@ fn named_mark<S: Symbols>(
     let name = bytes_between(line, first.start, first.stop);
     match form_of(name, operands) {
         None => Mark {
-            reason: Reason::Statement(name_reason(line, first)),
+            reason: ShapeReason::Statement(name_reason(line, first)),
             at: first.start,
         },
         Some(Err(miss)) if tokens.is_empty() => Mark {
-            reason: Reason::Statement(miss.wanted),
+            reason: ShapeReason::Statement(miss.wanted),
             at: first.stop,
         },
-        Some(Err(miss)) => mark_at(tokens, miss.at, Reason::Statement(miss.wanted)),
+        Some(Err(miss)) => mark_at(tokens, miss.at, ShapeReason::Statement(miss.wanted)),
         Some(Ok(parts)) => {
             let at = operands.expression_place();
             let reason = operand_reason(operands, at, parts, fault, symbols);
-            mark_at(tokens, at, Reason::Statement(reason))
+            mark_at(tokens, at, ShapeReason::Statement(reason))
         }
     }
 }
@@ -151,12 +151,12 @@ pub fn statement_mark<S: Symbols>(
         Some((first, rest)) => match first.kind {
             Kind::Name => named_mark(line, first, rest, fault, symbols),
             _ => Mark {
-                reason: Reason::Statement(StatementReason::NoName),
+                reason: ShapeReason::Statement(StatementReason::NoName),
                 at: first.start,
             },
         },
         None => Mark {
-            reason: Reason::Statement(StatementReason::NoName),
+            reason: ShapeReason::Statement(StatementReason::NoName),
             at: 0,
         },
     }

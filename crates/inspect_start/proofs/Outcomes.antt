@@ -2,18 +2,18 @@
 use Rattle.std.proofs.Common.{◌≡◌, ℕ, ◌+◌, ◌≤◌, List, [], ◌∷◌, ◌++◌, length, map, Result, Ok, Err, refl, sym, ap, ◌∙◌, arith}
 use Rattle.std.specs.Prelude.{All, IsOk, is_ok, fold}
 use Rattle.std.proofs.lemmas.List.Elements.{All-nil, All-cons}
-use Rattle.inspect_start.specs.declared.fault.Cause.{Cause}
+use Rattle.inspect_start.specs.declared.fault.StartCause.{StartCause}
 use Rattle.inspect_start.specs.declared.fault.StartFault.{StartFault}
 use Rattle.inspect_start.specs.Lines.{lines_of}
 use Rattle.inspect_start.specs.Items.{Item, item_of}
 use Rattle.inspect_start.specs.Files.{IsFirst, Said, set}
 
-abbrev next : (Said → Result Said (ℕ × Cause)) → ℕ → Said → Result Item Cause → Result Said (ℕ × Cause)
+abbrev next : (Said → Result Said (ℕ × StartCause)) → ℕ → Said → Result Item StartCause → Result Said (ℕ × StartCause)
 next more number s (Ok item) = more (set s item)
 next more number s (Err cause) = Err (number + 1, cause)
 
 -- what lines say behind what was said, or what is wrong with the first that isn't right, by its number
-abbrev pub reads : ℕ → List (List ℕ) → ℕ → Said → Result Said (ℕ × Cause)
+abbrev pub reads : ℕ → List (List ℕ) → ℕ → Said → Result Said (ℕ × StartCause)
 reads windows [] number s = Ok s
 reads windows (line ∷ lines) number s = next (reads windows lines (number + 1)) number s (item_of windows line)
 
@@ -25,7 +25,7 @@ module _ (windows : ℕ) where
       ∙ ap (next (reads windows more (number + 1)) number s) (sym is)
       ∙ ap (λ (all : List (List ℕ)). reads windows all number s) (sym first)
 
-  pub read_no_further : (lines more : List (List ℕ)) (line : List ℕ) (number : ℕ) (s : Said) (cause : Cause) → lines ≡ line ∷ more → item_of windows line ≡ Err cause
+  pub read_no_further : (lines more : List (List ℕ)) (line : List ℕ) (number : ℕ) (s : Said) (cause : StartCause) → lines ≡ line ∷ more → item_of windows line ≡ Err cause
       → reads windows lines number s ≡ Err (number + 1, cause)
   read_no_further lines more line number s cause first is =
       ap (λ (all : List (List ℕ)). reads windows all number s) first ∙ ap (next (reads windows more (number + 1)) number s) is
@@ -34,7 +34,7 @@ module _ (windows : ℕ) where
   abbrev pub Leads : List (List ℕ) → Said → Said → Type 0
   Leads lines s t = (items : List Item) × (map (item_of windows) lines ≡ map Ok items) × (t ≡ fold set s items)
 
-  lead : (line : List ℕ) (lines : List (List ℕ)) (number : ℕ) (s t : Said) (r : Result Item Cause) → item_of windows line ≡ r
+  lead : (line : List ℕ) (lines : List (List ℕ)) (number : ℕ) (s t : Said) (r : Result Item StartCause) → item_of windows line ≡ r
       → ((u : Said) → reads windows lines (number + 1) u ≡ Ok t → Leads lines u t) → next (reads windows lines (number + 1)) number s r ≡ Ok t → Leads (line ∷ lines) s t
   lead line lines number s t (Ok item) is later h =
       let rest : Leads lines (set s item) t = later (set s item) h in
@@ -46,7 +46,7 @@ module _ (windows : ℕ) where
   read_all (line ∷ lines) number s t h = lead line lines number s t (item_of windows line) refl (λ u. read_all lines (number + 1) u t) h
 
   -- the first line that isn't right, behind so many
-  pub record Breaks (lines : List (List ℕ)) (start : ℕ) (fault : ℕ × Cause) : Type 0 where
+  pub record Breaks (lines : List (List ℕ)) (start : ℕ) (fault : ℕ × StartCause) : Type 0 where
     pub before : List (List ℕ)
     pub line : List ℕ
     pub after : List (List ℕ)
@@ -55,7 +55,7 @@ module _ (windows : ℕ) where
     pub number : fault.0 ≡ start + length before + 1
     pub wrong : item_of windows line ≡ Err fault.1
 
-  breach : (line : List ℕ) (lines : List (List ℕ)) (number : ℕ) (s : Said) (fault : ℕ × Cause) (r : Result Item Cause) → item_of windows line ≡ r
+  breach : (line : List ℕ) (lines : List (List ℕ)) (number : ℕ) (s : Said) (fault : ℕ × StartCause) (r : Result Item StartCause) → item_of windows line ≡ r
       → ((u : Said) → reads windows lines (number + 1) u ≡ Err fault → Breaks lines (number + 1) fault) → next (reads windows lines (number + 1)) number s r ≡ Err fault
       → Breaks (line ∷ lines) number fault
   breach line lines number s fault (Ok item) is later h =
@@ -77,11 +77,11 @@ module _ (windows : ℕ) where
         after = lines;
         is = refl;
         right = All-nil (λ l. IsOk (item_of windows l));
-        number = sym (ap (λ (f : ℕ × Cause). f.0) told) ∙ omega arith;
-        wrong = is ∙ ap (λ (f : ℕ × Cause). Err f.1) told;
+        number = sym (ap (λ (f : ℕ × StartCause). f.0) told) ∙ omega arith;
+        wrong = is ∙ ap (λ (f : ℕ × StartCause). Err f.1) told;
       }
 
-  pub read_fault : (lines : List (List ℕ)) (number : ℕ) (s : Said) (fault : ℕ × Cause) → reads windows lines number s ≡ Err fault → Breaks lines number fault
+  pub read_fault : (lines : List (List ℕ)) (number : ℕ) (s : Said) (fault : ℕ × StartCause) → reads windows lines number s ≡ Err fault → Breaks lines number fault
   read_fault [] number s fault h = absurd (cc h)
   read_fault (line ∷ lines) number s fault h = breach line lines number s fault (item_of windows line) refl (λ u. read_fault lines (number + 1) u fault) h
 

@@ -1,10 +1,10 @@
 -- What is told of a line that isn't right.
 use Rattle.std.specs.Prelude.{ℕ, List, codes}
-use Rattle.inspect_start.specs.declared.fault.Cause.{Cause}
-use Rattle.inspect_start.specs.declared.fault.Cause.TheVariants.{Text, Name, Count, Number, Address, Window, Place, Room}
-use Rattle.inspect_start.specs.declared.fault.Cause.TheVariants.{Memory}
+use Rattle.inspect_start.specs.declared.fault.StartCause.{StartCause}
+use Rattle.inspect_start.specs.declared.fault.StartCause.TheVariants.{Text, Name, Count, Number, Address, Window, Place, Room}
+use Rattle.inspect_start.specs.declared.fault.StartCause.TheVariants.{Memory}
 
-abbrev pub text_of : Cause → List ℕ
+abbrev pub text_of : StartCause → List ℕ
 text_of Text = codes "isn't text"
 text_of Name = codes "begins with no name or address that there is"
 text_of Count = codes "a name has one number behind it, and an address one word or more"

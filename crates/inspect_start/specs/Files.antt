@@ -4,13 +4,13 @@ use Rattle.std.specs.Prelude.{IsOk}
 use Rattle.std.specs.List.{splice}
 use Rattle.v8_map.specs.declared.TheConstants.{RAM}
 use Rattle.want.specs.Wants.{refused}
-use Rattle.inspect_start.specs.declared.fault.Cause.TheVariants as causes
+use Rattle.inspect_start.specs.declared.fault.StartCause.TheVariants as causes
 use Rattle.inspect_start.specs.declared.fault.StartFault.{StartFault}
-use Rattle.inspect_start.specs.declared.names.Field.{Field}
-use Rattle.inspect_start.specs.declared.names.Field.TheVariants.{Pc, Npc, Psr, Wim, Tbr, Y, Table, Context}
-use Rattle.inspect_start.specs.declared.names.Name.{Name}
-use Rattle.inspect_start.specs.declared.names.Name.TheVariants as names
-use Rattle.inspect_start.specs.declared.start.Control.{Control}
+use Rattle.inspect_start.specs.declared.names.StartField.{StartField}
+use Rattle.inspect_start.specs.declared.names.StartField.TheVariants.{Pc, Npc, Psr, Wim, Tbr, Y, Table, Context}
+use Rattle.inspect_start.specs.declared.names.StartName.{StartName}
+use Rattle.inspect_start.specs.declared.names.StartName.TheVariants as names
+use Rattle.inspect_start.specs.declared.start.ControlValue.{ControlValue}
 use Rattle.inspect_start.specs.declared.start.Register.{Register}
 use Rattle.inspect_start.specs.declared.start.Start.{Start}
 use Rattle.inspect_start.specs.Starts.{plain}
@@ -20,7 +20,7 @@ use Rattle.inspect_start.specs.Items.{Item, Nothing, Bytes, Sets, item_of}
 -- What is said of a start, and the window of the registers in the lines below.
 pub record Said : Type 0 where
   pub window : ℕ
-  pub control : Control
+  pub control : ControlValue
   pub registers : List Register
   pub ram : List ℕ
 
@@ -33,7 +33,7 @@ pub record IsBlank (ram : List ℕ) : Type 0 where
 abbrev pub with_bytes : List ℕ → ℕ → List ℕ → List ℕ
 with_bytes ram at bytes = splice ram at (at + length bytes) bytes
 
-abbrev pub with_number : Control → Field → ℕ → Control
+abbrev pub with_number : ControlValue → StartField → ℕ → ControlValue
 with_number c Pc n = record c { pc = n }
 with_number c Npc n = record c { npc = n }
 with_number c Psr n = record c { psr = n }
@@ -44,9 +44,9 @@ with_number c Table n = record c { table = n }
 with_number c Context n = record c { context = n }
 
 -- a register is that of the window that was named last
-abbrev pub set_named : Said → Name → ℕ → Said
+abbrev pub set_named : Said → StartName → ℕ → Said
 set_named s names.Window n = record s { window = n }
-set_named s (names.Control field) n = record s { control = with_number s.control field n }
+set_named s (names.ControlValue field) n = record s { control = with_number s.control field n }
 set_named s (names.Register r) n =
     record s { registers = s.registers ++ record { window = s.window; register = r; word = n } ∷ [] }
 

@@ -5,12 +5,12 @@ use Rattle.std.specs.Option.{option_map, option_and_then, option_or}
 use Rattle.std.specs.List.{find}
 use Rattle.std.specs.Str.{byte, bytes_eq}
 use Rattle.v8_word.specs.Word.{bits_of}
-use Rattle.inspect_start.specs.declared.fault.Cause.{Cause}
-use Rattle.inspect_start.specs.declared.fault.Cause.TheVariants as causes
-use Rattle.inspect_start.specs.declared.names.Field.{Field}
-use Rattle.inspect_start.specs.declared.names.Field.TheVariants.{Pc, Npc, Psr, Wim, Tbr, Y, Table, Context}
-use Rattle.inspect_start.specs.declared.names.Name.{Name}
-use Rattle.inspect_start.specs.declared.names.Name.TheVariants.{Window, Control, Register}
+use Rattle.inspect_start.specs.declared.fault.StartCause.{StartCause}
+use Rattle.inspect_start.specs.declared.fault.StartCause.TheVariants as causes
+use Rattle.inspect_start.specs.declared.names.StartField.{StartField}
+use Rattle.inspect_start.specs.declared.names.StartField.TheVariants.{Pc, Npc, Psr, Wim, Tbr, Y, Table, Context}
+use Rattle.inspect_start.specs.declared.names.StartName.{StartName}
+use Rattle.inspect_start.specs.declared.names.StartName.TheVariants.{Window, Control, Register}
 
 -- what stands beside a name in a table
 abbrev pub beside : {A : Type 0} → List ℕ → List (List ℕ × A) → Option A
@@ -19,7 +19,7 @@ beside name rows = option_map (λ row. row.1) (find (λ row. bytes_eq name row.0
 -- ---- names
 
 -- the state registers, the context table and the context; `%` may stand before these
-abbrev pub fields : List (List ℕ × Field)
+abbrev pub fields : List (List ℕ × StartField)
 fields =
     (codes "pc", Pc) ∷ (codes "npc", Npc) ∷ (codes "psr", Psr) ∷ (codes "wim", Wim) ∷ (codes "tbr", Tbr)
     ∷ (codes "y", Y)
@@ -45,7 +45,7 @@ abbrev pub without_percent : List ℕ → List ℕ
 without_percent word = if bytes_eq (take 1 word) (codes "%") then drop 1 word else word
 
 -- what a word names
-abbrev pub name_of : List ℕ → Option Name
+abbrev pub name_of : List ℕ → Option StartName
 name_of word =
     if bytes_eq word (codes "window") then Some Window
     else option_or (option_map Control (beside (without_percent word) fields))
@@ -54,13 +54,13 @@ name_of word =
 -- ---- the numbers behind them
 
 -- the greatest one: a word, and of the context table a physical address of 36 bits
-abbrev pub most_of : Name → ℕ
+abbrev pub most_of : StartName → ℕ
 most_of (Control Table) = 2 ^ 36 - 1
 most_of _ = 2 ^ 32 - 1
 
 -- a number behind a field keeps its rule, on so many windows: PC, nPC and the table lie at multiples of 4, and the
 -- window of PSR is there
-abbrev pub suits : ℕ → Field → ℕ → Bool
+abbrev pub suits : ℕ → StartField → ℕ → Bool
 suits windows Pc n = n % 4 == 0
 suits windows Npc n = n % 4 == 0
 suits windows Table n = n % 4 == 0
@@ -68,13 +68,13 @@ suits windows Psr n = nat_lt (bits_of n 0 5) windows
 suits windows _ n = true
 
 -- a number behind a name keeps its rule: a window that is named is there, too
-abbrev pub keeps : ℕ → Name → ℕ → Bool
+abbrev pub keeps : ℕ → StartName → ℕ → Bool
 keeps windows Window n = nat_lt n windows
 keeps windows (Control field) n = suits windows field n
 keeps windows (Register r) n = true
 
 -- what is wrong where it doesn't
-abbrev pub rule_of : Name → Cause
+abbrev pub rule_of : StartName → StartCause
 rule_of (Control Pc) = causes.Place
 rule_of (Control Npc) = causes.Place
 rule_of (Control Table) = causes.Place

@@ -2,7 +2,7 @@
 use Rattle.std.specs.Prelude.{ℕ, ◌≡◌, ◌%◌, ◌^◌, ◌<◌, length}
 use Rattle.v8_map.specs.declared.TheConstants.{RAM}
 use Rattle.v8_word.specs.Word.{bits_of}
-use Rattle.inspect_start.specs.declared.start.Control.{Control}
+use Rattle.inspect_start.specs.declared.start.ControlValue.{ControlValue}
 use Rattle.inspect_start.specs.declared.start.Start.{Start}
 
 -- A start of a machine of so many windows: PC and nPC are addresses of instructions, the window of PSR is there, the
@@ -16,5 +16,5 @@ pub record IsFit (windows : ℕ) (s : Start) : Type 0 where
   pub size : length s.ram.items ≡ RAM
 
 -- where nothing is said: supervisor mode, traps disabled, window 0, and all else 0
-abbrev pub plain : Control
+abbrev pub plain : ControlValue
 plain = record { pc = 0; npc = 4; psr = 0x80; wim = 0; tbr = 0; y = 0; table = 0; context = 0 }

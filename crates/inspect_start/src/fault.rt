@@ -7,7 +7,7 @@ use want::Want;
 
 /// What is wrong with a line. Its text says it to people.
 #[derive(Clone, Copy, PartialEq, Eq)]
-pub enum Cause {
+pub enum StartCause {
     /// It isn't text.
     Text,
     /// Nothing has this name.
@@ -32,24 +32,24 @@ pub enum Cause {
 #[derive(Clone, Copy)]
 pub struct StartFault {
     pub line: u64,
-    pub cause: Cause,
+    pub cause: StartCause,
 }
 
-impl Display for Cause {
+impl Display for StartCause {
     ghost output = { λ cause. Some (text_of cause) };
 
     fn fmt<W: Write>(&self, f: &mut Formatter<W>) -> fmt::Result {
         f.write_str(match self {
-            Cause::Text => "isn't text",
-            Cause::Name => "begins with no name or address that there is",
-            Cause::Count => "a name has one number behind it, and an address one word or more",
-            Cause::Number =>
+            StartCause::Text => "isn't text",
+            StartCause::Name => "begins with no name or address that there is",
+            StartCause::Count => "a name has one number behind it, and an address one word or more",
+            StartCause::Number =>
                 "a number is 0x and hexadecimal digits, or decimal digits, of 32 bits at most, of context_table 36",
-            Cause::Address => "a word lies at a multiple of 4 below 0x100000",
-            Cause::Window => "there is no such window",
-            Cause::Place => "pc, npc and context_table are multiples of 4",
-            Cause::Room => "doesn't fit into RAM there",
-            Cause::Memory(_) => "memory",
+            StartCause::Address => "a word lies at a multiple of 4 below 0x100000",
+            StartCause::Window => "there is no such window",
+            StartCause::Place => "pc, npc and context_table are multiples of 4",
+            StartCause::Room => "doesn't fit into RAM there",
+            StartCause::Memory(_) => "memory",
         })
     }
 }

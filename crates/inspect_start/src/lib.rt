@@ -11,7 +11,7 @@ mod start;
 #[cfg(test)]
 mod tests;
 
-pub use fault::{Cause, StartFault};
+pub use fault::{StartCause, StartFault};
 pub use numbers::address;
 pub use reader::read_start;
-pub use start::{Control, Register, Start};
+pub use start::{ControlValue, Register, Start};

@@ -4,13 +4,13 @@ ghost use Rattle.std.specs.Str.{bytes_eq};
 ghost use Rattle.inspect_start.specs.Names.{beside, groups, keeps, most_of, name_of, numbered, register_named, rule_of};
 ghost use Rattle.inspect_start.specs.Names.{suits, without_percent};
 
-use crate::fault::Cause;
+use crate::fault::StartCause;
 use crate::numbers::{MOST_ADDRESS, MOST_WORD};
 use v8_word::{Reg, bits_of};
 
-/// What is set of the state: a field of `Control`.
+/// What is set of the state: a field of `ControlValue`.
 #[derive(Clone, Copy)]
-pub enum Field {
+pub enum StartField {
     Pc,
     Npc,
     Psr,
@@ -24,23 +24,23 @@ pub enum Field {
 
 /// What has a name, and a number behind it.
 #[derive(Clone, Copy)]
-pub enum Name {
+pub enum StartName {
     /// The window of the registers in the lines below.
     Window,
-    Control(Field),
+    Control(StartField),
     /// A register of the window that was named last.
     Register(Reg),
 }
 
-static FIELDS: [(&str, Field); 8] = [
-    ("pc", Field::Pc),
-    ("npc", Field::Npc),
-    ("psr", Field::Psr),
-    ("wim", Field::Wim),
-    ("tbr", Field::Tbr),
-    ("y", Field::Y),
-    ("context_table", Field::Table),
-    ("context", Field::Context),
+static FIELDS: [(&str, StartField); 8] = [
+    ("pc", StartField::Pc),
+    ("npc", StartField::Npc),
+    ("psr", StartField::Psr),
+    ("wim", StartField::Wim),
+    ("tbr", StartField::Tbr),
+    ("y", StartField::Y),
+    ("context_table", StartField::Table),
+    ("context", StartField::Context),
 ];
 
 fn is_same(left: &[u8], right: &[u8]) -> bool
@@ -114,42 +114,42 @@ fn without_percent(word: &[u8]) -> &[u8]
 }
 
 /// What a word names.
-pub fn name_of(word: &[u8]) -> Option<Name>
+pub fn name_of(word: &[u8]) -> Option<StartName>
     ensures { result ≡ name_of word.now }
 {
     if is_same(word, b"window") {
-        return Some(Name::Window);
+        return Some(StartName::Window);
     }
     match beside(without_percent(word), &FIELDS) {
-        Some(field) => Some(Name::Control(field)),
+        Some(field) => Some(StartName::Control(field)),
         None => match register_named(word) {
-            Some(register) => Some(Name::Register(register)),
+            Some(register) => Some(StartName::Register(register)),
             None => None,
         },
     }
 }
 
-impl Field {
+impl StartField {
     /// Whether a number behind it keeps its rule, on so many windows.
     fn suits(self, windows: u32, number: u64) -> bool
-        requires { number ≤ most_of (Name.Control self) }
+        requires { number ≤ most_of (StartName.Control self) }
         ensures { result ≡ suits windows self number }
     {
         match self {
-            Field::Pc | Field::Npc | Field::Table => number % 4 == 0,
-            Field::Psr => bits_of(number as u32, 0, 5) < windows,
+            StartField::Pc | StartField::Npc | StartField::Table => number % 4 == 0,
+            StartField::Psr => bits_of(number as u32, 0, 5) < windows,
             _ => true,
         }
     }
 }
 
-impl Name {
+impl StartName {
     /// The greatest number that may stand behind it.
     pub fn most(&self) -> u64
         ensures { result ≡ most_of self.now }
     {
         match self {
-            Name::Control(Field::Table) => MOST_ADDRESS,
+            StartName::Control(StartField::Table) => MOST_ADDRESS,
             _ => MOST_WORD,
         }
     }
@@ -160,19 +160,20 @@ impl Name {
         ensures { result ≡ keeps windows self.now number }
     {
         match self {
-            Name::Window => number < u64::from(windows),
-            Name::Control(field) => field.suits(windows, number),
-            Name::Register(_) => true,
+            StartName::Window => number < u64::from(windows),
+            StartName::Control(field) => field.suits(windows, number),
+            StartName::Register(_) => true,
         }
     }
 
     /// What is wrong with one that doesn't.
-    pub fn rule(&self) -> Cause
+    pub fn rule(&self) -> StartCause
         ensures { result ≡ rule_of self.now }
     {
         match self {
-            Name::Control(Field::Pc | Field::Npc | Field::Table) => Cause::Place,
-            _ => Cause::Window,
+            StartName::Control(StartField::Pc | StartField::Npc | StartField::Table) =>
+                StartCause::Place,
+            _ => StartCause::Window,
         }
     }
 }

@@ -6,7 +6,7 @@ ghost use Rattle.inspect_start.specs.Items.{Item, item_of, Gives};
 ghost use Rattle.inspect_start.specs.Lines.{lines_of};
 ghost use Rattle.inspect_start.specs.Starts.{IsFit};
 
-use crate::fault::{Cause, StartFault};
+use crate::fault::{StartCause, StartFault};
 use crate::item::item_of;
 use crate::lines::first_line;
 use crate::start::Start;
@@ -20,19 +20,19 @@ fn take_line(
     windows: u32,
     window: u8,
     line: &[u8],
-) -> Result<u8, Cause>
+) -> Result<u8, StartCause>
     requires windows { windows ≤ 32 }
     requires fit { IsFit windows start.old }
     ensures said { MatchResult result
         (λ next. (item : Item) × (item_of windows line.now ≡ Ok item)
         × (said next start.new ≡ set (said window start.old) item))
-        (λ cause. cause ≢ Cause.Memory refused → item_of windows line.now ≡ Err cause) }
+        (λ cause. cause ≢ StartCause.Memory refused → item_of windows line.now ≡ Err cause) }
     ensures fit { IsFit windows start.new }
 {
     let item = item_of(alloc, windows, line)?;
     match start.set(windows, window, &item) {
         Ok(next) => Ok(next),
-        Err(want) => Err(Cause::Memory(want)),
+        Err(want) => Err(StartCause::Memory(want)),
     }
 }
 
@@ -43,7 +43,7 @@ fn take_lines(alloc: Global, start: &mut Start, windows: u32, file: &[u8]) -> Re
     ensures said { MatchResult result
         (λ _. (items : List Item) × (next : ℕ) × (map (item_of windows) (lines_of file.now) ≡ map Ok items)
         × (said next start.new ≡ fold set (said 0 start.old) items))
-        (λ fault. fault.cause ≢ Cause.Memory refused → IsFirst windows file.now fault) }
+        (λ fault. fault.cause ≢ StartCause.Memory refused → IsFirst windows file.now fault) }
     ensures fit { IsFit windows start.new }
 {
     let mut window = 0u8;
@@ -88,14 +88,14 @@ pub fn read_start(
         Err(error) => {
             return Err(StartFault {
                 line: 0,
-                cause: Cause::Memory(Want::from(error)),
+                cause: StartCause::Memory(Want::from(error)),
             });
         }
     };
     if !start.put_bytes(at, binary) {
         return Err(StartFault {
             line: 0,
-            cause: Cause::Room,
+            cause: StartCause::Room,
         });
     }
     take_lines(alloc, &mut start, windows, file)?;

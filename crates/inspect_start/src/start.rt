@@ -9,7 +9,7 @@ ghost use Rattle.inspect_start.specs.Names.{keeps, most_of};
 ghost use Rattle.inspect_start.specs.Starts.{IsFit, plain};
 
 use crate::item::Item;
-use crate::names::{Field, Name};
+use crate::names::{StartField, StartName};
 use std::alloc::{AllocError, Global};
 use v8_map::RAM;
 use v8_word::Reg;
@@ -18,7 +18,7 @@ use want::Want;
 /// PC, nPC, the state registers and Y as words (chapter 4), and the MMU's registers: the physical address of the
 /// context table, of 36 bits, and the context (appendix H).
 #[derive(Clone, Copy)]
-pub struct Control {
+pub struct ControlValue {
     pub pc: u32,
     pub npc: u32,
     pub psr: u32,
@@ -41,13 +41,13 @@ pub struct Register {
 /// RAM.
 #[derive(Drop)]
 pub struct Start {
-    pub control: Control,
+    pub control: ControlValue,
     pub registers: Vec<Register>,
     pub ram: Vec<u8>,
 }
 
 /// Where nothing is said: PC 0, nPC 4, supervisor mode, traps disabled, window 0, and all else 0.
-const PLAIN: Control = Control {
+const PLAIN: ControlValue = ControlValue {
     pc: 0,
     npc: 4,
     psr: 0x80,
@@ -61,21 +61,21 @@ const PLAIN: Control = Control {
 /// The bytes of RAM.
 const BYTES: usize = RAM as usize;
 
-impl Control {
+impl ControlValue {
     /// Puts a number into a field.
-    fn put_number(&mut self, field: Field, number: u64)
-        requires { number ≤ most_of (Name.Control field) }
+    fn put_number(&mut self, field: StartField, number: u64)
+        requires { number ≤ most_of (StartName.Control field) }
         ensures { self.new ≡ with_number self.old field number }
     {
         match field {
-            Field::Pc => self.pc = number as u32,
-            Field::Npc => self.npc = number as u32,
-            Field::Psr => self.psr = number as u32,
-            Field::Wim => self.wim = number as u32,
-            Field::Tbr => self.tbr = number as u32,
-            Field::Y => self.y = number as u32,
-            Field::Table => self.table = number,
-            Field::Context => self.context = number as u32,
+            StartField::Pc => self.pc = number as u32,
+            StartField::Npc => self.npc = number as u32,
+            StartField::Psr => self.psr = number as u32,
+            StartField::Wim => self.wim = number as u32,
+            StartField::Tbr => self.tbr = number as u32,
+            StartField::Y => self.y = number as u32,
+            StartField::Table => self.table = number,
+            StartField::Context => self.context = number as u32,
         }
     }
 }
@@ -136,7 +136,13 @@ impl Start {
     }
 
     /// Sets what has a name, of registers that of a window, and gives the window of the registers in the lines below.
-    fn set_named(&mut self, windows: u32, window: u8, name: &Name, number: u64) -> Result<u8, Want>
+    fn set_named(
+        &mut self,
+        windows: u32,
+        window: u8,
+        name: &StartName,
+        number: u64,
+    ) -> Result<u8, Want>
         requires windows { windows ≤ 32 }
         requires fit { IsFit windows self.old }
         requires most { number ≤ most_of name.now }
@@ -145,12 +151,12 @@ impl Start {
         ensures fit { IsFit windows self.new }
     {
         match name {
-            Name::Window => Ok(number as u8),
-            Name::Control(field) => {
+            StartName::Window => Ok(number as u8),
+            StartName::Control(field) => {
                 self.control.put_number(*field, number);
                 Ok(window)
             }
-            Name::Register(register) => {
+            StartName::Register(register) => {
                 self.push_register(window, *register, number as u32)?;
                 Ok(window)
             }

@@ -1,5 +1,5 @@
 //! Starts as their bytes spell them, worked out by hand.
-use crate::{Cause, read_start};
+use crate::{StartCause, read_start};
 use std::test::Fail;
 
 /// A binary, and a file that has each kind of line: comments, blanks, and things that are said twice.
@@ -50,6 +50,6 @@ fn all_of_ram_is_set(rt: HostRuntime) -> Result<(), Fail> {
     let fault = read_start(rt.alloc(), 32, 0, b"", file.as_str().as_bytes())
         .err()
         .ok_or("a word is too much")?;
-    assert!(rt; fault.line == 2 && fault.cause == Cause::Address);
+    assert!(rt; fault.line == 2 && fault.cause == StartCause::Address);
     Ok(())
 }

@@ -4,7 +4,7 @@ use Rattle.std.specs.Prelude.{is_ok, if◌then◌else◌}
 use Rattle.v8_core.specs.Cpu.{Cpu}
 use Rattle.v8_core.specs.Windows.{Windows}
 use Rattle.v8_core.specs.declared.turn.Turn.{Turn}
-use Rattle.inspect_states.specs.declared.shown.Shown.{Shown}
+use Rattle.inspect_states.specs.declared.shown.ShownState.{ShownState}
 use Rattle.inspect_states.specs.declared.words.Places.{Places}
 use Rattle.inspect_states.specs.Accesses.{EntryIs, EntryOfIs, access_text, second_place, stored_place}
 use Rattle.inspect_states.specs.Columns.{annul_text, columns_text, outcome_text, shown_of}
@@ -46,26 +46,26 @@ changes_are a b c d registers words one two last =
     whole ∙ simp append_assoc
 
 -- the line behind the last turn
-pub end_is : (n number : ℕ) (cpu : Cpu n) (empty columns done : List ℕ) (s : Shown) → empty ≡ [] → s ≡ shown_of n cpu
+pub end_is : (n number : ℕ) (cpu : Cpu n) (empty columns done : List ℕ) (s : ShownState) → empty ≡ [] → s ≡ shown_of n cpu
     → columns ≡ empty ++ columns_text number (codes "-") s → done ≡ columns ++ codes "-------- end\n" → done ≡ end_line n number cpu
 end_is n number cpu empty columns done s none shows one last =
     let front : columns ≡ columns_text number (codes "-") (shown_of n cpu) =
-    one ∙ ap (λ (t : List ℕ). t ++ columns_text number (codes "-") s) none ∙ ap (λ (x : Shown). columns_text number (codes "-") x) shows in
+    one ∙ ap (λ (t : List ℕ). t ++ columns_text number (codes "-") s) none ∙ ap (λ (x : ShownState). columns_text number (codes "-") x) shows in
     last ∙ ap (λ (t : List ℕ). t ++ codes "-------- end\n") front
 
 -- the line before the first turn
-pub start_is : (n : ℕ) (known : Windows) (cpu : Cpu n) (empty columns named told done : List ℕ) (s : Shown) → empty ≡ [] → s ≡ shown_of n cpu
+pub start_is : (n : ℕ) (known : Windows) (cpu : Cpu n) (empty columns named told done : List ℕ) (s : ShownState) → empty ≡ [] → s ≡ shown_of n cpu
     → columns ≡ empty ++ columns_text 0 (codes "-") s → named ≡ columns ++ codes "-------- start" → told ≡ named ++ registers_text n known cpu
     → done ≡ told ++ codes "\n" → done ≡ start_line n known cpu
 start_is n known cpu empty columns named told done s none shows one two three last =
     let front : columns ≡ columns_text 0 (codes "-") (shown_of n cpu) =
-    one ∙ ap (λ (t : List ℕ). t ++ columns_text 0 (codes "-") s) none ∙ ap (λ (x : Shown). columns_text 0 (codes "-") x) shows in
+    one ∙ ap (λ (t : List ℕ). t ++ columns_text 0 (codes "-") s) none ∙ ap (λ (x : ShownState). columns_text 0 (codes "-") x) shows in
     last
     ∙ ap (λ (t : List ℕ). t ++ codes "\n")
     (three ∙ ap (λ (t : List ℕ). t ++ registers_text n known cpu) (two ∙ ap (λ (t : List ℕ). t ++ codes "-------- start") front))
 
 -- the line of a turn
-pub line_is : (n root number : ℕ) (before : Shown) (turn : Turn) (cpu : Cpu n) (ram known_ram told_ram : List ℕ) (known told : Windows) (places : Places)
+pub line_is : (n root number : ℕ) (before : ShownState) (turn : Turn) (cpu : Cpu n) (ram known_ram told_ram : List ℕ) (known told : Windows) (places : Places)
     (empty head done : List ℕ) → EntryIs known_ram root before.pc places.fetched → EntryOfIs known_ram root turn.access places.accessed
     → places.stored ≡ stored_place turn.access → places.second ≡ second_place turn.access → empty ≡ []
     → head ≡ empty ++ (columns_text number (annul_text turn.event) before ++ outcome_text turn ++ access_text turn.access)
@@ -107,7 +107,7 @@ always (Ok x) p = p
 always (Err e) p = tt
 
 -- the same, where there was memory for it
-pub lines_are : (n root number : ℕ) (before : Shown) (turn : Turn) (cpu : Cpu n) (ram known_ram told_ram : List ℕ) (known told : Windows) (places : Places)
+pub lines_are : (n root number : ℕ) (before : ShownState) (turn : Turn) (cpu : Cpu n) (ram known_ram told_ram : List ℕ) (known told : Windows) (places : Places)
     (empty head done : List ℕ) {T E : Type 0} (r : Result T E) → EntryIs known_ram root before.pc places.fetched → EntryOfIs known_ram root turn.access places.accessed
     → places.stored ≡ stored_place turn.access → places.second ≡ second_place turn.access → empty ≡ []
     → head ≡ empty ++ (columns_text number (annul_text turn.event) before ++ outcome_text turn ++ access_text turn.access)

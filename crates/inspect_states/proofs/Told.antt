@@ -11,7 +11,7 @@ use Rattle.v8_core.specs.MmuRegs.{MmuRegs}
 use Rattle.v8_core.specs.Steps.{next, world_after}
 use Rattle.v8_core.specs.Walked.{root_of}
 use Rattle.v8_core.specs.declared.turn.Turn.{Turn}
-use Rattle.inspect_states.specs.declared.shown.Shown.{Shown}
+use Rattle.inspect_states.specs.declared.shown.ShownState.{ShownState}
 use Rattle.inspect_states.specs.Columns.{shown_of}
 use Rattle.v8_core.specs.Windows.{Windows}
 use Rattle.inspect_states.specs.Lines.{IsLine, Known, end_line, known_of, start_line, told_registers}
@@ -69,16 +69,16 @@ told_more {D} m n mmu old mid new k known seen told a b c so_far going turn =
 -- ---- a turn
 
 -- the turn that the machine made, and its line
-line_of : {D : Type 0} (m : Meaning D) (n : ℕ) (mmu own : MmuRegs) (number : ℕ) (old new : World n D) (before : Shown) (turn : Turn) (known told : Known) (line : List ℕ)
+line_of : {D : Type 0} (m : Meaning D) (n : ℕ) (mmu own : MmuRegs) (number : ℕ) (old new : World n D) (before : ShownState) (turn : Turn) (known told : Known) (line : List ℕ)
     → own ≡ mmu → next m n own old ≡ (turn, new) → before ≡ shown_of n old.cpu
     → IsLine n (root_of mmu) number before turn new.cpu new.memory.ram known told line
     → (next m n mmu old ≡ (turn, new)) × IsLine n (root_of mmu) number (shown_of n old.cpu) turn new.cpu new.memory.ram known told line
 line_of {D} m n mmu own number old new before turn known told line same made shows is =
     let M : MmuRegs → Type 0 = λ x. next m n x old ≡ (turn, new) in
-    let L : Shown → Type 0 = λ x. IsLine n (root_of mmu) number x turn new.cpu new.memory.ram known told line in
+    let L : ShownState → Type 0 = λ x. IsLine n (root_of mmu) number x turn new.cpu new.memory.ram known told line in
     (subst M same made, subst L shows is)
 
-pub turn_told : {D : Type 0} (m : Meaning D) (n : ℕ) (mmu own : MmuRegs) (number : ℕ) (old new : World n D) (before : Shown) (turn : Turn) (known told : Known) (a b : Option (List ℕ))
+pub turn_told : {D : Type 0} (m : Meaning D) (n : ℕ) (mmu own : MmuRegs) (number : ℕ) (old new : World n D) (before : ShownState) (turn : Turn) (known told : Known) (a b : Option (List ℕ))
     (line shown : List ℕ) → own ≡ mmu → next m n own old ≡ (turn, new) → before ≡ shown_of n old.cpu
     → IsLine n (root_of mmu) number before turn new.cpu new.memory.ram known told line → shown ≡ line → Appends a b shown → ToldTurn m n mmu number old new known told a b
 turn_told m n mmu own number old new before turn known told a b line shown same made shows is text grown =
@@ -88,7 +88,7 @@ turn_told m n mmu own number old new before turn known told a b line shown same 
 pub nothing_begun : {D : Type 0} (m : Meaning D) (n : ℕ) (mmu : MmuRegs) (number : ℕ) (old : World n D) (known : Known) (a : Option (List ℕ)) → ToldSome m n mmu number old known a a
 nothing_begun m n mmu number old known a = ([], inl refl, nothing_written a)
 
-pub turn_begun : {D : Type 0} (m : Meaning D) (n : ℕ) (mmu own : MmuRegs) (number : ℕ) (old new : World n D) (before : Shown) (turn : Turn) (known told : Known) (a b : Option (List ℕ))
+pub turn_begun : {D : Type 0} (m : Meaning D) (n : ℕ) (mmu own : MmuRegs) (number : ℕ) (old new : World n D) (before : ShownState) (turn : Turn) (known told : Known) (a b : Option (List ℕ))
     (line shown : List ℕ) → own ≡ mmu → next m n own old ≡ (turn, new) → before ≡ shown_of n old.cpu
     → IsLine n (root_of mmu) number before turn new.cpu new.memory.ram known told line → shown ≡ line → WroteSome a b shown → ToldSome m n mmu number old known a b
 turn_begun {D} m n mmu own number old new before turn known told a b line shown same made shows is text (front, rest, split, grown) =

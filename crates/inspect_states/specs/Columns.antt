@@ -9,10 +9,10 @@ use Rattle.v8_core.specs.declared.turn.Event.{Event}
 use Rattle.v8_core.specs.declared.turn.Event.TheVariants.{Ran, Annulled, Trapped, ErrorMode, Stopped}
 use Rattle.v8_core.specs.declared.turn.Turn.{Turn}
 use Rattle.inspect_lines.specs.Words.{byte_text, word_text}
-use Rattle.inspect_states.specs.declared.shown.Shown.{Shown}
+use Rattle.inspect_states.specs.declared.shown.ShownState.{ShownState}
 
 -- what a processor shows beside its registers
-abbrev pub shown_of : (n : ℕ) → Cpu n → Shown
+abbrev pub shown_of : (n : ℕ) → Cpu n → ShownState
 shown_of n cpu =
     record {
       pc = cpu.control.pc;
@@ -29,19 +29,19 @@ abbrev pub window_text : ℕ → List ℕ
 window_text psr = padded_integral (format_spec 32 0 4 2 (2 ^ 64 - 1)) false [] (digits 10 false (psr % 32))
 
 -- the number of the line, the window, PC, nPC and the annul flag
-abbrev pub place_text : ℕ → List ℕ → Shown → List ℕ
+abbrev pub place_text : ℕ → List ℕ → ShownState → List ℕ
 place_text number annul s =
     decimal number
     ++ (codes " " ++ (window_text s.psr ++ (codes " " ++ (word_text s.pc ++ (codes " " ++ (word_text s.npc
     ++ (codes " " ++ (annul ++ codes " "))))))))
 
 -- PSR, WIM, TBR, Y and the fault status
-abbrev pub state_text : Shown → List ℕ
+abbrev pub state_text : ShownState → List ℕ
 state_text s =
     word_text s.psr ++ (codes " " ++ (word_text s.wim ++ (codes " " ++ (word_text s.tbr ++ (codes " " ++ (word_text s.y
     ++ (codes " " ++ (word_text s.fault ++ codes " "))))))))
 
-abbrev pub columns_text : ℕ → List ℕ → Shown → List ℕ
+abbrev pub columns_text : ℕ → List ℕ → ShownState → List ℕ
 columns_text number annul s = place_text number annul s ++ state_text s
 
 -- the word that was fetched

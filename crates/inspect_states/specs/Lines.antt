@@ -4,7 +4,7 @@ use Rattle.v8_core.specs.Cpu.{Cpu}
 use Rattle.v8_core.specs.Registers.{psr_of}
 use Rattle.v8_core.specs.Windows.{Windows}
 use Rattle.v8_core.specs.declared.turn.Turn.{Turn}
-use Rattle.inspect_states.specs.declared.shown.Shown.{Shown}
+use Rattle.inspect_states.specs.declared.shown.ShownState.{ShownState}
 use Rattle.inspect_states.specs.declared.words.Places.{Places}
 use Rattle.inspect_states.specs.Accesses.{EntryIs, EntryOfIs, access_text, second_place, stored_place}
 use Rattle.inspect_states.specs.Columns.{annul_text, columns_text, outcome_text, shown_of}
@@ -32,14 +32,14 @@ abbrev pub registers_text : (n : ℕ) → Windows → Cpu n → List ℕ
 registers_text n known cpu = changes_text n (seen_from n known cpu) cpu.regs 32
 
 -- the columns, the access, the registers and the words of RAM that are others than is known
-abbrev pub line_text : (n : ℕ) → ℕ → Shown → Turn → Cpu n → List ℕ → Known → Places → List ℕ
+abbrev pub line_text : (n : ℕ) → ℕ → ShownState → Turn → Cpu n → List ℕ → Known → Places → List ℕ
 line_text n number before turn cpu ram known places =
     columns_text number (annul_text turn.event) before ++ outcome_text turn ++ access_text turn.access
     ++ registers_text n known.registers cpu ++ (told_words known.ram ram places).0 ++ codes "\n"
 
 -- The text is the line of a turn: `before` is what the machine showed before it, `cpu` and `ram` are what it left. Of
 -- the walks it is known where they ended in RAM as it was told so far.
-pub record IsLine (n root number : ℕ) (before : Shown) (turn : Turn) (cpu : Cpu n) (ram : List ℕ) (known told : Known)
+pub record IsLine (n root number : ℕ) (before : ShownState) (turn : Turn) (cpu : Cpu n) (ram : List ℕ) (known told : Known)
     (text : List ℕ) : Type 0 where
   pub places : Places
   pub fetched : EntryIs known.ram root before.pc places.fetched

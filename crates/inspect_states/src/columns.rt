@@ -3,13 +3,18 @@ ghost use Rattle.std.specs.Prelude.{◌≡◌, ◌++◌, OnOk, string_bytes};
 ghost use Rattle.inspect_states.specs.Columns.{columns_text, event_text, outcome_text, place_text, state_text, stop_text};
 ghost use Rattle.inspect_states.specs.Columns.{word_column};
 
-use crate::shown::Shown;
+use crate::shown::ShownState;
 use std::alloc::AllocError;
 use v8_core::{Event, Turn};
 use v8_mmu::Stop;
 
 /// Pushes the number of a line, the window, PC, nPC and the annul flag, with a blank behind each.
-fn push_place(line: &mut String, number: u64, annul: &str, shown: &Shown) -> Result<(), AllocError>
+fn push_place(
+    line: &mut String,
+    number: u64,
+    annul: &str,
+    shown: &ShownState,
+) -> Result<(), AllocError>
     ensures { OnOk result (string_bytes line.new ≡ string_bytes line.old ++ place_text number annul.now shown.now) }
 {
     let (cwp, pc, npc) = (shown.psr % 32, shown.pc, shown.npc);
@@ -17,7 +22,7 @@ fn push_place(line: &mut String, number: u64, annul: &str, shown: &Shown) -> Res
 }
 
 /// Pushes PSR, WIM, TBR, Y and the fault status, with a blank behind each.
-fn push_state(line: &mut String, shown: &Shown) -> Result<(), AllocError>
+fn push_state(line: &mut String, shown: &ShownState) -> Result<(), AllocError>
     ensures { OnOk result (string_bytes line.new ≡ string_bytes line.old ++ state_text shown.now) }
 {
     let (psr, wim, tbr, y, fault) = (shown.psr, shown.wim, shown.tbr, shown.y, shown.fault);
@@ -30,7 +35,7 @@ pub fn push_columns(
     line: &mut String,
     number: u64,
     annul: &str,
-    shown: &Shown,
+    shown: &ShownState,
 ) -> Result<(), AllocError>
     ensures { OnOk result (string_bytes line.new ≡ string_bytes line.old ++ columns_text number annul.now shown.now) }
 {

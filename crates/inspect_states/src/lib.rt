@@ -10,6 +10,6 @@ mod teller;
 mod turns;
 mod words;
 
-pub use shown::{Shown, shown_of};
-pub use teller::Teller;
+pub use shown::{ShownState, shown_of};
+pub use teller::StateTeller;
 pub use turns::tell_states;

@@ -8,7 +8,7 @@ use v8_mmu::Bus;
 /// What a machine shows beside its registers and its memory: PC, nPC, the state registers and Y as words (chapter 4),
 /// and the fault status (appendix H).
 #[derive(Clone, Copy)]
-pub struct Shown {
+pub struct ShownState {
     pub pc: u32,
     pub npc: u32,
     pub psr: u32,
@@ -19,10 +19,10 @@ pub struct Shown {
 }
 
 /// What a machine shows.
-pub fn shown_of<const N: usize, B: Bus>(machine: &Machine<N, B>) -> Shown
+pub fn shown_of<const N: usize, B: Bus>(machine: &Machine<N, B>) -> ShownState
     ensures { result ≡ shown_of N machine.now.cpu }
 {
-    Shown {
+    ShownState {
         pc: machine.pc(),
         npc: machine.npc(),
         psr: machine.psr(),

@@ -9,7 +9,7 @@ ghost use Rattle.inspect_states.specs.Words.{told_words};
 use crate::accesses::{access_place, entry_place, push_access, second_place, stored_place};
 use crate::columns::{push_columns, push_outcome};
 use crate::registers::{copy_window, enter, push_changes};
-use crate::shown::{Shown, shown_of};
+use crate::shown::{ShownState, shown_of};
 use crate::words::{Places, push_words};
 use std::alloc::{AllocError, Global};
 use v8_core::{Event, Machine, Turn};
@@ -18,7 +18,7 @@ use v8_windows::RegFile;
 
 /// Who tells the lines of a machine: the last line, and what the lines so far tell of its registers and of its RAM.
 #[derive(Drop)]
-pub struct Teller<const N: usize, B: Bus> {
+pub struct StateTeller<const N: usize, B: Bus> {
     pub line: String,
     pub registers: RegFile<N>,
     pub memory: B,
@@ -35,7 +35,12 @@ fn annul_text(event: &Event) -> &'static str
 }
 
 /// Pushes what a turn's line begins with, and its access.
-fn push_turn(line: &mut String, number: u64, before: &Shown, turn: &Turn) -> Result<(), AllocError>
+fn push_turn(
+    line: &mut String,
+    number: u64,
+    before: &ShownState,
+    turn: &Turn,
+) -> Result<(), AllocError>
     ensures { OnOk result
         (string_bytes line.new ≡
         string_bytes line.old
@@ -62,7 +67,7 @@ fn places_of<B: Bus>(memory: &B, mmu: &MmuRegs, pc: u32, turn: &Turn) -> Places
     }
 }
 
-impl<const N: usize, B: Bus> Teller<N, B> {
+impl<const N: usize, B: Bus> StateTeller<N, B> {
     /// Nothing is known of the registers but that they are 0; of RAM, what this memory holds.
     pub fn new(alloc: Global, memory: B) -> Self
         requires { (4 ≤ N) × (N ≤ 32) }
@@ -70,7 +75,7 @@ impl<const N: usize, B: Bus> Teller<N, B> {
             record { globals = replicate 8 0; words = replicate N (replicate 16 0); current = 0; mask = 0 } }
         ensures memory { result.memory ≡ memory }
     {
-        Teller {
+        StateTeller {
             line: String::new(alloc),
             registers: RegFile::new(),
             memory,
@@ -112,7 +117,7 @@ impl<const N: usize, B: Bus> Teller<N, B> {
         &mut self,
         mmu: &MmuRegs,
         number: u64,
-        before: &Shown,
+        before: &ShownState,
         turn: &Turn,
         machine: &Machine<N, B>,
     ) -> Result<(), AllocError>

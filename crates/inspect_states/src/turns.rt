@@ -8,7 +8,7 @@ ghost use Rattle.inspect_states.specs.Runs.{BeginsStates, IsFaultOf, IsOwnFault,
 ghost use Rattle.inspect_states.specs.Runs.{ToldTurn, is_over};
 
 use crate::shown::shown_of;
-use crate::teller::Teller;
+use crate::teller::StateTeller;
 use sbx_put::{put_all, put_through};
 use std::io::Write;
 use v8_core::Machine;
@@ -28,7 +28,7 @@ fn tell_turn<const N: usize, B: Bus, W: Write>(
     machine: &mut Machine<N, B>,
     mmu: &MmuRegs,
     number: u64,
-    teller: &mut Teller<N, B>,
+    teller: &mut StateTeller<N, B>,
     out: &mut W,
 ) -> Result<(), PortFault>
     requires { machine.old.mmu ≡ mmu.now }
@@ -65,7 +65,7 @@ fn tell_turns<const N: usize, B: Bus, W: Write>(
     machine: &mut Machine<N, B>,
     mmu: &MmuRegs,
     limit: u64,
-    teller: &mut Teller<N, B>,
+    teller: &mut StateTeller<N, B>,
     out: &mut W,
 ) -> Result<u64, PortFault>
     requires { machine.old.mmu ≡ mmu.now }
@@ -96,7 +96,7 @@ fn tell_turns<const N: usize, B: Bus, W: Write>(
 /// Writes the line before the first turn.
 fn put_start<const N: usize, B: Bus, W: Write>(
     machine: &Machine<N, B>,
-    teller: &mut Teller<N, B>,
+    teller: &mut StateTeller<N, B>,
     out: &mut W,
 ) -> Result<(), PortFault>
     ensures whole { OnOk result
@@ -121,7 +121,7 @@ fn put_start<const N: usize, B: Bus, W: Write>(
 fn put_end<const N: usize, B: Bus, W: Write>(
     machine: &Machine<N, B>,
     number: u64,
-    teller: &mut Teller<N, B>,
+    teller: &mut StateTeller<N, B>,
     out: &mut W,
 ) -> Result<(), PortFault>
     ensures whole { OnOk result
@@ -149,7 +149,7 @@ pub fn tell_states<const N: usize, B: Bus, W: Write>(
     machine: &mut Machine<N, B>,
     mmu: &MmuRegs,
     limit: u64,
-    teller: &mut Teller<N, B>,
+    teller: &mut StateTeller<N, B>,
     out: &mut W,
 ) -> Result<(), PortFault>
     requires { machine.old.mmu ≡ mmu.now }

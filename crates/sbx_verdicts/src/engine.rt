@@ -3,11 +3,11 @@ ghost use Rattle.std.specs.Prelude.{◌≡◌, ◌↔◌, IfOk, IsTrue};
 ghost use Rattle.sbx_verdicts.specs.Engine.{EngineRunsSo, IsRun, counts_told};
 
 use crate::runs::{Counts, Run};
-use engine_runs::{Accepted, Finished, run_flat};
+use engine_runs::{Accepted, FlatFinished, run_flat};
 use std::alloc::{AllocError, Global};
 
 /// The counts of a run that has ended.
-fn counts_of(finished: &Finished) -> Counts
+fn counts_of(finished: &FlatFinished) -> Counts
     ensures { result ≡ counts_told finished.now }
 {
     Counts {
@@ -18,7 +18,7 @@ fn counts_of(finished: &Finished) -> Counts
 }
 
 /// Whether a run that has ended gave what the line has.
-fn is_run(finished: &Finished, run: &Run) -> bool
+fn is_run(finished: &FlatFinished, run: &Run) -> bool
     ensures { IsTrue result ↔ IsRun finished.now run.now }
 {
     finished.status == run.status

@@ -1,7 +1,7 @@
 //! Runs of an accepted image on the fast flat machine in pieces, beside a line's run.
 
 use crate::runs::{Counts, Run};
-use engine_runs::{Accepted, Paced, Stand};
+use engine_runs::{Accepted, FlatSession, FlatStand};
 use sbx_flat::Traffic;
 use std::alloc::{AllocError, Global};
 
@@ -31,7 +31,7 @@ pub fn runs_in_pieces(alloc: Global, accepted: &Accepted, run: &Run) -> Result<b
     if run.windows < 2 {
         return Ok(false);
     }
-    let mut paced = Paced::new(alloc, accepted, run.windows)?;
+    let mut paced = FlatSession::new(alloc, accepted, run.windows)?;
     let mut output = Vec::new(alloc);
     let mut read: usize = 0;
     for _ in 0..u64::MAX {
@@ -43,16 +43,16 @@ pub fn runs_in_pieces(alloc: Global, accepted: &Accepted, run: &Run) -> Result<b
             output.push(room[0])?;
         }
         match step.stand {
-            Stand::Ended(status) => {
+            FlatStand::Ended(status) => {
                 return Ok(
                     status == run.status
                         && output.as_slice() == run.output.as_slice()
                         && counts_of(&paced.counts()) == run.counts,
                 );
             }
-            Stand::Refused(want) => return Err(AllocError::from(want)),
-            Stand::Lost => return Ok(false),
-            Stand::Wants | Stand::Full | Stand::Paused => {}
+            FlatStand::Refused(want) => return Err(AllocError::from(want)),
+            FlatStand::Lost => return Ok(false),
+            FlatStand::Wants | FlatStand::Full | FlatStand::Paused => {}
         }
     }
     Ok(false)

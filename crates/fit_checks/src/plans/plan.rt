@@ -1,5 +1,5 @@
 //! Tests, where the run ends if one fails, and how what isn't shown is tested.
-use crate::asks::{Ask, Unshown, UnshownAccess, needed_alignment};
+use crate::asks::{Ask, NotShown, UnshownAccess, needed_alignment};
 use crate::cuts::{CODES, SCRATCH, Y};
 use fit_code::{Program, SourceLine};
 use fit_ranges::{Origin, WordBounds, bounds_in_constants, bounds_of};
@@ -180,8 +180,8 @@ fn plan_of_divisor(register: u8, range: Range, place: usize) -> TestPlan {
 /// be known of that, else by the address itself, if one register has it.
 pub fn plan_of(program: &Program, ask: &Ask) -> Option<TestPlan> {
     let access = match &ask.lack {
-        Unshown::Placed(access) => access,
-        Unshown::Divisible(Operand::Register(register), range) => {
+        NotShown::Placed(access) => access,
+        NotShown::Divisible(Operand::Register(register), range) => {
             return Some(plan_of_divisor(register.number(), *range, ask.place));
         }
         _ => return None,

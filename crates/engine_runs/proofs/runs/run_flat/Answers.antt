@@ -1,7 +1,7 @@
 use Rattle.std.proofs.Common.{ℕ, Bool, List, [], Option, None, take, length, refl, sym, subst, arith}
 use Rattle.std.specs.Prelude.{◌==◌}
 use Rattle.engine_runs.specs.Answer.{HasRead, Serves}
-use Rattle.engine_runs.specs.declared.course.Course.{Course}
+use Rattle.engine_runs.specs.declared.flat_run.FlatRun.{FlatRun}
 use Rattle.engine_runs.proofs.Ends.{few}
 use Rattle.engine_runs.proofs.Ran.{answered, known_so}
 use Rattle.engine_runs.proofs.runs.run_flat.Goals as goal
@@ -30,8 +30,8 @@ rounds-init c = record {
 pub rounds-preserved : goal.rounds-preserved
 rounds-preserved c =
     let so = c.rounds.invariant in
-    let old : Course = c.advance-halt.new.self in
-    let new : Course = c.serve.new.course in
+    let old : FlatRun = c.advance-halt.new.self in
+    let new : FlatRun = c.serve.new.course in
     let serves : Serves c.args.input.now c.rounds.read c.rounds.output.items old c.serve.new.read c.serve.new.output.items new None =
     subst (λ (ended : Option ℕ). Serves c.args.input.now c.rounds.read c.rounds.output.items old c.serve.new.read c.serve.new.output.items new ended) c.in-None.is c.in_ok-serve.ensures in
     let read : List ℕ = take c.rounds.read c.args.input.now in

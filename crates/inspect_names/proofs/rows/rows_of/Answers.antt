@@ -1,7 +1,7 @@
 use Rattle.std.proofs.Common.{◌+◌, List, [], ◌∷◌, ◌++◌, refl, ap, drop, arith}
 use Rattle.std.proofs.lemmas.Grind.{common_steps}
 use Rattle.sbx_asm.specs.Items.{Item, each}
-use Rattle.inspect_names.specs.declared.rows.Row.{Row}
+use Rattle.inspect_names.specs.declared.rows.SourceRow.{SourceRow}
 use Rattle.inspect_names.specs.Rows.{row_at}
 use Rattle.sbx_asm.proofs.Walks.{one_more}
 use Rattle.inspect_names.proofs.rows.rows_of.Goals as goal
@@ -10,7 +10,7 @@ pub loop-line-init : goal.loop-line-init
 loop-line-init c = record {
   before = [];
   stands = c.start-place.ensures;
-  rows = ap (λ (rows : List Row). rows ++ each row_at [] c.args.lines.now) c.new-rows.ensures.items;
+  rows = ap (λ (rows : List SourceRow). rows ++ each row_at [] c.args.lines.now) c.new-rows.ensures.items;
 }
 
 pub loop-line-preserved : goal.loop-line-preserved
