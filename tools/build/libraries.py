@@ -11,19 +11,20 @@ import threading
 from concurrent.futures import FIRST_COMPLETED, ThreadPoolExecutor, wait
 
 sys.dont_write_bytecode = True
-sys.path.insert(0, os.path.join(os.path.dirname(os.path.dirname(os.path.abspath(__file__))), "tests"))
-from crates import TOP, all_below, crates, lanes, lines_of, lowest_first
+TOP = os.path.dirname(os.path.dirname(os.path.dirname(os.path.abspath(__file__))))
+sys.path.insert(0, f"{TOP}/tests")
+from crates import all_below, crates, lanes, lines_of, lowest_first
 
 # The folders of a crate that are its sources.
 SOURCES = ("src", "specs", "proofs")
 # What `rt` keeps of a library in its folder out/.
 BUILT, WORK = "rlib", "incremental"
 # The kit's `rt`, which reads each crate's sources once.
-RT = f"{TOP}/tools/rt-once"
+RT = f"{TOP}/tools/build/rt-once"
 # The most jobs of one check that help.
 MOST_JOBS = 4
 # Where builds have their rooms. `rt` walks the folders out/ of all crates that it reads, and stops where a folder goes meanwhile.
-ROOMS = f"{TOP}/tools/out"
+ROOMS = f"{TOP}/tools/build/out"
 # What removes rooms that are done with: no build waits for it, and the process ends after it.
 SWEEPER = ThreadPoolExecutor(1)
 

@@ -1,5 +1,5 @@
 """The board with an image loaded, and the lines of its states: a model in Python, written from docs/profile.md and docs/image.md, apart
-from the program. `tools/vectors --traces` makes vectors/traces with it."""
+from the program. `tools/vectors/make --traces` makes vectors/traces with it."""
 import struct
 
 from v8_model import WORD, Cpu, Memory, Turn
