@@ -8,6 +8,7 @@ import sys
 import tempfile
 
 sys.dont_write_bytecode = True
+sys.path.insert(0, f"{__file__.rpartition('/')[0]}/lib")
 from crates import TOP
 
 OUTPUT_LINE = 24

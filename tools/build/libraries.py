@@ -12,7 +12,7 @@ from concurrent.futures import FIRST_COMPLETED, ThreadPoolExecutor, wait
 
 sys.dont_write_bytecode = True
 TOP = os.path.dirname(os.path.dirname(os.path.dirname(os.path.abspath(__file__))))
-sys.path.insert(0, f"{TOP}/tests")
+sys.path.insert(0, f"{TOP}/tests/lib")
 from crates import all_below, crates, lanes, lines_of, lowest_first
 
 # The folders of a crate that are its sources.

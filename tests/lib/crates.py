@@ -1,11 +1,17 @@
-# What the scripts of this folder know of the repository: its crates, what stands on what, and what changed since a commit.
+"""What the scripts know of the repository: its crates, their rings, what stands on what, and what changed since a commit."""
 import os
 import re
 import subprocess
 
 # The memory that one check is reckoned to take.
 CHECK_BYTES = 5 << 30
-TOP = os.path.dirname(os.path.dirname(os.path.abspath(__file__)))
+TOP = os.path.dirname(os.path.dirname(os.path.dirname(os.path.abspath(__file__))))
+# The rings, from the one that carries the promise outward.
+RINGS = ("promise", "language", "engine", "inspect", "cmd", "fit", "hosts", "tests")
+# What runs an accepted image, and what makes an image of a source: a ring each with all that stands below.
+CARRIED = {"promise": ("sbx_run", "sbx_stream", "sbx_batch"), "language": ("sbx_asm",)}
+# The crates of other rings whose names don't say theirs.
+NAMED = {"sbx_tool": "cmd", "sbx_reader": "cmd", "sbx_session": "hosts", "host": "hosts", "geyserpan": "hosts"}
 
 
 def crates():
@@ -27,6 +33,22 @@ def all_below(name, listed):
         found |= new
         left += new
     return found
+
+
+def rings():
+    """Returns the ring of each crate: by what is carried, else by its name."""
+    listed, found = crates(), {}
+    for ring, tops in CARRIED.items():
+        for top in tops:
+            for name in (top, *all_below(top, listed)):
+                found.setdefault(name, ring)
+    return {name: found.get(name) or ring_by_name(name) for name in listed}
+
+
+def ring_by_name(name):
+    """Returns the ring that a crate's name says; tests are what says none."""
+    prefix = name.partition("_")[0]
+    return NAMED.get(name) or (prefix if prefix in ("engine", "inspect", "cmd", "fit") else "tests")
 
 
 def lines_of(name):
@@ -63,7 +85,7 @@ def changed_files(commit):
 def changed_crates(commit):
     """Returns the crates with a file that differs from the commit's, their further edits counted as theirs."""
     files = changed_files(commit)
-    return [name for name in crates() if any(it.startswith((f"crates/{name}/", f"tests/edits/{name}.")) for it in files)]
+    return [it for it in crates() if any(file.startswith((f"crates/{it}/", f"tests/edits/{it}.")) for file in files)]
 
 
 def outline(text):
@@ -86,11 +108,14 @@ def outline(text):
 
 
 def text_at(commit, path):
-    ran = subprocess.run(["git", "-C", TOP, "show", f"{commit}:{path}"], stdout=subprocess.PIPE, stderr=subprocess.DEVNULL, text=True)
+    """Returns the text that a file had at a commit; none where it wasn't there."""
+    words = ["git", "-C", TOP, "show", f"{commit}:{path}"]
+    ran = subprocess.run(words, stdout=subprocess.PIPE, stderr=subprocess.DEVNULL, text=True)
     return ran.stdout if not ran.returncode else ""
 
 
 def text_now(path):
+    """Returns the text that a file has; none where it isn't there."""
     try:
         with open(f"{TOP}/{path}", encoding="utf-8") as it:
             return it.read()
@@ -99,8 +124,8 @@ def text_now(path):
 
 
 def changes_contracts(commit, name, files):
-    """Returns whether what crates above see of this one may differ from the commit's: a definition, a lemma that they can cite, or
-    its code beside the bodies of its functions. Where in doubt it says so."""
+    """Returns whether what crates above see of this one may differ from the commit's: a definition, a lemma that they can
+    cite, or its code beside the bodies of its functions. Where in doubt it says so."""
     for path in files:
         inside = path.removeprefix(f"crates/{name}/")
         if inside == path:

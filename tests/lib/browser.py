@@ -14,7 +14,7 @@ PATIENCE = 60
 SHIFT = 8
 QUIET = {"stdin": subprocess.DEVNULL, "stdout": subprocess.DEVNULL, "stderr": subprocess.DEVNULL}
 READY = "document.body && document.body.dataset.ready || ''"
-with open(f"{os.path.dirname(os.path.abspath(__file__))}/page_looks.js", encoding="utf-8") as file:
+with open(f"{os.path.dirname(os.path.dirname(os.path.abspath(__file__)))}/page_looks.js", encoding="utf-8") as file:
     LOOKS = file.read().partition("\n")[2]
 
 
