@@ -1,5 +1,5 @@
-"""Two browsers, driven without packages: Chromium by its debugging pipe, Firefox by Marionette. Both open a file, evaluate an
-expression in it, press keys, take another size and a picture, and tell what went wrong in the page."""
+"""Two browsers, driven without packages: Chromium by its debugging pipe, Firefox by Marionette. Both open a file,
+evaluate an expression in it, press keys, take another size and a picture, and tell what went wrong in the page."""
 import base64
 import json
 import os

@@ -1,4 +1,5 @@
-"""What the scripts know of the repository: its crates, their rings, what stands on what, and what changed since a commit."""
+"""What the scripts know of the repository: its crates, their rings, what stands on what, and what changed since a
+commit."""
 import os
 import re
 import subprocess
@@ -124,8 +125,8 @@ def text_now(path):
 
 
 def changes_contracts(commit, name, files):
-    """Returns whether what crates above see of this one may differ from the commit's: a definition, a lemma that they can
-    cite, or its code beside the bodies of its functions. Where in doubt it says so."""
+    """Returns whether what crates above see of this one may differ from the commit's: a definition, a lemma that they
+    can cite, or its code beside the bodies of its functions. Where in doubt it says so."""
     for path in files:
         inside = path.removeprefix(f"crates/{name}/")
         if inside == path:

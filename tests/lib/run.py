@@ -1,4 +1,5 @@
-"""Runs the repository's programs and others, with a time limit, and keeps what they put out; reads and writes the files of a suite."""
+"""Runs the repository's programs and others, with a time limit, and keeps what they put out; reads and writes the
+files of a suite."""
 import collections
 import contextlib
 import os
@@ -24,7 +25,8 @@ SECONDS = 120
 
 
 class Ran(collections.namedtuple("Ran", "status out err")):
-    """What a process left: its status, below 0 by a signal and None where it took too long; its output and its errors, bytes."""
+    """What a process left: its status, below 0 by a signal and None where it took too long; its output and its
+    errors, bytes."""
 
     @property
     def said(self):

@@ -1,11 +1,13 @@
-"""How a suite counts and ends: checks by name, parts that are skipped, one form of line, one exit status; and how its words are read."""
+"""How a suite counts and ends: checks by name, parts that are skipped, one form of line, one exit status; and how its
+words are read."""
 import argparse
 import os
 import shutil
 import sys
 import threading
 
-# How a suite ends: nothing failed; something did; nothing was tried; other words; a program that it needs can't be built.
+# How a suite ends: nothing failed; something did; nothing was tried; other words; a program that it needs can't be
+# built.
 PASSED, FAILED, NOTHING, OTHER_WORDS, NOT_BUILT = 0, 1, 2, 3, 125
 
 
@@ -16,8 +18,8 @@ def shown(it):
 
 
 class Tally:
-    """The checks of a suite, counted from any thread. One that fails is told in a line, which says what was expected and what came;
-    the files that show it are left in the folder `keep`, where there is one."""
+    """The checks of a suite, counted from any thread. One that fails is told in a line, which says what was expected
+    and what came; the files that show it are left in the folder `keep`, where there is one."""
 
     def __init__(self, suite, keep=None, quiet=False):
         self.suite, self.keep, self.quiet = suite, keep, quiet

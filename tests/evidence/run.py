@@ -1,36 +1,43 @@
 #!/usr/bin/env python3
-"""usage: tests/evidence
+"""usage: tests/evidence/run.py
 
-Looks whether want of memory is told anywhere without evidence of it. What tells it holds a `Want`, a type of the crate `want` that is
-made of std's `AllocError` alone, and std makes that where a growth is refused. No proof keeps a body from writing the word
-`AllocError` as a value, or from having one by another way: this script does, for all sources but tests. Errors of files and streams
-hold no such evidence, and neither do `clap`'s: where one is of the kind `OutOfMemory`, and only there, a `Full` is made, or a `Starved` of
-`clap`'s, which `NoRoom` holds.
+Looks whether want of memory is told anywhere without evidence of it. What tells it holds a `Want`, a type of the
+crate `want` that is made of std's `AllocError` alone, and std makes that where a growth is refused. No proof keeps a
+body from writing the word `AllocError` as a value, or from having one by another way: this script does, for all
+sources but tests. Errors of files and streams hold no such evidence, and neither do `clap`'s: where one is of the
+kind `OutOfMemory`, and only there, a `Full` is made, or a `Starved` of `clap`'s, which `NoRoom` holds.
 
-Of the crates fit and fit_* nothing is promised but that they return, so they aren't read: what they make is a source like any other;
-nor is v8_turns, which compares the lines of the vectors, as tests do.
+Of the crates fit and fit_* nothing is promised but that they return, so they aren't read: what they make is a source
+like any other; nor is v8_turns, which compares the lines of the vectors, as tests do.
 
-std makes one elsewhere, too, and no source but tests may stand there: at a clone (of a cell that is lent, of an array), at a cell that
-is written once, at a count of owners, and where a `fmt` of one's own fails.
+std makes one elsewhere, too, and no source but tests may stand there: at a clone (of a cell that is lent, of an
+array), at a cell that is written once, at a count of owners, and where a `fmt` of one's own fails.
 
-Likewise it looks whether a file or a stream is told as faulty that works. What tells it stands in the arm of a call that failed, or of
-another's word for it, or beside the error that was met (`CommandStop::of`), or behind a loop of 2^64 - 1 turns, as many as there can be; two
-more places are known by their words (KNOWN). An error of a stream is made nowhere but where a write took nothing (`put_all`), and no
-source has a stream of its own but those listed (STREAMS).
+Likewise it looks whether a file or a stream is told as faulty that works. What tells it stands in the arm of a call
+that failed, or of another's word for it, or beside the error that was met (`CommandStop::of`), or behind a loop of
+2^64 - 1 turns, as many as there can be; two more places are known by their words (KNOWN). An error of a stream is
+made nowhere but where a write took nothing (`put_all`), and no source has a stream of its own but those listed
+(STREAMS).
 
-It reads crates/*/src, and lists each place where a count of items is asked for at once (a vector's room, a text that is repeated, a
-width or a precision, and what is put together of an iterator or a list), since a growth that asks for more than there is would be
-refused, too. A count that is a number, or is worked out of numbers, is found where it is more than anything has, and so is each that turns
-or moves bits, wraps, or is read of bytes or of a text; whether another is one that the caller needs, a reader has to see. Then it tries
-itself: each body of tests/bodies/CRATE, an edit that no clause speaks against, so that it proves or would with a proof of its own, is put
-into a copy of its file, and has to be found. It prints what it looked at, what it found and, last, 'N passed, M failed'; the status is 0
-where none failed."""
+It reads crates/*/src, and lists each place where a count of items is asked for at once (a vector's room, a text that
+is repeated, a width or a precision, and what is put together of an iterator or a list), since a growth that asks for
+more than there is would be refused, too. A count that is a number, or is worked out of numbers, is found where it is
+more than anything has, and so is each that turns or moves bits, wraps, or is read of bytes or of a text; whether
+another is one that the caller needs, a reader has to see. Then it tries itself: each body of
+tests/evidence/bodies/CRATE, an edit that no clause speaks against, so that it proves or would with a proof of its
+own, is put into a copy of its file, and has to be found. It prints what it looked at and what it found."""
 import glob
 import os
 import re
 import sys
 
-TOP = os.path.dirname(os.path.dirname(os.path.abspath(__file__)))
+sys.dont_write_bytecode = True
+HERE = os.path.dirname(os.path.abspath(__file__))
+sys.path.insert(0, f"{os.path.dirname(HERE)}/lib")
+from crates import TOP
+from edits import applied
+from run import text_of
+from tally import Tally, Words
 
 # What tells want of memory: crate, enum, variant, and the evidence that it has to hold, and nothing else.
 TELLS = [
@@ -68,8 +75,8 @@ TOO_LONG = "ReadFault :: TooLong"
 # What a port tells of itself: of whoever passes it on a contract says that it is the port's own.
 OF_PORTS = ("PortFault :: Reader", "PortFault :: Writer")
 
-# Where such a word stands alone: what is so is said before it. The first is what no turn of a board does, the second is no fault of a
-# stream.
+# Where such a word stands alone: what is so is said before it. The first is what no turn of a board does, the second
+# is no fault of a stream.
 KNOWN = (
     ("crates/sbx_port/src/carrying.rt", "if ! met & & board . port ( ) . has_ended ( ) { return Err ("),
     ("crates/sbx_tool/src/assembling.rt", "if status == 0 & & is_same_file ( rt , source , object ) { return Err ("),
@@ -89,13 +96,15 @@ STREAMS = (
 # A call of a stream, whole.
 CALL = re.compile(r"(?:(?:\w+ \. )+(?:read|write|flush)|put_all|put_through|put_listing) \( [^{}]*\)")
 
-# What may be unsafe, and is to be read by whoever changes it: the pointers of handles, whose functions are proved by hand.
+# What may be unsafe, and is to be read by whoever changes it: the pointers of handles, whose functions are proved by
+# hand.
 POINTERS = {f"crates/geyserpan/src/{it}.rt" for it in ("loose", "image_handle", "run_handle", "engine_handle")}
 
 # The most items that a number in a source may ask for: no table and no file has more.
 MOST = 16_777_216
 
-# Types whose methods make evidence where no growth was refused; a cell that may be lent stands where it is never copied.
+# Types whose methods make evidence where no growth was refused; a cell that may be lent stands where it is never
+# copied.
 MAKERS = ("OnceCell", "LazyCell", "OnceLock", "LazyLock", "Rc", "Arc", "RcStr", "ArcStr")
 
 # Calls that ask for as much as an iterator or a list says.
@@ -111,15 +120,16 @@ TOKEN = re.compile(
     """,
     re.S | re.X,
 )
-# the width of a value in a text that is formatted, or its precision behind a dot: a number, a value's name or number before `$`, or `*`
+# the width of a value in a text that is formatted, or its precision behind a dot: a number, a value's name or number
+# before `$`, or `*`
 WIDTH = re.compile(r"\{\w*:(?:[^{}]?[<^>])?[+#]*0?(\w+\$|[1-9]\d*)")
 PRECISION = re.compile(r"\{\w*:[^{}]*\.(\w+\$|\*|[1-9]\d*)")
 CLOSES = {"(": ")", "[": "]", "{": "}"}
 
 
 def tokens_of(text):
-    """Returns the tokens of a source, each with the number of its line; comments are none, and a text is one, of which the widths and
-    precisions are left that another value gives, or that are more than anything has."""
+    """Returns the tokens of a source, each with the number of its line; comments are none, and a text is one, of
+    which the widths and precisions are left that another value gives, or that are more than anything has."""
     found, line = [], 1
     for it in TOKEN.finditer(text):
         if it.lastgroup == "text":
@@ -242,7 +252,8 @@ def form_of_kind(tokens, at):
 
 
 def form_of_room(tokens, at):
-    """The same of `NoRoom`, which tells want of memory for an error of the kind `OutOfMemory`: it holds the evidence of that."""
+    """The same of `NoRoom`, which tells want of memory for an error of the kind `OutOfMemory`: it holds the evidence
+    of that."""
     if words_at(tokens, at - 1, 1) != "::":
         head = opener_of(tokens, at)
         return "enumerations" if "enum" in (words_at(tokens, head - 2, 1), words_at(tokens, head - 5, 1)) else None
@@ -250,8 +261,8 @@ def form_of_room(tokens, at):
 
 
 def form_of_kept(tokens, at):
-    """The same of `Full` and `Starved`, the evidence that a file or a stream had no room, or `clap` none: it is made of an error whose kind
-    was asked for."""
+    """The same of `Full` and `Starved`, the evidence that a file or a stream had no room, or `clap` none: it is made
+    of an error whose kind was asked for."""
     word, before, behind = tokens[at][0], words_at(tokens, at - 1, 1), words_at(tokens, at + 1, 1)
     if is_used(tokens, at):
         return "use items"
@@ -265,8 +276,8 @@ def form_of_kept(tokens, at):
 
 
 def arm_of(tokens, at):
-    """Returns the pattern of the arm whose answer begins right before this place, as `=> Err(` or `=> return Err(`, and what is matched;
-    None where there is no such arm."""
+    """Returns the pattern of the arm whose answer begins right before this place, as `=> Err(` or `=> return Err(`,
+    and what is matched; None where there is no such arm."""
     arrow = at - 1
     while words_at(tokens, arrow, 1) in ("(", "Err", "return", "Fault", "::", "Stop", "CommandStop"):
         arrow -= 1
@@ -312,7 +323,8 @@ def form_of_fault(path, tokens, at):
 
 
 def form_of_made(tokens, at):
-    """Returns in which form an error of a stream is made that was met, or is the one of a write that took nothing; or None."""
+    """Returns in which form an error of a stream is made that was met, or is the one of a write that took nothing; or
+    None."""
     start = at - 2 if words_at(tokens, at - 2, 2) == "io ::" else at
     if words_at(tokens, start - 7, 7) == "is_dir ( ) { return Err (":
         return "directories that are asked for as files"
@@ -391,7 +403,8 @@ def asked_at(tokens, at):
 
 
 NUMBER = re.compile(r"(0x[\da-fA-F_]+|0b[01_]+|0o[0-7_]+|\d[\d_]*)(?:[iu]\d+|[iu]size)?$")
-# What makes a number of others that may be as great as any: all bits turned, a sum that wraps, bits that move, bytes taken for a number.
+# What makes a number of others that may be as great as any: all bits turned, a sum that wraps, bits that move, bytes
+# taken for a number.
 GREAT = re.compile(
     r"\b(?:MAX|MIN|pow|\w*wrapping\w*|overflowing_\w+|saturating_(?:mul|pow)|rotate_\w+|reverse_bits|swap_bytes)\b"
     r"|\b(?:[tf]\w+_[bln]e(?:_bytes)?|parse|from_str_radix)\b"
@@ -424,8 +437,8 @@ def greatest_in(words):
 
 
 def numbers_of(tokens):
-    """Returns the constants and variables of a source whose values are numbers, or are worked out of such: each name and its number. A
-    name that has two has the greater one."""
+    """Returns the constants and variables of a source whose values are numbers, or are worked out of such: each name
+    and its number. A name that has two has the greater one."""
     known, words = {}, words_at(tokens, 0, len(tokens))
     for name, value in re.findall(r"\b(?:const|static|let|let mut) (\w+)(?: : \w+)? = ([^;{}]+) ;", words):
         value = plain(value, known)
@@ -475,15 +488,12 @@ class Sight:
 
 
 def sources_of(crate, edited):
-    """Yields each source of a crate that holds no tests: its path, and its tokens without tests. Of an edited file the text is given."""
+    """Yields each source of a crate that holds no tests: its path, and its tokens without tests. Of an edited file
+    the text is given."""
     left, tests = sorted(glob.glob(f"{TOP}/crates/{crate}/src/**/*.rt", recursive=True)), []
     read = {}
     for path in left:
-        text = edited.get(path)
-        if text is None:
-            with open(path, encoding="utf-8") as file:
-                text = file.read()
-        read[path], names = without_tests(tokens_of(text))
+        read[path], names = without_tests(tokens_of(edited.get(path) or text_of(path)))
         folder = os.path.dirname(path) if os.path.basename(path) in ("lib.rt", "main.rt", "mod.rt") else path[:-3]
         tests += [f"{folder}/{name}" for name in names]
     for path, tokens in read.items():
@@ -491,7 +501,7 @@ def sources_of(crate, edited):
             yield path, tokens
 
 
-def crates():
+def crates_read():
     """Returns the crates, but those of tests."""
     found = sorted(os.path.basename(it) for it in glob.glob(f"{TOP}/crates/*") if os.path.isdir(f"{it}/src"))
     return [it for it in found if not it.endswith("_tests") and it not in ("fit", "v8_turns") and not it.startswith("fit_")]
@@ -507,7 +517,8 @@ def sight_of(names, edited):
 
 
 def variants_without(edited):
-    """Yields each variant of TELLS that doesn't hold the evidence, and the evidence where it isn't what it is to be."""
+    """Yields each variant of TELLS that doesn't hold the evidence, and the evidence where it isn't what it is to
+    be."""
     for crate, name, variant, evidence in TELLS:
         texts = [words_at(tokens, 0, len(tokens)) for _, tokens in sources_of(crate, edited)]
         bodies = [it.group(1) for text in texts for it in re.finditer(rf"\benum {name} (?:< \'a > )?{{ (.*?) }}", text)]
@@ -522,43 +533,27 @@ def variants_without(edited):
             yield f"crates/{crate}: {name} has a field that others reach"
 
 
-def edit_of(path):
-    """Returns the file of an edit and its text as the edit leaves it."""
-    with open(path, encoding="utf-8") as file:
-        lines = file.read().split("\n")
-    crate = os.path.basename(os.path.dirname(path))
-    source = f"{TOP}/crates/{crate}/{lines[0].removeprefix('file: ')}"
-    with open(source, encoding="utf-8") as file:
-        text = file.read()
-    for old, new in zip(lines[1::2], lines[2::2]):
-        if text.count(old.removeprefix("old: ")) != 1:
-            raise SystemExit(f"{os.path.relpath(path, TOP)}: its text stands in the file {text.count(old[5:])} times, and not once")
-        text = text.replace(old.removeprefix("old: "), new.removeprefix("new: "))
-    return crate, source, text
+def try_bodies(tally):
+    """Each body of which it is known that no clause speaks against it has to be found."""
+    for path in sorted(glob.glob(f"{HERE}/bodies/*/*.edit")):
+        crate = os.path.basename(os.path.dirname(path))
+        edited = {f"{TOP}/crates/{crate}/{it}": text for it, text in applied(text_of(path), crate).items()}
+        found = sight_of([crate], edited).found or list(variants_without(edited))
+        tally.check(os.path.relpath(path, HERE), found, "wanted that it is found, came nothing")
 
 
-def main():
-    if len(sys.argv) > 1:
-        raise SystemExit(__doc__.split("\n")[0])
-    sight = sight_of(crates(), {})
-    print(f"{sight.files} files of {len(crates())} crates")
+def main(words):
+    Words(__doc__).parse_args(words)
+    tally, sight = Tally("evidence"), sight_of(crates_read(), {})
+    print(f"{sight.files} files of {len(crates_read())} crates")
     for (word, form), count in sorted(sight.forms.items(), key=str):
         print(f"{word}: {count} in {form}" if form else f"{word}: {count} made")
     print("a count of items is asked for at once:", *sight.asks, sep="\n  ")
     found = sight.found + list(variants_without({}))
-    print(*found, sep="\n", end="\n" if found else "")
-    passed, failed = (0, 1) if found else (1, 0)
-    for path in sorted(glob.glob(f"{TOP}/tests/bodies/*/*.edit")):
-        crate, source, text = edit_of(path)
-        edited = {source: text}
-        if sight_of([crate], edited).found or list(variants_without(edited)):
-            passed += 1
-        else:
-            failed += 1
-            print(f"{os.path.relpath(path, TOP)}: not found")
-    print(f"{passed} passed, {failed} failed")
-    raise SystemExit(bool(failed))
+    tally.check("the sources", not found, f"wanted no such place, came {'; '.join(found)}")
+    try_bodies(tally)
+    return tally.end()
 
 
 if __name__ == "__main__":
-    main()
+    sys.exit(main(sys.argv[1:]))
