@@ -67,7 +67,8 @@ TELLS = [
 
 # What tells a file or a stream as faulty: enum and variant.
 FAULTS = (
-    "StreamFault :: Reader", "StreamFault :: Writer", "RunFault :: Reader", "RunFault :: Writer", "ReadFault :: Reader", "CommandStop :: File",
+    "StreamFault :: Reader", "StreamFault :: Writer", "RunFault :: Reader", "RunFault :: Writer",
+    "ReadFault :: Reader", "CommandStop :: File",
     "CommandStop :: Input", "CommandStop :: Output",
 )
 # A file that is too long, which a contract explains.
@@ -266,9 +267,11 @@ def form_of_kept(tokens, at):
     word, before, behind = tokens[at][0], words_at(tokens, at - 1, 1), words_at(tokens, at + 1, 1)
     if is_used(tokens, at):
         return "use items"
-    if words_at(tokens, at - 2, 3) == "Stand :: Full" or words_at(tokens, opener_of(tokens, at) - 2, 2) == "enum Stand":
+    if words_at(tokens, at - 2, 3) == "Stand :: Full" or words_at(tokens, opener_of(tokens, at) - 2,
+                                                                  2) == "enum Stand":
         return "stands of a run in pieces"
-    if before in ("struct", "impl") or before == "<" and behind == ">" or words_at(tokens, at - 2, 4) == f"NoRoom ( {word} )":
+    if before in ("struct", "impl") or before == "<" and behind == ">" or words_at(tokens, at - 2,
+                                                                                   4) == f"NoRoom ( {word} )":
         return "types"
     if words_at(tokens, at + 1, 3) == ":: of (":
         return "questions to an error"
@@ -308,7 +311,8 @@ def form_of_fault(path, tokens, at):
         behind += 1
     if words_at(tokens, behind, 1) in ("=>", "|", "if"):
         return "patterns"
-    if any(path == known and words_at(tokens, at - words.count(" ") - 1, words.count(" ") + 1) == words for known, words in KNOWN):
+    if any(path == known and words_at(tokens, at - words.count(" ") - 1, words.count(" ") + 1) == words for known,
+           words in KNOWN):
         return "places that are known"
     if words_at(tokens, at - 7, 7) == "CommandStop :: of ( & error ,":
         arm = arm_of(tokens, at - 7)
@@ -335,7 +339,8 @@ def form_of_made(tokens, at):
         return "errors of a growth that was refused"
     if arm == ("0", "out . write ( rest ) ?") and made == "ErrorKind :: WriteZero )":
         return "writes that took nothing"
-    return "conversions of what was met" if arm and arm[0] == "Err ( error )" and made.startswith("error ) )") else None
+    is_met = arm and arm[0] == "Err ( error )" and made.startswith("error ) )")
+    return "conversions of what was met" if is_met else None
 
 
 def made_up_at(path, tokens, at):
@@ -418,7 +423,8 @@ def plain(words, known):
     numbers = []
     for word in words.replace("< <", "<<").split(" "):
         number = NUMBER.match(word)
-        numbers.append(str(int(number.group(1).replace("_", ""), 0 if number.group(1)[:2] in ("0x", "0b", "0o") else 10)) if number else known.get(word, word))
+        numbers.append(str(int(number.group(1).replace("_", ""), 0 if number.group(1)[:2] in ("0x", "0b", "0o")
+                               else 10)) if number else known.get(word, word))
     return " ".join(numbers)
 
 
@@ -476,10 +482,12 @@ class Sight:
                 if form is None:
                     self.found.append(f"{path}:{line}: a fault may be made up, {what}: {words_at(tokens, at - 4, 9)}")
             is_unsafe = word == "unsafe" and words_at(tokens, at + 1, 3) != "( no_mangle )" and path not in POINTERS
-            if is_unsafe or word == "from_raw_os_error" or word == "Allocator" and words_at(tokens, at + 1, 1) == "for":
+            if is_unsafe or word == "from_raw_os_error" or word == "Allocator" and words_at(tokens, at + 1,
+                                                                                            1) == "for":
                 self.found.append(f"{path}:{line}: {words_at(tokens, at, 4)}")
             if maker_at(tokens, at):
-                self.found.append(f"{path}:{line}: it may make evidence without a growth: {words_at(tokens, at - 4, 9)}")
+                around = words_at(tokens, at - 4, 9)
+                self.found.append(f"{path}:{line}: it may make evidence without a growth: {around}")
             asked = asked_at(tokens, at)
             if asked is not None:
                 self.asks.append(f"{path}:{line}: {asked}")
@@ -504,7 +512,8 @@ def sources_of(crate, edited):
 def crates_read():
     """Returns the crates, but those of tests."""
     found = sorted(os.path.basename(it) for it in glob.glob(f"{TOP}/crates/*") if os.path.isdir(f"{it}/src"))
-    return [it for it in found if not it.endswith("_tests") and it not in ("fit", "v8_turns") and not it.startswith("fit_")]
+    return [it for it in found if not it.endswith("_tests") and it not in ("fit", "v8_turns")
+            and not it.startswith("fit_")]
 
 
 def sight_of(names, edited):
@@ -521,7 +530,8 @@ def variants_without(edited):
     be."""
     for crate, name, variant, evidence in TELLS:
         texts = [words_at(tokens, 0, len(tokens)) for _, tokens in sources_of(crate, edited)]
-        bodies = [it.group(1) for text in texts for it in re.finditer(rf"\benum {name} (?:< \'a > )?{{ (.*?) }}", text)]
+        bodies = [it.group(1) for text in texts
+                  for it in re.finditer(rf"\benum {name} (?:< \'a > )?{{ (.*?) }}", text)]
         if not any(re.search(rf"\b{variant} \( {evidence} \)", it) for it in bodies):
             yield f"crates/{crate}: {name}::{variant} doesn't hold a {evidence}"
     texts = [words_at(tokens, 0, len(tokens)) for _, tokens in sources_of("want", edited)]

@@ -44,11 +44,13 @@ def try_printed(tally):
     """Outputs, each with a line's end, and rules."""
     for path, name in files("*/*.out"):
         wanted = bytes_of(path)
-        tally.same(name, printed("run", os.path.basename(path)[:-4]), wanted if wanted[-1:] in (b"", b"\n") else wanted + b"\n")
+        tally.same(name, printed("run", os.path.basename(path)[:-4]),
+                   wanted if wanted[-1:] in (b"", b"\n") else wanted + b"\n")
     for path, name in files("refused/*"):
         rule = os.path.basename(path).partition(".")[0]
         came = printed("verify", rule)
-        tally.check(name, came and came.startswith(f"refused {rule} in function ".encode()), f"wanted {rule}, came {came}")
+        tally.check(name, came and came.startswith(f"refused {rule} in function ".encode()),
+                    f"wanted {rule}, came {came}")
 
 
 def main(words):

@@ -133,10 +133,12 @@ class Chromium(Browser):
 
     def key(self, key, shift=False):
         """Presses a key."""
-        code = {"ArrowLeft": 37, "ArrowRight": 39, "Home": 36, "End": 35, "Enter": 13, "Tab": 9}.get(key) or ord(key.upper())
+        code = {"ArrowLeft": 37, "ArrowRight": 39, "Home": 36, "End": 35, "Enter": 13,
+                "Tab": 9}.get(key) or ord(key.upper())
         for kind in ("keyDown", "keyUp"):
             text = {"text": key} if len(key) == 1 and kind == "keyDown" else {}
-            self.call("Input.dispatchKeyEvent", type=kind, key=key, windowsVirtualKeyCode=code, modifiers=SHIFT * shift, **text)
+            self.call("Input.dispatchKeyEvent", type=kind, key=key, windowsVirtualKeyCode=code,
+                      modifiers=SHIFT * shift, **text)
 
     def picture(self, path):
         """Writes what is seen to a PNG file."""
@@ -175,7 +177,8 @@ class Firefox(Browser):
     """Firefox, whose messages go over a socket with their length before them."""
 
     name = "firefox-esr"
-    KEYS = {"ArrowLeft": "\ue012", "ArrowRight": "\ue014", "Home": "\ue011", "End": "\ue010", "Enter": "\ue007", "Tab": "\ue004"}
+    KEYS = {"ArrowLeft": "\ue012", "ArrowRight": "\ue014", "Home": "\ue011", "End": "\ue010", "Enter": "\ue007",
+            "Tab": "\ue004"}
 
     def __init__(self, program, width=1280, height=800):
         self.folder = tempfile.mkdtemp()
@@ -246,7 +249,8 @@ class Firefox(Browser):
         """Presses a key."""
         value = self.KEYS.get(key, key)
         around = (lambda it: [{"type": it, "value": "\ue008"}]) if shift and value != key else lambda it: []
-        presses = [*around("keyDown"), {"type": "keyDown", "value": value}, {"type": "keyUp", "value": value}, *around("keyUp")]
+        presses = [*around("keyDown"), {"type": "keyDown", "value": value}, {"type": "keyUp", "value": value},
+                   *around("keyUp")]
         self.call("WebDriver:PerformActions", actions=[{"type": "key", "id": "keyboard", "actions": presses}])
 
     def picture(self, path):

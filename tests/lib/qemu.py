@@ -37,7 +37,8 @@ class Leon:
         with open(bios, "wb") as file:
             file.write(bytes.fromhex("01000000") * 16)
         self.errors = open(f"{self.room.name}/errors", "w+", encoding="utf-8", errors="replace")
-        words = [PROGRAM, "-M", "leon3_generic", "-cpu", f"LEON3,nwindows={windows}", "-m", "1", "-bios", bios, "-display", "none",
+        words = [PROGRAM, "-M", "leon3_generic", "-cpu", f"LEON3,nwindows={windows}", "-m", "1", "-bios", bios,
+                 "-display", "none",
                  "-serial", "none", "-monitor", "none", "-S", "-gdb", f"unix:{path},server=on,wait=off"]
         # (it ends by a signal where the machine is in error mode)
         resource.setrlimit(resource.RLIMIT_CORE, (0, resource.getrlimit(resource.RLIMIT_CORE)[1]))

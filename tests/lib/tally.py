@@ -41,6 +41,11 @@ class Tally:
         """Counts whether what came is what was wanted."""
         return self.check(name, came == wanted, f"wanted {shown(wanted)}, came {shown(came)}", files)
 
+    def passes(self, count):
+        """Counts so many checks that hold."""
+        with self.lock:
+            self.passed += count
+
     def leave(self, files):
         """Copies files to where they are kept."""
         if self.keep:

@@ -1,19 +1,23 @@
 #!/usr/bin/env python3
-"""usage: tests/speed [TURNS [FOLDER]]
+"""usage: tests/speed/run.py [TURNS [FOLDER]]
 
-Measures speed by the program of crates/sbx_bench, which it builds first where that is due: TURNS turns, 100,000 where none are given,
-of each loop of its folder data in each way; the verification of images of seven shapes, of each the greatest one and one of a
-quarter of it; words and results, a thousand for each turn. Prints what was counted on standard output and the times on standard
-error. The loops' images have to be what `sandbox asm` makes of the sources beside them, the register that a loop counts down what the
-length of its rounds says, and each shape has to be accepted. The shapes' images are left in FOLDER, where one is given. The last
-line is 'N passed, M failed'; the status is 0 where none failed."""
+Measures speed by the program of crates/sbx_bench, which it builds first where that is due: TURNS turns, 100,000 where
+none are given, of each loop of its folder data in each way; the verification of images of seven shapes, of each the
+greatest one and one of a quarter of it; words and results, a thousand for each turn. Prints what was counted on
+standard output and the times on standard error. The loops' images have to be what `sandbox asm` makes of the sources
+beside them, the register that a loop counts down what the length of its rounds says, and each shape has to be
+accepted. The shapes' images are left in FOLDER, where one is given."""
 import glob
 import os
 import subprocess
 import sys
 import tempfile
 
-TOP = os.path.dirname(os.path.dirname(os.path.abspath(__file__)))
+sys.dont_write_bytecode = True
+sys.path.insert(0, f"{os.path.dirname(os.path.dirname(os.path.abspath(__file__)))}/lib")
+from run import SANDBOX, TOP, built, bytes_of, put
+from tally import Tally, Words
+
 LOOPS = f"{TOP}/crates/sbx_bench/data"
 
 # Of loops: in which turn the first round counts the register down, and how many turns a round has. A service takes 5.
@@ -48,14 +52,17 @@ EXIT = ["mov 0,%o0", "ta 0"]
 # Turns that last for the greatest function.
 BUDGET = 1 << 30
 
-# The 64 cells of a block, all that can be one of the registers from %o0 on and of the first 44 frame words; locals are small.
-REGISTERS = [f"%{kind}{number}" for kind in "oli" for number in range(8) if (kind, number) not in [("o", 6), ("o", 7), ("i", 6), ("i", 7)]]
+# The 64 cells of a block, all that can be one of the registers from %o0 on and of the first 44 frame words; locals
+# are small.
+REGISTERS = [f"%{kind}{number}" for kind in "oli" for number in range(8)
+             if (kind, number) not in [("o", 6), ("o", 7), ("i", 6), ("i", 7)]]
 LOCALS = [it for it in REGISTERS if it[1] == "l"]
 CELLS = [f".cell {it},{'0,99' if it in LOCALS else '-2147483648,2147483647'},0" for it in REGISTERS]
 CELLS += [f".cell slot {k},-2147483648,2147483647,0" for k in range(44)]
 TERMS = [f".term {it},1" for it in LOCALS]
 
-# 64 cells whose sums by eight don't wrap, and such sums: of %o0 to %o5, %l0 and %l1 into %l2, and twice that into seven more.
+# 64 cells whose sums by eight don't wrap, and such sums: of %o0 to %o5, %l0 and %l1 into %l2, and twice that into
+# seven more.
 SMALL_CELLS = [f".cell {it},0,1000,0" for it in [f"%g{number}" for number in range(1, 8)] + REGISTERS]
 SMALL_CELLS += [f".cell slot {k},0,1000,0" for k in range(64 - len(SMALL_CELLS))]
 SUMS = ["add %o0,%o1,%l2"] + [f"add %l2,{it},%l2" for it in ("%o2", "%o3", "%o4", "%o5", "%l0", "%l1")]
@@ -110,7 +117,8 @@ def calls(count):
 
 
 def b3(count):
-    """A leaf function of `count` blocks of three words, each of which goes to the next one both ways and knows nothing."""
+    """A leaf function of `count` blocks of three words, each of which goes to the next one both ways and knows
+    nothing."""
     yield f".function main,leaf,0,0,{BUDGET}"
     for left in range(count - 1, -1, -1):
         yield from [f".block b{left}"] if left < count - 1 else []
@@ -120,7 +128,8 @@ def b3(count):
 
 def returning(count, frame, annotations, words):
     """Two functions of `count` blocks, all of the second one's but its first return after these words."""
-    yield from [f".function main,framed,64,{64 + frame},10000", ".fuel 10000", "save %sp,-64,%sp", "call f", "nop", *EXIT]
+    yield from [f".function main,framed,64,{64 + frame},10000", ".fuel 10000", "save %sp,-64,%sp", "call f", "nop",
+                *EXIT]
     yield from [f".function f,framed,{frame},{frame},9000", ".fuel 9000", f"save %sp,-{frame},%sp", *EXIT]
     for number in range(count - 2):
         yield from [f".block b{number}", *annotations, ".fuel 100", *words, "ret", "restore"]
@@ -148,29 +157,15 @@ SHAPES = {
 }
 
 
-class Judge:
-    """Counts what passed and what failed."""
-
-    def __init__(self):
-        self.passed = self.failed = 0
-
-    def judge(self, holds, what):
-        self.passed += holds
-        self.failed += not holds
-        if not holds:
-            print(f"FAILED: {what}")
-
-
 def assembled(source, image):
     """Makes an image of a source, and returns its bytes."""
-    subprocess.run([f"{TOP}/sandbox", "asm", source, image], stdin=subprocess.DEVNULL, check=True)
-    with open(image, "rb") as file:
-        return file.read()
+    subprocess.run([SANDBOX, "asm", source, image], stdin=subprocess.DEVNULL, check=True)
+    return bytes_of(image)
 
 
 def measured(folder, *words):
     """Runs the bench in a folder, shows what it prints, and returns the lines of counts and of times."""
-    launched = [f"{TOP}/tools/build/launch", "tests/speed", "sbx_bench", "1 words", *map(str, words)]
+    launched = [f"{TOP}/tools/build/launch", "speed", "sbx_bench", "1 words", *map(str, words)]
     ran = subprocess.run(launched, cwd=folder, stdin=subprocess.DEVNULL, capture_output=True, text=True, check=False)
     print(ran.stdout, end="", flush=True)
     print(ran.stderr, end="", file=sys.stderr, flush=True)
@@ -189,68 +184,71 @@ def counted_down(name, turns):
     return None
 
 
-def measure_loops(judge, turns, folder):
+def measure_loops(tally, turns, folder):
+    """Each loop in each way, and what it leaves in its register."""
     names = sorted(os.path.basename(it)[:-2] for it in glob.glob(f"{LOOPS}/*.s"))
-    judge.judge(len(names) == 11, f"{LOOPS} has {len(names)} loops")
+    tally.same(f"loops in {os.path.relpath(LOOPS, TOP)}", len(names), 11)
     for name in names:
-        with open(f"{LOOPS}/{name}.img", "rb") as file:
-            same = file.read() == assembled(f"{LOOPS}/{name}.s", f"{folder}/{name}.img")
-        judge.judge(same, f"{name}.img is another image than that of {name}.s")
+        is_same = bytes_of(f"{LOOPS}/{name}.img") == assembled(f"{LOOPS}/{name}.s", f"{folder}/{name}.img")
+        tally.check(f"{name}.img", is_same, f"wanted the image of {name}.s, came another one")
     left = {}
     for way in ("step", "run", "raw", "trace", "plain"):
         counts, _ = measured(LOOPS, turns, way, *(f"{name}.img" for name in names))
-        judge.judge(len(counts) == len(names), f"not all loops by {way}")
+        tally.same(f"loops by {way}", len(counts), len(names))
         if way in ("step", "run", "plain"):
             left[way] = [line.rpartition(" ")[2] for line in counts]
-    judge.judge(left["step"] == left["run"] == left["plain"], "the ways leave other registers")
+    tally.check("the registers by three ways", left["step"] == left["run"] == left["plain"],
+                f"wanted the same, came {left}")
     for name, register in zip(names, left["run"]):
         wanted = counted_down(name, turns)
-        judge.judge(wanted in (None, int(register, 16)), f"{name} leaves {register}, and has to leave {wanted}")
+        tally.check(f"{name}'s register", wanted in (None, int(register, 16)), f"wanted {wanted}, came {register}")
 
 
-def measure_shape(judge, shape, folder):
+def measure_shape(tally, shape, folder):
+    """The verdict on a shape's greatest image and on one of a quarter, and the times."""
     count, *words = SHAPES[shape]
     files = f"{shape.__name__}-quarter.img", f"{shape.__name__}.img"
     for name, parts in zip(files, (count // 4, count)):
-        source = f"{folder}/{name[:-4]}.s"
-        with open(source, "w", encoding="ascii") as file:
-            file.writelines(f"{line}\n" for line in [".services exit,get", ".stack 16", ".data", ".skip 8", ".text", *shape(parts)])
-        assembled(source, f"{folder}/{name}")
+        lines = [".services exit,get", ".stack 16", ".data", ".skip 8", ".text", *shape(parts)]
+        assembled(put(f"{folder}/{name[:-4]}.s", "".join(f"{line}\n" for line in lines)), f"{folder}/{name}")
     counts, times = measured(folder, 1, "verify", *files)
     wanted = [f"{name} of {count} words: accepted" for name, count in zip(files, words)]
-    judge.judge(counts == wanted, f"{shape.__name__} isn't accepted, or has other words")
+    tally.same(shape.__name__, counts, wanted)
     if len(times) == 2:
         quarter, whole = (int(line.split()[-2]) for line in times)
         size = os.path.getsize(f"{folder}/{files[1]}")
-        told = f"{whole} us, {whole / size:.2f} a byte, {whole / max(quarter, 1):.1f} times the {quarter} us of a quarter"
-        print(f"{shape.__name__}: {told}", file=sys.stderr)
+        rates = f"{whole / size:.2f} a byte, {whole / max(quarter, 1):.1f} times the {quarter} us of a quarter"
+        print(f"{shape.__name__}: {whole} us, {rates}", file=sys.stderr)
 
 
-def measure_words(judge, turns):
+def measure_words(tally, turns):
+    """Words and results."""
     for name in ("words", "results"):
         counts, _ = measured(TOP, turns, name)
-        judge.judge(len(counts) == 1 and counts[0].startswith(f"{1000 * turns} {name}: checksum "), f"no checksum of {name}")
+        wanted = f"{1000 * turns} {name}: checksum "
+        tally.check(name, len(counts) == 1 and counts[0].startswith(wanted), f"wanted '{wanted}..', came {counts}")
 
 
 def measure(turns, folder):
-    judge = Judge()
-    measure_loops(judge, turns, folder)
+    """All of it."""
+    tally = Tally("speed")
+    measure_loops(tally, turns, folder)
     for shape in SHAPES:
-        measure_shape(judge, shape, folder)
-    measure_words(judge, turns)
-    print(f"{judge.passed} passed, {judge.failed} failed")
-    return 1 if judge.failed else 0
+        measure_shape(tally, shape, folder)
+    measure_words(tally, turns)
+    return tally.end()
 
 
 def main(words):
-    if len(words) > 2 or not all(it.isdecimal() for it in words[:1]):
-        print(__doc__.split("\n")[0], file=sys.stderr)
-        return 3
-    turns = int(words[0]) if words else 100_000
-    if len(words) == 2:
-        return measure(turns, os.path.abspath(words[1]))
+    reader = Words(__doc__)
+    reader.add_argument("turns", nargs="?", type=int, default=100_000)
+    reader.add_argument("folder", nargs="?")
+    asked = reader.parse_args(words)
+    built("sandbox")
+    if asked.folder:
+        return measure(asked.turns, os.path.abspath(asked.folder))
     with tempfile.TemporaryDirectory() as folder:
-        return measure(turns, folder)
+        return measure(asked.turns, folder)
 
 
 if __name__ == "__main__":

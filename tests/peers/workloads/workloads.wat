@@ -1,4 +1,4 @@
-;; The ten workloads in WebAssembly text; tests/peers puts (export "run" (func $NAME)) at its end.
+;; The ten workloads in WebAssembly text; tests/run peers puts (export "run" (func $NAME)) at its end.
 (module
  (memory 200)
  ;; d at 0 (262,144 bytes), input at 262144 (4,000,000 bytes), output at 5000000

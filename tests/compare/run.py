@@ -1,22 +1,24 @@
 #!/usr/bin/env python3
-"""usage: tests/compare [--every N | --machine FILE TURNS [WINDOWS]]
+"""usage: tests/compare/run.py [--every N | --machine FILE TURNS [WINDOWS]]
 
-Compares the turns and walks of crates/v8_turns/stdin with QEMU's LEON3 (`qemu-system-sparc`): sets its state, runs one
-instruction by its gdb stub, and reads registers, memory and fault status back. Of every N lines it takes one, or all. Tells what it
-compared, what it left out and why, what differs by design (docs/comparing.md), and each other difference. The last line is
-'N passed, M failed'; the status is 0 where none failed, 2 where QEMU isn't there. With --machine it runs so many turns of what is in
-FILE in QEMU, and prints their states as vectors/traces has them: the fault status, page entries and stores aren't told, and a slot
-that is annulled is no turn."""
+Compares the turns and walks of crates/v8_turns/stdin with QEMU's LEON3 (`qemu-system-sparc`): sets its state, runs
+one instruction by its gdb stub, and reads registers, memory and fault status back. Of every N lines it takes one, or
+all. Tells what it compared, what it left out and why, what differs by design (docs/comparing.md), and each other
+difference. Where QEMU isn't there, nothing is tried, and the status is 2. With --machine it runs so many turns of
+what is in FILE in QEMU, and prints their states as vectors/traces has them: the fault status, page entries and stores
+aren't told, and a slot that is annulled is no turn."""
 import collections
 import os
 import re
 import sys
 
 sys.dont_write_bytecode = True
-TOP = os.path.dirname(os.path.dirname(os.path.abspath(__file__)))
-sys.path[:0] = [f"{TOP}/tests/lib", f"{TOP}/tools/vectors"]
+TESTS = os.path.dirname(os.path.dirname(os.path.abspath(__file__)))
+sys.path[:0] = [f"{TESTS}/lib", f"{os.path.dirname(TESTS)}/tools/vectors"]
 import qemu
 from qemu import CONTEXT, CONTROL, MOVED, NPC, PC, PSR, RAM, TABLE, TBR, WIM, Ended, Leon, Y
+from run import TOP, text_of
+from tally import PASSED, Tally, Words
 from v8_board import NAMES
 from v8_machine import Start
 from v8_model import row_of
@@ -29,7 +31,8 @@ CODE_PAGE = 0xFF000000
 
 
 class Turn:
-    """A line `turn N FIELD .. -> EVENT FIELD ..`: what it tells of the states before and after, by the names of the line."""
+    """A line `turn N FIELD .. -> EVENT FIELD ..`: what it tells of the states before and after, by the names of the
+    line."""
 
     def __init__(self, line):
         front, back = line.split(" -> ")
@@ -107,18 +110,20 @@ def is_exchange(turn):
     return (turn.row or "").startswith(("Swap", "LoadStore"))
 
 
-# What differs by design: a name, as docs/comparing.md has it, and whether a turn's differences are of that kind. What an access to a
-# space does that is a LEON3's own isn't looked at.
+# What differs by design: a name, as docs/comparing.md has it, and whether a turn's differences are of that kind. What
+# an access to a space does that is a LEON3's own isn't looked at.
 KNOWN = {
     "impl and ver": lambda it, found: it.row == "ReadPsr" and [want ^ got for _, want, got in found] == [0xF3000000],
     "WRTBR and tt": lambda it, found: it.row == "WriteTbr" and only(found, "tbr"),
     "order of RETT's traps": lambda it, found: it.row == "Rett" and it.trap in (2, 3, 6) and trap_of(found) == 7,
     "RETT to an invalid window": lambda it, found: it.event == "error=06" and only(found, "error mode"),
     "space A in user mode": lambda it, found: space(it) == 0x0A and it.trap == 3,
-    "privileged before illegal": lambda it, found: (it.row or "").endswith("Alternate") and it.trap == 3 and trap_of(found) == 2,
+    "privileged before illegal": lambda it,
+    found: (it.row or "").endswith("Alternate") and it.trap == 3 and trap_of(found) == 2,
     "instruction spaces": lambda it, found: space(it) in (8, 9),
     "unknown spaces": lambda it, found: space(it) not in (None, 8, 9, 10, 11),
-    "JMPL to no multiple of 4": lambda it, found: it.row == "Jmpl" and [got for _, _, got in found] == [it.before["pc"]],
+    "JMPL to no multiple of 4": lambda it,
+    found: it.row == "Jmpl" and [got for _, _, got in found] == [it.before["pc"]],
     "operand of a trap": lambda it, found: it.row == "Ticc" and [got for _, _, got in found] == [address_of(it)],
     "ta 0 with traps disabled": lambda it, found: it.event == "error=80" and trap_of(found) == 0,
     "unassigned opcodes of the coprocessor": lambda it, found: it.row == "CpMemory" and trap_of(found) == 2,
@@ -191,13 +196,15 @@ class Bench:
 
     def differences(self, turn, names, places):
         leon, wanted = self.leon, turn.after
-        pc, npc = (wanted["npc"], wanted["npc"] + 4 & 0xFFFFFFFF) if wanted.get("annul") else (wanted["pc"], wanted["npc"])
+        pc, npc = (wanted["npc"], wanted["npc"] + 4 & 0xFFFFFFFF) if wanted.get("annul") else (wanted["pc"],
+                                                                                               wanted["npc"])
         read = leon.registers()
         tells = [("psr", wanted["psr"], read[PSR] & PSR_BITS), ("pc", pc, read[PC]), ("npc", npc, read[NPC])]
         tells += [(name, wanted[name], read[STATE[name]]) for name in ("wim", "tbr", "y")]
         for number in range(1, 8):
             tells.append((f"g{number}", wanted.get(f"g{number}", 0), read[number]))
-        for window in sorted({int(it.partition(".")[2]) for it in names if "." in it} | {turn.before["psr"] & 31, wanted["psr"] & 31}):
+        for window in sorted({int(it.partition(".")[2]) for it in names if "." in it} | {turn.before["psr"] & 31,
+                                                                                         wanted["psr"] & 31}):
             registers = leon.enter(window)
             for number in range(8, 24):
                 name = f"{'ol'[number // 8 - 1]}{number % 8}.{window}"
@@ -212,7 +219,8 @@ class Bench:
         return [it for it in tells if it[1] != it[2]]
 
     def restore(self, places):
-        """RAM of the ground. Where a table was another, what QEMU keeps of it is dropped, as it is when the context changes."""
+        """RAM of the ground. Where a table was another, what QEMU keeps of it is dropped, as it is when the context
+        changes."""
         for place in places:
             self.leon.put(place, moved(self.ground.get(place, 0)))
         if any(map(self.is_table, places)):
@@ -235,7 +243,8 @@ class Walk:
         self.at, self.va = int(self.asked["at"]), int(self.asked["va"], 16)
         self.value = int(self.asked.get("value", self.told.get("value", "0")), 16)
         self.before = {int(name[1:9], 16): int(word, 16) for name, word in self.asked.items() if name[0] == "["}
-        self.after = {**self.before, **{int(name[1:9], 16): int(word, 16) for name, word in self.told.items() if name[0] == "["}}
+        self.after = {**self.before,
+                      **{int(name[1:9], 16): int(word, 16) for name, word in self.told.items() if name[0] == "["}}
         self.status = int(self.told.get("fsr", "0"), 16)
 
     def is_known_table(self, place):
@@ -315,42 +324,70 @@ class WalkBench:
 
 def lines_of(every):
     """The ground of turns, and of every so many lines one: turns and walks."""
-    with open(f"{TOP}/crates/v8_turns/stdin", encoding="ascii") as file:
-        lines = file.read().splitlines()
+    lines = text_of(f"{TOP}/crates/v8_turns/stdin").splitlines()
     ground = {int(it[8:16], 16): int(it[18:], 16) for it in lines if it.startswith("ground")}
     turns, walks = ([it for it in lines if it.startswith(kind)][::every] for kind in ("turn", "walk"))
     return ground, [Turn(it) for it in turns], [Walk(it) for it in walks]
 
 
-def compare_turns(ground, turns):
-    outs, differ, same, benches = collections.Counter(), collections.defaultdict(list), 0, {}
+class Differences:
+    """What came of turns or of walks: how many are the same, which were left out and why, and which differ, by
+    kind."""
+
+    def __init__(self):
+        self.same, self.outs, self.differ = 0, collections.Counter(), collections.defaultdict(list)
+
+    def note(self, item, reason, found, kind):
+        """Takes in one of them."""
+        if reason:
+            self.outs[reason] += 1
+        elif found:
+            self.differ[kind].append((item, found))
+        else:
+            self.same += 1
+
+    def tell(self, tally, name):
+        """Tells what was left out and what differs; counts what is the same, and what differs that shouldn't."""
+        for reason, count in self.outs.items():
+            print(f"left out {count}: {reason}")
+        for key, items in sorted(self.differ.items(), key=lambda it: -len(it[1])):
+            if key in KNOWN or key == LARGE_PAGE:
+                print(f"differ {len(items)}: {key}")
+                continue
+            for item, found in items:
+                told = " ".join(f"{field} wanted {it:X}, came {hexadecimal(got)};" for field, it, got in found)
+                tally.check(f"{key}: {item.line[:400]}", False, told[:300])
+        tally.passes(self.same)
+        print(f"{name}: {self.same} are the same")
+
+
+def hexadecimal(it):
+    """A number in hexadecimal, a text as it is."""
+    return it if isinstance(it, str) else f"{it:X}"
+
+
+def compare_turns(tally, ground, turns):
+    """The turns in LEON3s of as many windows as each has."""
+    told, benches = Differences(), {}
     for turn in turns:
         reason = left_out(turn)
         found = [] if reason else compared(benches, ground, turn)
-        if reason:
-            outs[reason] += 1
-        elif found:
-            differ[known(turn, found) or (turn.row, turn.event, names_of(found))].append((turn, found))
-        else:
-            same += 1
+        told.note(turn, reason, found, found and (known(turn, found) or f"{turn.row} {turn.event} {names_of(found)}"))
     for bench in benches.values():
         bench.leon.close()
-    return same, tell(outs, differ)
+    told.tell(tally, "turns")
 
 
-def compare_walks(walks):
-    outs, differ, same, bench = collections.Counter(), collections.defaultdict(list), 0, WalkBench()
+def compare_walks(tally, walks):
+    """The walks in one LEON3."""
+    told, bench = Differences(), WalkBench()
     for walk in walks:
         reason = walk_left_out(walk)
         found = [] if reason else bench.run(walk)
-        if reason:
-            outs[reason] += 1
-        elif found:
-            differ[walk_known(walk, found) or ("walk", walk.asked["access"], names_of(found))].append((walk, found))
-        else:
-            same += 1
+        kind = found and (walk_known(walk, found) or f"walk {walk.asked['access']} {names_of(found)}")
+        told.note(walk, reason, found, kind)
     bench.leon.close()
-    return same, tell(outs, differ)
+    told.tell(tally, "walks")
 
 
 def started(machine, windows):
@@ -380,7 +417,8 @@ def states(machine, turns, windows):
     leon, known = started(machine, windows), {}
     read, trap = leon.registers(), None
     for turn in range(turns + 2):
-        head = f"{min(turn, turns)} {read[PSR] & 31:02d} {read[PC]:08X} {read[NPC]:08X} {0 if 0 < turn <= turns else '-'}"
+        annulled = 0 if 0 < turn <= turns else "-"
+        head = f"{min(turn, turns)} {read[PSR] & 31:02d} {read[PC]:08X} {read[NPC]:08X} {annulled}"
         head += f" {read[PSR] & PSR_BITS:08X} {read[WIM]:08X} {read[TBR]:08X} {read[Y]:08X} --------"
         before = read
         word = f"{leon.word(read[PC]):08X}" if 0 < turn <= turns else "--------"
@@ -406,25 +444,6 @@ def changes(known, read, windows):
     return told
 
 
-def main(words):
-    if len(words) in (3, 4) and words[0] == "--machine" and all(it.isdigit() for it in words[2:]) and qemu.is_there():
-        with open(words[1], encoding="ascii") as file:
-            states(Start(file.read()), int(words[2]), *map(int, words[3:] or ["8"]))
-        return 0
-    every = int(words[1]) if len(words) == 2 and words[0] == "--every" and words[1].isdigit() else 0
-    if words and not every:
-        print(__doc__.split("\n", maxsplit=1)[0], file=sys.stderr)
-        return 3
-    if not qemu.is_there():
-        print(f"{qemu.PROGRAM} isn't there")
-        return 2
-    ground, turns, walks = lines_of(every or 1)
-    counts = [compare_turns(ground, turns), compare_walks(walks)]
-    passed, failed = (sum(it) for it in zip(*counts))
-    print(f"{counts[0][0]} turns and {counts[1][0]} walks are the same", f"{passed} passed, {failed} failed", sep="\n")
-    return 1 if failed else 0
-
-
 def error_mode(ground, turn):
     """What differs of a turn that ends in error mode: QEMU ends there, and names the trap."""
     bench, wanted = Bench(turn.windows, ground), turn.trap
@@ -440,7 +459,8 @@ def error_mode(ground, turn):
 
 
 def compared(benches, ground, turn):
-    """What differs of a turn. Where anything does, the registers of the LEON3 are cleared, since others may have been written."""
+    """What differs of a turn. Where anything does, the registers of the LEON3 are cleared, since others may have been
+    written."""
     if turn.event.startswith("error"):
         return error_mode(ground, turn)
     if turn.windows not in benches:
@@ -456,20 +476,24 @@ def compared(benches, ground, turn):
         return [("QEMU", 0, said[0][:100] if said else "ended")]
 
 
-def tell(outs, differ):
-    """Tells what was left out and what differs, and how many turns differ that shouldn't."""
-    failed = 0
-    for reason, count in outs.items():
-        print(f"left out {count}: {reason}")
-    for key, items in sorted(differ.items(), key=lambda it: -len(it[1])):
-        if key in KNOWN or key == LARGE_PAGE:
-            print(f"differ {len(items)}: {key}")
-            continue
-        turn, found = items[0]
-        failed += len(items)
-        wanted = " ".join(f"{name} {it:X}, not {got if isinstance(got, str) else f'{got:X}'};" for name, it, got in found)
-        print(f"{len(items)} {key}: {wanted[:300]}\n    {turn.line[:400]}")
-    return failed
+def main(words):
+    reader = Words(__doc__)
+    reader.add_argument("--every", type=int, default=1)
+    reader.add_argument("--machine", nargs="+", metavar="WORD")
+    asked, tally = reader.parse_args(words), Tally("compare")
+    if asked.every < 1 or asked.machine and (len(asked.machine) not in (2, 3)
+                                             or not "".join(asked.machine[1:]).isdigit()):
+        reader.error("a count is wanted, or a file, turns and windows")
+    if not qemu.is_there():
+        tally.skip("turns, walks and machines", qemu.PROGRAM)
+        return tally.end()
+    if asked.machine:
+        states(Start(text_of(asked.machine[0])), *map(int, [*asked.machine[1:], "8"][:2]))
+        return PASSED
+    ground, turns, walks = lines_of(asked.every)
+    compare_turns(tally, ground, turns)
+    compare_walks(tally, walks)
+    return tally.end()
 
 
 if __name__ == "__main__":

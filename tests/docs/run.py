@@ -1,0 +1,179 @@
+#!/usr/bin/env python3
+"""usage: tests/docs/run.py [FILE ..]
+
+Runs the commands that README.md and docs/*.md (or the FILEs) show, and compares what they print; docs/development.md
+says how a page shows them. Looks up the files and headings that the pages link to, counts the lines of the files
+whose lines a table tells, looks whether the map's tables have a row for each crate, and whether docs/contracts.md is
+what tools/contracts prints."""
+import glob
+import os
+import re
+import subprocess
+import sys
+import tempfile
+
+sys.dont_write_bytecode = True
+sys.path.insert(0, f"{os.path.dirname(os.path.dirname(os.path.abspath(__file__)))}/lib")
+from crates import TOP, crates
+from run import built, put, text_of
+from tally import Tally, Words
+
+# The seconds that a command may take, above all one that waits for a keystroke.
+PATIENCE = 60
+
+FENCE = re.compile(r"^(\s*)```(.*)$")
+
+
+class Broken(Exception):
+    """A page whose blocks can't be read."""
+
+
+def blocks(text):
+    """Yields each fenced block of a page: its words, the number of its first line, and its lines."""
+    words, number, lines, indent = None, 0, [], ""
+    for at, line in enumerate(text.split("\n"), 1):
+        fence = FENCE.match(line)
+        if fence and words is None:
+            indent, words, number, lines = fence.group(1), fence.group(2).split(), at + 1, []
+        elif fence:
+            yield words, number, lines
+            words = None
+        elif words is not None:
+            lines.append(line[len(indent):] if line.startswith(indent) else line)
+    if words is not None:
+        raise Broken(f"the block of line {number} has no end")
+
+
+def commands(number, lines):
+    """Yields each command of a console block: its line's number, the command, and the lines that it has to print."""
+    if not lines or not lines[0].startswith("$ "):
+        raise Broken(f"line {number}: a console block begins with a command")
+    at = 0
+    while at < len(lines):
+        start, command, printed = number + at, lines[at][2:], []
+        at += 1
+        while at < len(lines) and not lines[at].startswith("$ "):
+            printed.append(lines[at])
+            at += 1
+        yield start, command, printed
+
+
+def agrees(wanted, printed):
+    """Whether lines are those that are wanted, where '..' stands for any lines."""
+    if not wanted:
+        return not printed
+    if wanted[0] == "..":
+        return any(agrees(wanted[1:], printed[at:]) for at in range(len(printed) + 1))
+    return bool(printed) and printed[0] == wanted[0] and agrees(wanted[1:], printed[1:])
+
+
+def printed_by(command, folder):
+    """The lines that a command prints, on both streams, at a standard input on which nothing ever comes."""
+    silent, kept_open = os.pipe()
+    try:
+        process = subprocess.Popen(["bash", "-c", command], cwd=folder, stdin=silent, stdout=subprocess.PIPE,
+                                   stderr=subprocess.STDOUT, start_new_session=True)
+        try:
+            printed = process.communicate(timeout=PATIENCE)[0]
+        except subprocess.TimeoutExpired:
+            os.killpg(process.pid, 9)
+            process.communicate()
+            return [f"(no end after {PATIENCE} seconds: it may wait for a keystroke)"]
+    finally:
+        os.close(silent)
+        os.close(kept_open)
+    return printed.decode("utf-8", "replace").removesuffix("\n").split("\n") if printed else []
+
+
+def play(tally, page, folder):
+    """Runs a page in a folder, and counts whether each of its commands printed what the page shows."""
+    for words, number, lines in blocks(text_of(page)):
+        if len(words) == 2:
+            put(os.path.join(folder, os.path.basename(words[1])), "\n".join(lines) + "\n")
+        if words[:1] == ["console"]:
+            for start, command, wanted in commands(number, lines):
+                came = printed_by(command, folder)
+                name = f"{os.path.relpath(page, TOP)}:{start}: $ {command}"
+                tally.check(name, agrees(wanted, came), f"wanted {wanted}, came {came}")
+
+
+def headings(text):
+    """The names under which the headings of a page are linked to."""
+    shown = re.sub(r"^```.*?^```$", "", text, flags=re.M | re.S)
+    return {re.sub(r"[^\w\- ]", "", it.lower()).replace(" ", "-") for it in re.findall(r"^#+ (.*)$", shown, re.M)}
+
+
+def dead_links(page):
+    """Yields the links of a page that lead to no file of the repository, or to no heading of a page."""
+    for link in re.findall(r"\]\(([^)]+)\)", text_of(page)):
+        path, _, heading = link.partition("#")
+        target = os.path.normpath(os.path.join(os.path.dirname(page), path)) if path else page
+        if "://" in link:
+            continue
+        if not os.path.exists(target) or heading and heading not in headings(text_of(target)):
+            yield link
+
+
+def lines_of(folder, name):
+    """How many lines a file of definitions has; none where it isn't there."""
+    path = f"{TOP}/crates/{folder}/{name}.antt"
+    return text_of(path).count("\n") if os.path.exists(path) else 0
+
+
+def wrong_counts(page):
+    """Yields the rows of a page's tables whose files' lines aren't as the row says:
+    '| .. | `CRATE/specs`: NAME LINES, .. | SUM |'."""
+    rows = [line.strip().strip("|").split("|") for line in text_of(page).split("\n") if line.startswith("|")]
+    for row in rows:
+        if len(row) == 3 and re.match(r" *`\w+/specs`: ", row[1]):
+            told = [(folder, name, int(count)) for folder, names in re.findall(r"`(\w+/specs)`: ([^;]*)", row[1])
+                    for name, count in re.findall(r"(\w+) (\d+)", names)]
+            counted = [(folder, name, lines_of(folder, name)) for folder, name, _ in told]
+            if told != counted or sum(it[2] for it in counted) != int(row[2].strip().replace(",", "")):
+                yield f"{row[0].strip()}: {', '.join(f'{name} {count}' for _, name, count in counted)}"
+
+
+def wrong_rows(page):
+    """Yields the crates that don't stand in just one row of a page's tables of crates, and what stands there and is
+    none."""
+    tables = re.findall(r"^\| crate \|.*\n((?:\|.*\n)+)", text_of(page), re.M)
+    told = [name for table in tables for row in table.splitlines()
+            for name in re.findall(r"`(\w+)`", row.split("|")[1])]
+    known = crates()
+    yield from sorted(name for name in {*told, *known} if told.count(name) != 1 or name not in known)
+
+
+def try_page(tally, page):
+    """A page's commands, links and tables."""
+    name = os.path.relpath(page, TOP)
+    with tempfile.TemporaryDirectory() as folder:
+        for it in os.listdir(TOP):
+            os.symlink(f"{TOP}/{it}", f"{folder}/{it}")
+        try:
+            play(tally, page, folder)
+        except Broken as fault:
+            tally.check(name, False, str(fault))
+    for link in dead_links(page):
+        tally.check(name, False, f"nothing stands at {link}")
+    for row in wrong_counts(page):
+        tally.check(name, False, f"other lines: {row}")
+    for crate in wrong_rows(page) if name == "docs/map.md" else ():
+        tally.check(name, False, f"wanted one row for each crate and no other, came {crate}")
+    if name == "docs/contracts.md":
+        is_same = subprocess.run([f"{TOP}/tools/contracts", "--check"], check=False).returncode == 0
+        tally.check(name, is_same, "wanted what tools/contracts prints")
+
+
+def main(words):
+    reader = Words(__doc__)
+    reader.add_argument("files", nargs="*")
+    pages = [os.path.abspath(it) for it in reader.parse_args(words).files]
+    built("sandbox", "inspect", "host", "fit")
+    tally = Tally("docs")
+    for page in pages or [f"{TOP}/README.md", *sorted(glob.glob(f"{TOP}/docs/*.md"))]:
+        try_page(tally, page)
+    return tally.end()
+
+
+if __name__ == "__main__":
+    sys.exit(main(sys.argv[1:]))
