@@ -1,6 +1,6 @@
 /* Stands before the C library in a process: refuses one growth of memory, or lets one read or write of a file fail. Which one it is,
    REFUSED says, as `growth 7`, `read 2`, `write 1` or `error 1`, a write to standard error; the counts of all that were asked for go
-   to the file COUNTS, which has room for them. tests/refused-growths builds and uses it. */
+   to the file COUNTS, which has room for them. the suite growths builds and uses it. */
 #include <errno.h>
 #include <fcntl.h>
 #include <stdio.h>

@@ -42,6 +42,8 @@ def run(words, given=b"", seconds=SECONDS, **how):
         ran = subprocess.run(words, timeout=seconds, check=False, **source, **streams)
     except subprocess.TimeoutExpired:
         return Ran(None, b"", f"no end after {seconds} seconds".encode())
+    except FileNotFoundError as error:
+        return Ran(127, b"", f"{error.filename} isn't there".encode())
     return Ran(ran.returncode, ran.stdout or b"", ran.stderr or b"")
 
 

@@ -73,6 +73,15 @@ class Words(argparse.ArgumentParser):
         super().__init__()
         self.doc = doc.strip()
 
+    def add_names(self, words, known):
+        """Adds words that have to be of these names; none may be given."""
+        def checked(name):
+            if name not in known:
+                raise argparse.ArgumentTypeError(f"{name} is none of {', '.join(known)}")
+            return name
+
+        self.add_argument(words, nargs="*", type=checked)
+
     def format_usage(self):
         return f"{self.doc.partition(f'{os.linesep}{os.linesep}')[0]}\n"
 
