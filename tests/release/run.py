@@ -1,0 +1,171 @@
+#!/usr/bin/env python3
+"""usage: tests/release/run.py
+
+Makes a release of this tree as it is committed, installs it below a folder of its own, and runs it from another folder
+without the tree and without a kit; makes it once more and compares the bytes; and tries to install one that was
+changed. The gate isn't run: it is told what a gate that passed prints, so the file that is made is thrown away. The
+programs have to stand built, or are built first; the library for C has to stand."""
+import os
+import shutil
+import sys
+import tempfile
+
+sys.dont_write_bytecode = True
+TESTS = os.path.dirname(os.path.dirname(os.path.abspath(__file__)))
+sys.path.insert(0, f"{TESTS}/lib")
+from run import EXAMPLES, TOP, built, bytes_of, has, put, run, text_of
+from tally import NOT_BUILT, Tally, Words
+
+VERSION = text_of(f"{TOP}/VERSION").strip()
+NAME = f"geyserpan-{VERSION}-x86_64-linux"
+LIBRARY = f"{TOP}/crates/geyserpan/out/libgeyserpan.a"
+# What stands built, and is taken along.
+BUILT = [f"crates/{it}/out/{it}{end}" for it in ("sbx_tool", "inspect", "host", "fit") for end in ("", ".made")]
+BUILT += [f"crates/geyserpan/out/libgeyserpan.a{end}" for end in ("", ".made")]
+MAKE = "tools/release/make"
+VECTORS = ("words-and-results.txt", "verdicts-and-runs.txt", "turns-and-walks.txt", "traces/deep.4", "README.md")
+PAGES = "sandbox.1 inspect.1 host.1 fit.1 geyserpan-cc.1 geyserpan-image.5 geyserpan-source.5".split()
+HI = '#include "plug.h"\nint main(void) { put(72); put(105); return 0; }\n'
+
+
+class Place:
+    """A clone that a release is made of, and where it is installed, away from the tree."""
+
+    def __init__(self, tally, work):
+        self.tally, self.work, self.clone, self.prefix = tally, work, f"{work}/clone", f"{work}/prefix"
+        self.share = f"{self.prefix}/share/geyserpan"
+        self.unpacked = f"{work}/{NAME}"
+
+    def lay_out(self):
+        """A clone, since what differs from the commit has no release, with what stands built."""
+        os.mkdir(f"{self.work}/elsewhere")
+        cloned = run(["git", "clone", "-q", TOP, self.clone], seconds=None)
+        if cloned.status:
+            raise SystemExit(cloned.said)
+        for path in BUILT:
+            os.makedirs(os.path.dirname(f"{self.clone}/{path}"), exist_ok=True)
+            shutil.copy2(f"{TOP}/{path}", f"{self.clone}/{path}")
+
+    def make(self, *words):
+        """Makes a release, or doesn't."""
+        return run([MAKE, *words], cwd=self.clone, seconds=None)
+
+    def apart(self, *words, given=b""):
+        """Runs a command of the release as someone would who has neither the tree nor a kit."""
+        path = f"{self.prefix}/bin:/usr/bin:/bin"
+        return run(["env", "-i", f"PATH={path}", *words], given, cwd=f"{self.work}/elsewhere")
+
+    def has(self, *paths):
+        """Files of the installed release, none of which is empty."""
+        for path in paths:
+            at = f"{self.prefix}/{path}"
+            self.tally.check(f"installed: {path}", os.path.exists(at) and os.path.getsize(at),
+                             "wanted a file, came none")
+
+
+def try_making(place, tally):
+    """A release is made where the gate passed, and the same tree gives the same bytes."""
+    passed = put(f"{place.work}/gate", "12 passed, 0 failed\n")
+    broken = put(f"{place.work}/broken", "12 passed, 1 failed\n")
+    for name, words, status, told in (
+        ("a gate that failed", (VERSION, "--gate", broken), 1, "the gate has not passed"),
+        ("another version than the tree's", ("9.9.9", "--gate", passed), 1, "doesn't say 9.9.9"),
+        ("no words", (), 3, "usage:"),
+    ):
+        ran = place.make(*words)
+        tally.check(name, ran.status == status and told in ran.said, f"wanted {status} and '{told}', came {ran}")
+    files = []
+    for _ in range(2):
+        ran = place.make(VERSION, "--gate", passed)
+        tally.check(MAKE, ran.status == 0, f"wanted a release, came {ran}")
+        files.append(bytes_of(f"{place.clone}/out/{NAME}.tar.gz") if ran.status == 0 else None)
+    tally.check("bytes of the same tree", files[0] == files[1], "wanted the same, came others")
+    return bool(files[0])
+
+
+def try_installing(place, tally):
+    """What is unpacked is installed; the clone is gone from then on."""
+    ran = run(["tar", "-xzf", f"{place.clone}/out/{NAME}.tar.gz", "-C", place.work])
+    tally.check("tar", ran.status == 0, ran.said)
+    ran = run(["./install", place.prefix], cwd=place.unpacked)
+    tally.check("install", ran.status == 0, ran.said)
+    shutil.rmtree(place.clone)
+
+
+def try_programs(place, tally):
+    """The installed programs, away from the tree."""
+    hello, echo = (f"{place.share}/examples/{it}/{it}" for it in ("hello", "echo"))
+    tally.same("sandbox run hello", place.apart("sandbox", "run", f"{hello}.img").out, b"Hi")
+    tally.same("sandbox run echo", place.apart("sandbox", "run", f"{echo}.img", given=b"abc").out, b"abc")
+    tally.same("inspect image hello", place.apart("inspect", "image", f"{hello}.img").out,
+               bytes_of(f"{EXAMPLES}/hello/hello.told"))
+    ran = place.apart("inspect", "page", "--source", f"{hello}.s", f"{hello}.img")
+    tally.check("inspect page hello", ran.status == 0 and b"\nvaccepted\n" in ran.out,
+                f"wanted a page, came {ran.said[:300]}")
+    tally.same("host hello", place.apart("host", f"{hello}.img").out, b"Hi")
+    for name in ("inspect", "host", "fit", "geyserpan-cc"):
+        tally.same(f"{name} --version", place.apart(name, "--version").out.split(b"\n")[0],
+                   f"version {VERSION}".encode())
+    if has("sparc64-linux-gnu-gcc") or has("clang"):
+        put(f"{place.work}/elsewhere/hi.c", HI)
+        tally.same("geyserpan-cc", place.apart("geyserpan-cc", "hi.c", "-o", "hi.img").out, b"accepted\n")
+        tally.same("sandbox run hi", place.apart("sandbox", "run", "hi.img").out, b"Hi")
+    else:
+        tally.skip("the way from C", "a compiler for SPARC")
+    try_files(place, tally)
+
+
+def try_files(place, tally):
+    """`inspect --version FILE` tells which file of the release one is."""
+    strange = put(f"{place.work}/strange", "x")
+    for path, status, told in ((f"{place.prefix}/bin/sandbox", 0, "bin/sandbox"), (strange, 1, "no file")):
+        ran = place.apart("inspect", "--version", path)
+        tally.same(f"inspect --version {os.path.basename(path)}", (ran.status, ran.out.decode().split("\n")[3:4]),
+                   (status, [f"{path} is {told} of this release"]))
+
+
+def try_contents(place, tally):
+    """The library, vectors, pages and sums of the installed release, and hosts that are built against it."""
+    place.has("include/geyserpan.h", "lib/libgeyserpan.a", "lib/libgeyserpan.so.1")
+    place.has(*(f"share/geyserpan/vectors/{it}" for it in VECTORS))
+    place.has(*(f"share/man/man{it[-1]}/{it}" for it in PAGES))
+    ran = run([sys.executable, f"{TESTS}/embed/run.py", "--installed", place.prefix], seconds=None)
+    tally.check("embed --installed", ran.status == 0, ran.said[-800:])
+    lines = text_of(f"{place.share}/SHA256SUMS").splitlines()
+    sums = "".join(f"{it}\n" for it in lines if not it.endswith("  install"))
+    ran = run(["sha256sum", "--quiet", "--check"], sums.encode(), cwd=place.prefix)
+    tally.check("sums of installed files", ran.status == 0, ran.said)
+
+
+def try_changed(place, tally):
+    """A release that was changed isn't installed."""
+    with open(f"{place.unpacked}/bin/sandbox", "ab") as file:
+        file.write(b"x")
+    ran = run([f"{place.unpacked}/install", f"{place.work}/other"])
+    is_there = os.path.exists(f"{place.work}/other")
+    tally.check("install of a changed release", ran.status == 1 and not is_there, f"wanted status 1, came {ran}")
+    ran = run([f"{place.unpacked}/install"])
+    tally.check("install without words", ran.status == 3 and "usage: install PREFIX" in ran.said,
+                f"wanted usage, came {ran}")
+
+
+def main(words):
+    Words(__doc__).parse_args(words)
+    if not os.path.isfile(f"{LIBRARY}.made"):
+        print("the library for C has to be built first: tools/release/library PREFIX", file=sys.stderr)
+        return NOT_BUILT
+    built("sandbox", "inspect", "host", "fit")
+    tally = Tally("release")
+    with tempfile.TemporaryDirectory() as work:
+        place = Place(tally, work)
+        place.lay_out()
+        if try_making(place, tally):
+            try_installing(place, tally)
+            try_programs(place, tally)
+            try_contents(place, tally)
+            try_changed(place, tally)
+    return tally.end()
+
+
+if __name__ == "__main__":
+    sys.exit(main(sys.argv[1:]))
