@@ -1,4 +1,4 @@
-/* Makes the calls of geyserpan.h for tests/embed: calls MODE FILE [NUMBER ..]. What is wrong is told on standard error, with status 1. */
+/* Makes the calls of geyserpan.h for tests/run embed: calls MODE FILE [NUMBER ..]. What is wrong is told on standard error, with status 1. */
 #include "geyserpan.h"
 #include <pthread.h>
 #include <stdio.h>

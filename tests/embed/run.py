@@ -1,0 +1,607 @@
+#!/usr/bin/env python3
+"""usage: tests/embed/run.py [--cost] [PREFIX]
+       tests/embed/run.py --installed PREFIX
+
+Tries libgeyserpan from outside, as tools/release/library lays it out: into PREFIX, else into a folder that is
+removed. Compares what it exports and asks for, and the layout of its structs, with include/geyserpan.h; what it tells
+of each example image and of each refused source with the files beside them; outputs whole and in pieces of odd sizes;
+goes through refusals, empty handles and ends; refuses each growth of memory in turn by an allocator of its own; makes
+many runs under AddressSanitizer and valgrind, and in eight threads under ThreadSanitizer; and builds and runs the
+examples of embed/ in C, C++, Rust, Python and Go. What isn't there is skipped, and said so. Where the program of
+./sandbox is built, its verdicts and outputs are compared, too.
+
+With --installed it tries a release that `install PREFIX` has laid out: what the library exports, and the hosts of
+share/geyserpan/embed there, which find header and library by pkg-config.
+
+With --cost it only measures a run of three examples by `once`, by `run_image`, by `restart` and `step`, by
+`engine_run`, by `engine_begin` and `engine_step`, in microseconds of the processor and, where valgrind is there, in
+instructions, and by a process of the program; and the size of the library."""
+import glob
+import os
+import re
+import resource
+import shutil
+import subprocess
+import sys
+import tempfile
+
+sys.dont_write_bytecode = True
+SOURCES = os.path.dirname(os.path.abspath(__file__))
+sys.path.insert(0, f"{os.path.dirname(SOURCES)}/lib")
+from run import EXAMPLES, TOP, bytes_of, has, program, put, run, text_of
+from tally import FAILED, PASSED, Tally, Words, shown
+
+HEAP = {"rattle_alloc", "rattle_realloc", "rattle_dealloc"}
+PROGRAM = program("sbx_tool")
+LIBRARY = f"{TOP}/tools/release/library"
+TALLY = Tally("embed")
+# (bytes of a piece, bytes of room, turns of a step)
+PIECES = [(1, 1, 1000000), (2, 3, 7), (5, 3, 1000), (7, 4096, 1), (4096, 1, 4096), (65536, 65536, 1000000),
+          (3, 0, 100)]
+# The image reads three bytes and puts each one more out; where its input has ended it reads 2^32 - 1.
+REQUESTS, ANSWERS = b"HAL\n\nabc\nzyx w\n", b"IBM\n\0\0\0\nbcd\n{zy\n"
+
+
+def gives(name, ran, out, status=0, err=None):
+    """Counts whether a command ended so, with this output and, where they are given, these errors."""
+    wanted = (status, out, ran.err if err is None else err)
+    return TALLY.check(name, ran == wanted,
+                       f"wanted {shown(wanted[:2])}, came {shown(ran[:2])}: {shown(ran.err[-1500:])}")
+
+
+def made(words, what, **more):
+    """Whether a command that builds something succeeds."""
+    ran = run(words, seconds=None, **more)
+    return TALLY.check(what, ran.status == 0, f"wanted that it is built, came status {ran.status}: {ran.said[-1500:]}")
+
+
+def input_of(image):
+    """The input that stands beside an example."""
+    path = re.sub(r"\.\w+$", ".in", image)
+    return bytes_of(path) if os.path.exists(path) else b""
+
+
+def accepted():
+    """The example images that are accepted."""
+    return sorted(it for it in glob.glob(f"{EXAMPLES}/*/*.img") if "/refused/" not in it)
+
+
+# ---- the files of a release
+
+
+def bare_header():
+    """The header without its comments."""
+    return re.sub(r"/\*.*?\*/", "", text_of(f"{TOP}/include/geyserpan.h"), flags=re.S)
+
+
+def declared():
+    """The calls that the header declares."""
+    return set(re.findall(r"\b(geyserpan_\w+)\(", bare_header()))
+
+
+def shared_of(prefix):
+    """The shared object, whose name has the number of the calls."""
+    return f"{prefix}/lib/libgeyserpan.so.{re.search(r'define GEYSERPAN_ABI ([0-9]+)', bare_header()).group(1)}"
+
+
+def names_of(*words):
+    """The names that nm tells."""
+    lines = run(["nm", *words]).out.decode().splitlines()
+    return {it.split()[-1] for it in lines if it.split() and not it.endswith(":")}
+
+
+def tell_size(prefix):
+    """Prints how great the library is."""
+    archive, shared = f"{prefix}/lib/libgeyserpan.a", shared_of(prefix)
+    told = [int(it) for it in run(["size", "--total", archive]).out.decode().splitlines()[-1].split()[:3]]
+    print(f"libgeyserpan.a: {os.path.getsize(archive)} bytes, text {told[0]}, data {told[1]}, bss {told[2]}; "
+          f".so: {os.path.getsize(shared)} bytes, {len(names_of('-D', '--defined-only', shared))} symbols exported")
+
+
+def try_symbols(prefix):
+    """What the library exports and asks for."""
+    archive, shared = f"{prefix}/lib/libgeyserpan.a", shared_of(prefix)
+    name = os.path.basename(shared)
+    TALLY.same("names that libgeyserpan.a defines", names_of("-g", "--defined-only", archive), declared() | HEAP)
+    TALLY.same(f"names that {name} exports", names_of("-D", "--defined-only", shared), declared())
+    asked = names_of("-u", archive) - HEAP
+    of_c = {"memcpy", "memmove", "memset", "malloc", "realloc", "free", "_GLOBAL_OFFSET_TABLE_"}
+    TALLY.check("names that libgeyserpan.a asks for", asked <= of_c, f"wanted some of {of_c}, came {asked - of_c} too")
+    dynamic = run(["readelf", "-d", shared]).out.decode()
+    TALLY.check(f"{name}: its soname", f"soname: [{name}]" in dynamic, "wanted its name, came another one")
+    TALLY.check(f"{name}: its text", "TEXTREL" not in dynamic, "wanted none that is relocated")
+    needed = re.findall(r"NEEDED.*\[(.*)\]", dynamic)
+    TALLY.check(f"{name}: what it needs", needed in ([], ["libc.so.6"]), f"wanted the C library alone, came {needed}")
+    tell_size(prefix)
+
+
+def try_data(prefix):
+    """The library has no data that is written, in any object but that of the allocator; `.data.rel.ro` is written by
+    the loader alone."""
+    member, bad, kinds = "", [], (".data", ".bss", ".tdata", ".tbss")
+    for line in run(["size", "-A", f"{prefix}/lib/libgeyserpan.a"]).out.decode().splitlines():
+        words = line.split()
+        if "(ex " in line:
+            member = words[0]
+        elif member != "heap.o" and line.startswith(kinds) and not line.startswith(".data.rel.ro") and int(words[1]):
+            bad.append((member, words[0]))
+    TALLY.check("libgeyserpan.a: its data", member and not bad, f"wanted none of its own, came {bad}")
+
+
+# ---- the layout of structs
+
+SIZES = {"u8": 1, "u32": 4, "u64": 8}
+
+
+def laid_out(fields):
+    """The size of a struct of the crate and the offsets of its fields, as C lays them out."""
+    at, widest, offsets = 0, 1, []
+    for _, kind in fields:
+        inner, count = re.fullmatch(r"\[(\w+); (\d+)\]", kind).groups() if kind[0] == "[" else (kind, 1)
+        size = SIZES[inner]
+        at += -at % size
+        offsets.append(at)
+        at += size * int(count)
+        widest = max(widest, size)
+    return [at + -at % widest, *offsets]
+
+
+def structs_of_crate():
+    """The structs of the crate that C reads, by their names: their fields, and how they are laid out."""
+    found = {}
+    for path in glob.glob(f"{TOP}/crates/geyserpan/src/*.rt"):
+        structs = r"#\[repr\(C\)\]\n(?:#\[[^\n]*\]\n)*pub struct (\w+) \{\n(.*?)\n\}"
+        for name, body in re.findall(structs, text_of(path), re.S):
+            fields = re.findall(r"pub (\w+): ([^,\n]+),", body)
+            if fields:
+                found[name.lower()] = (fields, laid_out(fields))
+    return found
+
+
+def fields_of_header(name):
+    """The names of a struct's fields in the header."""
+    body = re.search(r"typedef struct \{([^}]*)\} geyserpan_%s;" % name, bare_header()).group(1)
+    lines = re.findall(r"uint\d+_t ([^;]+);", body)
+    return [re.sub(r"\[\d+\]", "", it) for line in lines for it in re.split(r",\s*", line)]
+
+
+def try_layout(work):
+    """The header's structs are those of the crate."""
+    words = ["cc", f"-I{TOP}/include", f"{SOURCES}/layout.c", "-o", f"{work}/layout"]
+    if not made(words, "layout.c"):
+        return
+    lines = [it.split() for it in run([f"{work}/layout"]).out.decode().splitlines()]
+    header, crate = {name: [int(it) for it in rest] for name, *rest in lines}, structs_of_crate()
+    TALLY.same("structs of the crate", set(crate), {"terms", "facts", "why", "report", "done"})
+    for name, (fields, wanted) in crate.items():
+        TALLY.same(f"struct {name}: its layout in the header", header.get(name), wanted)
+        TALLY.same(f"struct {name}: its fields in the header", fields_of_header(name), [it for it, _ in fields])
+
+
+# ---- what is told of images and sources
+
+
+def told_facts(path):
+    """The facts of an image, from the text that stands beside it."""
+    text = text_of(path)
+    services = re.search(r"^\.services (.*)$", text, re.M)
+    bits = sum({"exit": 1, "get": 2, "put": 4}[it] for it in services.group(1).split(",")) if services else 0
+    stack = re.search(r"^\.stack (\d+)$", text, re.M)
+    words, data = re.search(r"^! words of code: (\d+), bytes of data: (\d+)$", text, re.M).groups()
+    functions = re.findall(r"^\.function (.*)$", text, re.M)
+    depth = re.search(r"^\.depth (\d+)$", text, re.M)
+    version = 3 if depth else 2 if re.search(r"^\.region", text, re.M) else 1
+    facts = [version, bits, words, data, stack[1] if stack else 1, len(functions), functions[0].split(",")[4]]
+    return " ".join(map(str, [*facts, depth[1] if depth else 0]))
+
+
+def try_example(calls, image):
+    """An example: its verdict, its facts, what its source means, and its outputs, whole and in pieces."""
+    name, beside = os.path.basename(image), image.removesuffix(".img")
+    wanted, given, ran = bytes_of(f"{beside}.out"), input_of(image), text_of(f"{beside}.ran")
+    gives(f"{name}: the verdict", run([calls, "check", image]), b"accepted\n", err=b"")
+    gives(f"{name}: the facts", run([calls, "facts", image]), f"{told_facts(f'{beside}.told')}\n".encode())
+    gives(f"{name}: what its source means", run([calls, "assemble", f"{beside}.s"]), bytes_of(image))
+    exit_word = re.search(r"^end: exit with the word ([0-9A-F]{8})$", ran, re.M)[1]
+    turns = re.search(r"^turns: (\d+) of", ran, re.M)[1]
+    for windows in ("8", "4", "32"):
+        came = run([calls, "once", image, windows], given)
+        told = [int(it) for it in came.err.split()[:2]]
+        gives(f"{name} on {windows} windows", came, wanted)
+        TALLY.same(f"{name} on {windows} windows: the exit word", told[:1], [int(exit_word, 16)])
+        TALLY.check(f"{name}: turns", windows != "8" or told[1:] == [int(turns)], f"wanted {turns}, came {told[1:]}")
+    for piece in PIECES:
+        words = list(map(str, piece))
+        gives(f"{name} by pieces of {piece}", run([calls, "pieces", image, *words], given), wanted)
+        for windows in ("8", "4", "32"):
+            came = run([calls, "engine", image, windows, *words], given)
+            gives(f"{name} by the engine on {windows} windows and pieces of {piece}", came, wanted)
+    if os.path.exists(PROGRAM):
+        TALLY.same(f"{name}: sandbox run", run([PROGRAM, "run", image], given).out, wanted)
+
+
+def try_refused(calls, told, work):
+    """A source or an image that is refused, by the rule that stands beside it."""
+    name, image = os.path.basename(told)[:-5], told.replace(".told", ".img")
+    if not os.path.exists(image):
+        image = put(f"{work}/{name}.img", run([calls, "assemble", told.replace(".told", ".s")]).out)
+    wanted = text_of(told).splitlines()[0]
+    TALLY.same(f"{name}: the verdict", run([calls, "check", image]).out.decode().strip(), wanted)
+    if os.path.exists(PROGRAM):
+        TALLY.same(f"{name}: sandbox verify", run([PROGRAM, "verify", image]).err.decode().strip(), wanted)
+
+
+def try_examples(calls, work):
+    """All examples, and all that are refused."""
+    for image in accepted():
+        try_example(calls, image)
+    for told in sorted(glob.glob(f"{EXAMPLES}/refused/*.told")):
+        try_refused(calls, told, work)
+    if not os.path.exists(PROGRAM):
+        TALLY.skip("comparison with sandbox", "its program")
+
+
+# Sources with a fault, from docs/source.md: the line, and the cause.
+FAULTS = {
+    b"\n\xc3\n": "line 2: X1",
+    b"\n#\n": "line 2: X2",
+    b"\nfrobnicate %o0\n": "line 2: S1",
+    b"\na:\na:\n": "line 3: A1",
+    b"nop\n": "line 1: A2",
+}
+VERDICT = re.compile(r"accepted\n|image I[1-8]\n|refused V([1-9]|1[0-8]|20) in function \d+ at [0-9A-F]{8}\n")
+
+
+def try_sources(calls, work):
+    """Sources with a fault."""
+    for source, wanted in FAULTS.items():
+        told = run([calls, "assemble", put(f"{work}/fault.s", source)]).out.decode().strip()
+        TALLY.same(f"the source {source!r}", told, wanted)
+
+
+def try_bytes(calls, work):
+    """Images with a byte changed or cut off give a verdict, that of the program, and what is still accepted runs to
+    its end."""
+    whole = bytes_of(f"{EXAMPLES}/echo/echo.img")
+    for at in range(0, len(whole), 3):
+        for changed in (whole[:at], whole[:at] + bytes([whole[at] ^ 0x41]) + whole[at + 1:]):
+            image = put(f"{work}/changed.img", changed)
+            came = run([calls, "check", image])
+            told = came.out.decode()
+            holds = came.status == 0 and VERDICT.fullmatch(told)
+            if holds and told == "accepted\n":
+                holds = run([calls, "once", image], b"abc").status == 0
+            if holds and os.path.exists(PROGRAM):
+                ran = run([PROGRAM, "verify", image])
+                holds = (ran.out or ran.err) == came.out
+            TALLY.check(f"echo.img, changed at {at}", holds, f"wanted a verdict, sandbox's, came {told!r}")
+
+
+# ---- sanitizers, valgrind, threads, allocators
+
+
+def try_sanitized(prefix, work, compiler, kind, images):
+    """Runs under a sanitizer: in eight threads, or very many and at edges."""
+    archive, name = f"{prefix}/lib/libgeyserpan.a", f"{compiler} -fsanitize={kind}"
+    filter_image, echo = images
+    calls = f"{work}/{compiler}-{kind[:6]}"
+    words = [compiler, "-g", "-O1", f"-fsanitize={kind}", f"-I{prefix}/include", f"{SOURCES}/calls.c", archive]
+    if run([*words, "-o", calls, "-lpthread"]).status:
+        TALLY.skip(f"{name}", "its library")
+    elif kind == "thread":
+        gives(f"{name}: threads", run(["setarch", "-R", calls, "threads", echo, "8", "200"], seconds=None),
+              b"threads\n")
+    else:
+        # four runs in each round: of a kept image and in pieces, on a board and on the engine
+        many = run([calls, "many", filter_image, "50000"], b"HAL", seconds=None)
+        gives(f"{name}: 200,000 runs", many, b"IBM", err=b"")
+        gives(f"{name}: edges", run([calls, "edges", filter_image], b"HAL!"), b"edges\n", err=b"")
+
+
+def try_sanitizers(prefix, work, filter_image, echo):
+    """The sanitizers of both compilers."""
+    for compiler in ("gcc", "clang"):
+        if not has(compiler):
+            TALLY.skip(f"sanitizers of {compiler}", compiler)
+            continue
+        for kind in ("address,undefined", "thread"):
+            try_sanitized(prefix, work, compiler, kind, (filter_image, echo))
+
+
+VALGRIND = ["valgrind", "-q", "--error-exitcode=9", "--leak-check=full", "--show-leak-kinds=all"]
+
+
+def try_valgrind(calls, filter_image):
+    """Many runs and edges under valgrind."""
+    if not has("valgrind"):
+        TALLY.skip("runs under valgrind", "valgrind")
+        return
+    many = run([*VALGRIND, calls, "many", filter_image, "1000"], b"HAL", seconds=None)
+    gives("valgrind: many runs", many, b"IBM")
+    gives("valgrind: edges", run([*VALGRIND, calls, "edges", filter_image], b"HAL!", seconds=None), b"edges\n")
+
+
+def try_growths(prefix, work, image):
+    """Refuses each growth in turn: by itself, under AddressSanitizer and under valgrind."""
+    words = ["cc", "-g", "-O1", "-Wall", "-Wextra", "-Werror", f"-I{prefix}/include", f"{SOURCES}/growths.c",
+             f"{prefix}/lib/libgeyserpan.a"]
+    plain, checked = f"{work}/growths", f"{work}/growths-address"
+    if not made([*words, "-o", plain], "growths.c"):
+        return
+    ways = [[plain]] + ([[*VALGRIND, plain]] if has("valgrind") else [])
+    if run([*words, "-fsanitize=address,undefined", "-o", checked]).status:
+        TALLY.skip("growths under AddressSanitizer", "its library")
+    else:
+        ways.append([checked])
+    for way in ways:
+        ran = run([*way, image, image.replace(".img", ".s")], b"abc" * 100, seconds=None)
+        holds = ran.status == 0 and ran.out.endswith(b" growths\n") and not ran.err
+        TALLY.check(f"growths by {way[0]}", holds, f"wanted a count, came {shown(tuple(ran))}")
+    print("refused in turn:", ran.out.decode().strip())
+
+
+# ---- hosts
+
+
+def try_filter(words, what, image, **more):
+    """A host that runs the filter, on a board and on the engine, and that tells why an image is refused."""
+    for way in ([], ["engine"]):
+        gives(f"{what} {' '.join(way)}", run([*words, image, *way], REQUESTS, **more), ANSWERS)
+    ran = run([*words, f"{EXAMPLES}/refused/V1.img"], REQUESTS, **more)
+    wanted = text_of(f"{EXAMPLES}/refused/V1.told").splitlines()[0]
+    holds = ran.status != 0 and not ran.out and (wanted in ran.said or "Refused" in ran.said)
+    TALLY.check(f"{what}: a refused image", holds, f"wanted {wanted}, came {shown(tuple(ran))}")
+
+
+def shown_by(prefix):
+    """An environment in which pkg-config, the linker of programs and python find the library below a prefix."""
+    paths = {"PKG_CONFIG_PATH": f"{prefix}/lib/pkgconfig", "LD_LIBRARY_PATH": f"{prefix}/lib"}
+    return {**os.environ, **paths, "PYTHONDONTWRITEBYTECODE": "1"}
+
+
+def flags_of(prefix):
+    """What a compiler is told by pkg-config, or the same where that isn't there."""
+    if has("pkg-config"):
+        return run(["pkg-config", "--cflags", "--libs", "geyserpan"], env=shown_by(prefix)).out.decode().split()
+    TALLY.skip("flags of pkg-config, which are given by hand", "pkg-config")
+    return [f"-I{prefix}/include", f"-L{prefix}/lib", "-lgeyserpan"]
+
+
+WARNINGS = ["-O2", "-Wall", "-Wextra", "-Wpedantic", "-Werror"]
+
+
+def try_c(prefix, embed, work, image):
+    """The hosts in C, linked with the archive and with the shared object."""
+    given = b"abc" * 300
+    for compiler in ("gcc", "clang"):
+        if not has(compiler):
+            TALLY.skip(f"embed/c by {compiler}", compiler)
+            continue
+        words = [compiler, "-std=c11", "-D_POSIX_C_SOURCE=200809L", *WARNINGS, f"-I{prefix}/include"]
+        for name in ("filter", "conversation"):
+            ends = [f"-L{prefix}/lib", "-l:libgeyserpan.a", "-o", f"{work}/{compiler}-{name}"]
+            made([*words, f"{embed}/c/{name}.c", *ends], f"embed/c/{name}.c by {compiler}")
+        try_filter([f"{work}/{compiler}-filter"], f"embed/c by {compiler}", image)
+        for sizes in (["1", "1"], ["7", "3"], []):
+            came = run([f"{work}/{compiler}-conversation", f"{EXAMPLES}/echo/echo.img", *sizes], given)
+            gives(f"{compiler}: a conversation by {sizes}", came, given)
+    words = ["cc", f"{embed}/c/filter.c", *flags_of(prefix), "-o", f"{work}/shared-filter"]
+    if made(words, "embed/c/filter.c by pkg-config"):
+        try_filter([f"{work}/shared-filter"], "embed/c with the shared object", image, env=shown_by(prefix))
+
+
+def try_cxx(prefix, embed, work, image):
+    """The hosts in C++."""
+    given, env = b"one\n\ntwo " * 100, shown_by(prefix)
+    for compiler in ("g++", "clang++"):
+        if not has(compiler):
+            TALLY.skip(f"embed/c++ by {compiler}", compiler)
+            continue
+        for name in ("filter", "conversation"):
+            words = [compiler, "-std=c++17", *WARNINGS, f"{embed}/c++/{name}.cpp", *flags_of(prefix)]
+            made([*words, "-o", f"{work}/{compiler}-{name}"], f"embed/c++/{name}.cpp by {compiler}")
+        try_filter([f"{work}/{compiler}-filter"], f"embed/c++ by {compiler}", image, env=env)
+        for way in ([], ["engine"]):
+            came = run([f"{work}/{compiler}-conversation", f"{EXAMPLES}/echo/echo.img", *way], given, env=env)
+            gives(f"{compiler}: a conversation in C++ {' '.join(way)}", came, given)
+
+
+# What the hosts of sessions echo.
+SENTENCE = b"To be, or not to be."
+
+
+def try_rust(prefix, embed, work, image):
+    """The hosts in Rust."""
+    if not has("cargo"):
+        TALLY.skip("embed/rust", "cargo")
+        return
+    env = {**shown_by(prefix), "CARGO_TARGET_DIR": f"{work}/cargo"}
+    if not has("pkg-config"):
+        env["GEYSERPAN_LIB_DIR"] = f"{prefix}/lib"
+    words = ["cargo", "build", "--offline", "--release", "--examples"]
+    if not made(words, "embed/rust", cwd=f"{embed}/rust", env=env):
+        return
+    hosts = f"{work}/cargo/release/examples"
+    try_filter([f"{hosts}/filter"], "embed/rust", image)
+    for way in ([], ["engine"]):
+        came = run([f"{hosts}/sessions", f"{EXAMPLES}/echo/echo.img", "1000", *way], SENTENCE)
+        gives(f"embed/rust: 1,000 sessions {' '.join(way)}", came, SENTENCE)
+
+
+def try_python(prefix, embed, image):
+    """The hosts in Python."""
+    env = {**shown_by(prefix), "PYTHONPATH": f"{embed}/python"}
+    try_filter([sys.executable, f"{embed}/python/filter.py"], "embed/python", image, env=env)
+    echo = f"{EXAMPLES}/echo/echo"
+    gives("embed/python", run([sys.executable, f"{SOURCES}/calls.py", f"{echo}.img", f"{echo}.s"], env=env), b"")
+
+
+def try_go(prefix, embed, work, image):
+    """The hosts in Go."""
+    if not has("go") or not has("pkg-config"):
+        TALLY.skip("embed/go", "go or pkg-config")
+        return
+    shown_here = shown_by(prefix)
+    env = {**shown_here, "GOCACHE": f"{work}/go-cache", "GOPATH": f"{work}/go", "GOFLAGS": "-mod=mod"}
+    for name in ("filter", "sessions"):
+        made(["go", "build", "-o", f"{work}/go-{name}", f"./{name}"], f"embed/go: {name}", cwd=f"{embed}/go", env=env)
+    try_filter([f"{work}/go-filter"], "embed/go", image, env=shown_here)
+    for way in ([], ["engine"]):
+        came = run([f"{work}/go-sessions", f"{EXAMPLES}/echo/echo.img", "8", *way], SENTENCE, env=shown_here)
+        gives(f"embed/go: 8 sessions side by side {' '.join(way)}", came, SENTENCE)
+
+
+def try_page(prefix, work):
+    """The host that docs/embedding.md shows, built and run by the commands there, in a folder that has nothing but it
+    and an image."""
+    text, folder = text_of(f"{TOP}/docs/embedding.md"), f"{work}/page"
+    host, script = (re.search(rf"^```{it}\n(.*?)^```$", text, re.M | re.S)[1] for it in ("c", "sh"))
+    os.makedirs(folder)
+    os.symlink(prefix, f"{work}/geyserpan")
+    shutil.copy(f"{EXAMPLES}/echo/echo.img", folder)
+    put(f"{folder}/host.c", host)
+    ran = run(["bash", "-eu", "-c", script], cwd=folder, env={"HOME": work, "PATH": os.environ["PATH"]})
+    gives("docs/embedding.md", ran, b"abc\nTo be, or not to be.\n", err=b"")
+
+
+def try_hosts(prefix, embed, work, image):
+    """The hosts of a folder, and that of the page."""
+    if has("pkg-config"):
+        try_page(prefix, work)
+    try_c(prefix, embed, work, image)
+    try_cxx(prefix, embed, work, image)
+    try_rust(prefix, embed, work, image)
+    try_python(prefix, embed, image)
+    try_go(prefix, embed, work, image)
+
+
+# ---- cost
+
+
+def processes(image, given, count):
+    """The microseconds of the processor that a run as a process takes."""
+    used = lambda: sum(resource.getrusage(resource.RUSAGE_CHILDREN)[:2])
+    begun = used()
+    for _ in range(count):
+        subprocess.run([PROGRAM, "run", image], input=given, stdout=subprocess.DEVNULL, check=True)
+    return (used() - begun) / count * 1e6
+
+
+# The kinds of runs that `calls cost` makes.
+KINDS = ("once", "kept", "restarted", "engine", "begun")
+
+
+def instructions(calls, image, given, kind):
+    """The instructions of a run of this kind, of two runs of `calls` under valgrind that differ by 100."""
+    counts = []
+    for runs in (20, 120):
+        words = ["valgrind", "--tool=callgrind", "--callgrind-out-file=/dev/null", calls, "cost", image, str(runs),
+                 kind]
+        counts.append(int(re.search(rb"Collected : (\d+)", run(words, given, None).err)[1]))
+    return (counts[1] - counts[0]) / 100
+
+
+def measure_image(calls, image, given):
+    """A line for each kind of run of an image."""
+    runs = "20000" if len(given) < 9 else "1000"
+    print(f"{os.path.basename(image)}, {len(given)} bytes of input:")
+    for kind in KINDS:
+        time = float(run([calls, "cost", image, runs, kind], given, None).out)
+        more = f", {1e6 / time:,.0f} sessions a second" if kind == "restarted" else ""
+        counted = f", {instructions(calls, image, given, kind):,.0f} instructions" if has("valgrind") else ""
+        print(f"  {kind}: {time:.2f} microseconds{counted}{more}", flush=True)
+    if os.path.exists(PROGRAM):
+        print(f"  process: {processes(image, given, 100):.0f} microseconds")
+
+
+def calls_in(prefix, work, *flags):
+    """Builds the program that makes the library's calls, and the image of the lesson's filter; None where it isn't
+    built."""
+    calls, filter_image = f"{work}/calls", f"{work}/filter.img"
+    words = ["cc", *flags, f"-I{prefix}/include", f"{SOURCES}/calls.c", f"{prefix}/lib/libgeyserpan.a"]
+    if not made([*words, "-o", calls, "-lpthread"], "calls.c"):
+        return None, None
+    put(filter_image, run([calls, "assemble", f"{EXAMPLES}/lessons/filter.s"]).out)
+    return calls, filter_image
+
+
+def laid_out_in(prefix):
+    """Whether tools/release/library lays the library out."""
+    ran = run([LIBRARY, prefix], seconds=None)
+    return TALLY.check("tools/release/library", ran.status == 0,
+                       f"wanted that it lays all out, came {ran.said[-1500:]}")
+
+
+def measure(prefix, work):
+    """Tells what runs cost, and the library's size."""
+    if not laid_out_in(prefix):
+        return FAILED
+    tell_size(prefix)
+    calls, filter_image = calls_in(prefix, work, "-O2")
+    if not calls:
+        return FAILED
+    hello, echo = (f"{EXAMPLES}/{it}/{it}.img" for it in ("hello", "echo"))
+    for image, given in ((hello, b""), (filter_image, b"HAL"), (echo, b"abc" * 300)):
+        measure_image(calls, image, given)
+    return PASSED
+
+
+# ---- all of it
+
+
+def try_installed(prefix, work):
+    """A release that was installed."""
+    for name in ("include/geyserpan.h", "lib/libgeyserpan.a", "lib/pkgconfig/geyserpan.pc",
+                 "share/geyserpan/embed/c/filter.c"):
+        if not TALLY.check(name, os.path.exists(f"{prefix}/{name}"), "wanted it in the release, came none"):
+            return
+    is_same = text_of(f"{prefix}/include/geyserpan.h") == text_of(f"{TOP}/include/geyserpan.h")
+    TALLY.check("include/geyserpan.h", is_same, "wanted this tree's, came another one")
+    try_symbols(prefix)
+    try_data(prefix)
+    calls, filter_image = calls_in(prefix, work)
+    if calls:
+        try_hosts(prefix, f"{prefix}/share/geyserpan/embed", work, filter_image)
+
+
+def try_all(prefix, work):
+    """The library of this tree."""
+    if not laid_out_in(prefix):
+        return
+    try_symbols(prefix)
+    try_data(prefix)
+    try_layout(work)
+    echo = f"{EXAMPLES}/echo/echo.img"
+    calls, filter_image = calls_in(prefix, work, "-g", "-std=c11", "-D_POSIX_C_SOURCE=200809L", *WARNINGS)
+    if not calls:
+        return
+    gives("edges", run([calls, "edges", filter_image], b"HAL!"), b"edges\n")
+    try_examples(calls, work)
+    try_sources(calls, work)
+    try_bytes(calls, work)
+    gives("threads", run([calls, "threads", echo, "8", "2000"], seconds=None), b"threads\n")
+    gives("many runs", run([calls, "many", filter_image, "50000"], b"HAL", seconds=None), b"IBM")
+    try_growths(prefix, work, echo)
+    try_sanitizers(prefix, work, filter_image, echo)
+    try_valgrind(calls, filter_image)
+    try_hosts(prefix, f"{TOP}/embed", work, filter_image)
+
+
+def main(words):
+    reader = Words(__doc__)
+    reader.add_argument("--cost", action="store_true")
+    reader.add_argument("--installed", action="store_true")
+    reader.add_argument("prefix", nargs="?")
+    asked = reader.parse_args(words)
+    if asked.installed and (asked.cost or not asked.prefix):
+        reader.error("--installed wants a PREFIX alone")
+    with tempfile.TemporaryDirectory() as work:
+        prefix = os.path.abspath(asked.prefix) if asked.prefix else f"{work}/release"
+        if asked.cost:
+            return measure(prefix, work)
+        (try_installed if asked.installed else try_all)(prefix, work)
+    return TALLY.end()
+
+
+if __name__ == "__main__":
+    sys.exit(main(sys.argv[1:]))
