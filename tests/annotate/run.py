@@ -3,8 +3,8 @@
 
 Tries `./fit annotate` on the sources of examples that are written by hand. Parts, all where none is named:
 
-  bare      each example without its annotations, and with 0 for stack rooms and budgets: annotated anew it is accepted,
-            gives on the stored input the stored output, and no budget is above 1.1 times the one by hand
+  bare      each example without its annotations, and with 0 for stack rooms and budgets: annotated anew it is
+            accepted, gives on the stored input the stored output, and no budget is above 1.1 times the one by hand
   some      each example with a part of its annotations left out, by chance, N times (8): accepted, and what was left
             stands there still
   kinds     the same with whole functions bare, and with one kind of annotation left out

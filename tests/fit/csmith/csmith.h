@@ -1,4 +1,4 @@
-/* What random programs take from csmith.h, over the three services of plug.h: runtime's, or that of tests/c/qemu. */
+/* What random programs take from csmith.h, over the three services of plug.h: runtime's, or that of tests/fit/qemu. */
 #ifndef CSMITH_H
 #define CSMITH_H
 #include <float.h>
