@@ -88,6 +88,24 @@ def least_kib(words, most):
     return most
 
 
+def last_line(words, kib):
+    """The status and the last line of a command with so much address space, however much it puts out."""
+    last = b""
+    with subprocess.Popen(words, stdin=subprocess.DEVNULL, stdout=subprocess.PIPE, preexec_fn=within(kib)) as ran:
+        while more := ran.stdout.read(1 << 20):
+            last = (last + more)[-1000:]
+    return ran.returncode, last.removesuffix(b"\n").rpartition(b"\n")[2].decode()
+
+
+def closed(*streams):
+    """What a process does before it begins, so that these standard streams of its are closed."""
+    def close():
+        for it in streams:
+            os.close(it)
+
+    return close
+
+
 def bytes_of(path):
     """The bytes of a file."""
     with open(path, "rb") as file:

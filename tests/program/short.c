@@ -1,4 +1,4 @@
-/* Stands before the C library in a process: each read of a file or a stream gives one byte at most. tests/program builds and uses it. */
+/* Stands before the C library in a process: each read of a file or a stream gives one byte at most. the suite program builds and uses it. */
 #include <sys/syscall.h>
 #include <unistd.h>
 
