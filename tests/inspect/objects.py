@@ -1,35 +1,34 @@
-"""The objects that `inspect --json` writes, read by Python's json and made into the lines that `inspect` tells people: these have to be
-those of files that weren't made by the program. Standard input has a line for each case, of words behind tabs: image, run, why or check,
-the image or the source, the file with the lines, the file that is its input, and options. Called by tests/inspect."""
+"""The objects that `inspect --json` writes, read by Python's json and made into the lines that `inspect` tells people:
+these have to be those of files that weren't made by the program."""
 import json
 import re
-import subprocess
-import sys
-import tempfile
 
-sys.dont_write_bytecode = True
-sys.path.insert(0, f"{__file__.rpartition('/')[0]}/lib")
-from crates import TOP
+from run import INSPECT, bytes_of, put, run
 
 OUTPUT_LINE = 24
 
 
-def inspect(*words, given=b""):
-    """The status of a call, and what it wrote."""
-    ran = subprocess.run([f"{TOP}/inspect", *words], input=given, stdout=subprocess.PIPE, stderr=subprocess.PIPE, check=False)
-    return ran.returncode, ran.stdout
+class Wrong(Exception):
+    """What an object has, and shouldn't."""
 
 
-def object_of(*words, given=b""):
+def hold(condition, seen):
+    """Raises where something doesn't hold of what is seen."""
+    if not condition:
+        raise Wrong(seen)
+
+
+def object_of(command, *words, **how):
     """The object on the line that a call writes: one line of ASCII, whose keys come once each."""
-    status, told = inspect(words[0], "--json", *words[1:], given=given)
-    assert status == 0 and told.endswith(b"\n") and told.count(b"\n") == 1, (status, told[:100])
-    return json.loads(told.decode("ascii"), object_pairs_hook=without_repeats, parse_float=None, parse_constant=None)
+    ran = run([INSPECT, command, "--json", *words], **how)
+    hold(ran.status == 0 and ran.out.endswith(b"\n") and ran.out.count(b"\n") == 1, ran)
+    return json.loads(ran.out.decode("ascii"), object_pairs_hook=without_repeats, parse_float=None,
+                      parse_constant=None)
 
 
 def without_repeats(pairs):
     """An object, none of whose keys comes twice."""
-    assert len(dict(pairs)) == len(pairs), pairs
+    hold(len(dict(pairs)) == len(pairs), pairs)
     return dict(pairs)
 
 
@@ -37,16 +36,19 @@ def without_repeats(pairs):
 
 
 def bounds(it):
+    """The operands of a range."""
     return f"{it['low']},{it['high']},{it['alignment']}"
 
 
 def block_lines(block):
+    """The lines of a block."""
     yield from (f".cell {it['location']},{bounds(it)}" for it in block["cells"])
     yield f".fuel {block['fuel']}"
     yield from (f".term {it['location']},{it['coefficient']}" for it in block["terms"])
 
 
 def function_lines(number, function, version):
+    """The lines of a function, with those of its blocks."""
     kind = "framed" if function["framed"] else "leaf"
     yield from ("", f"! {function['address']:08X}")
     yield f".function f{number},{kind},{function['frame']},{function['room']},{function['budget']}"
@@ -68,7 +70,8 @@ def image_lines(image):
     yield f".stack {image['stack_pages']}"
     yield f"! words of code: {image['words']}, bytes of data: {image['data_bytes']}"
     for region in image["regions"] if image["version"] > 1 else []:
-        yield from ("", f"! {region['address']:08X}, bytes: {region['bytes']}", f".region {'rw' if region['writable'] else 'ro'}")
+        yield from ("", f"! {region['address']:08X}, bytes: {region['bytes']}",
+                    f".region {'rw' if region['writable'] else 'ro'}")
     for number, function in enumerate(image["functions"]):
         yield from function_lines(number, function, image["version"])
 
@@ -77,6 +80,7 @@ def image_lines(image):
 
 
 def glyph(byte):
+    """How a byte of an output is shown."""
     if byte == 10:
         return "\\n"
     if byte == 92:
@@ -85,6 +89,7 @@ def glyph(byte):
 
 
 def output_lines(output):
+    """The lines of an output."""
     yield f"output: {len(output)} bytes"
     line = []
     for byte in output:
@@ -97,6 +102,7 @@ def output_lines(output):
 
 
 def ending(end):
+    """How a run ended."""
     if end["how"] == "exit":
         return f"exit with the word {end['word']:08X}"
     if end["how"] == "trap":
@@ -116,7 +122,8 @@ def run_lines(run):
     for name, start in (("code", "00040000"), ("data", "00080000"), ("stack", "000C0000")):
         yield f"  {name:5} {start} {run['pages'][name]}"
     status = run["fault_status"]
-    assert (status == 0) == (run["fault"] == "none") and (status == 0 or run["fault"].startswith(f"{status:08X}: "))
+    fault = run["fault"]
+    hold((status == 0) == (fault == "none") and (status == 0 or fault.startswith(f"{status:08X}: ")), fault)
     yield f"fault status: {run['fault']}"
 
 
@@ -126,11 +133,11 @@ def run_lines(run):
 def verdict_text(verdict):
     """The text of `inspect why`, of its object, whose other members say the same as its first two lines."""
     if verdict["accepted"]:
-        assert list(verdict) == ["accepted"], verdict
+        hold(list(verdict) == ["accepted"], verdict)
         return "accepted: no rule is broken\n"
     text = verdict["text"]
     first = f"refused {verdict['rule']} in function {verdict['function']} at {verdict['address']:08X}"
-    assert text.startswith(f"{first}\n{verdict['sentence']}\n"), verdict
+    hold(text.startswith(f"{first}\n{verdict['sentence']}\n"), verdict)
     return text
 
 
@@ -138,51 +145,47 @@ def verdict_text(verdict):
 
 
 def check_text(check, name, told):
-    """The text of `inspect check`, of its object, whose faults say the same as the lines of the file that name a place."""
+    """The text of `inspect check`, of its object, whose faults say the same as the lines of the file that name a
+    place."""
     faults = [f"{name}:{it['line']}:{it['column']}: {it['code']}: {it['sentence']}" for it in check["faults"]]
-    assert list(check) == ["accepted", "faults", "text"] and check["accepted"] == (not faults), check
-    assert all(list(it) == ["line", "column", "code", "sentence"] for it in check["faults"]), check
-    assert faults == [line for line in told.split("\n") if re.match(rf"{re.escape(name)}:\d", line)], check
+    hold(list(check) == ["accepted", "faults", "text"] and check["accepted"] == (not faults), check)
+    hold(all(list(it) == ["line", "column", "code", "sentence"] for it in check["faults"]), check)
+    hold(faults == [line for line in told.split("\n") if re.match(rf"{re.escape(name)}:\d", line)], check)
     return check["text"]
 
 
-def read(path):
-    with open(path, "rb") as file:
-        return file.read()
-
-
-def looked_at(command, image, told, *words, given=b""):
-    """Nothing, or what differs between a file and the lines made of a call's object."""
+def fault_of_object(command, image, told, options=(), given=b"", cwd=None):
+    """Whether the lines made of a call's object are those of a file or a text, and what differs."""
+    text = told if isinstance(told, bytes) else bytes_of(told)
     try:
-        found = object_of(command, *words, image, given=given)
+        found = object_of(command, *options, image, given=given, cwd=cwd)
         if command == "why":
-            text = verdict_text(found)
+            came = verdict_text(found)
         elif command == "check":
-            text = check_text(found, image, read(told).decode())
+            came = check_text(found, image, text.decode())
         else:
-            text = "".join(f"{it}\n" for it in {"image": image_lines, "run": run_lines}[command](found))
-    except (AssertionError, KeyError, TypeError, ValueError) as error:
-        return f"inspect {command} --json {image}: {error!r}"
-    return "" if text.encode() == read(told) else f"inspect {command} --json {image}: says another thing than {told}"
+            came = "".join(f"{it}\n" for it in {"image": image_lines, "run": run_lines}[command](found))
+    except (Wrong, KeyError, TypeError, ValueError) as error:
+        return False, f"wanted an object, came {error!r}"
+    return came.encode() == text, f"wanted {text}, came {came}"
 
 
-def each_byte(folder):
-    """A program that puts out each byte, quotes, backslashes, controls and bytes past ASCII among them: its object has them all."""
+def try_each_byte(asked):
+    """A program that puts out each byte, quotes, backslashes, controls and bytes past ASCII among them: its object
+    has them all."""
     puts = "".join(f" mov {byte},%o0\n ta 2\n" for byte in range(256))
-    source, image = f"{folder}/each.s", f"{folder}/each.img"
-    with open(source, "w", encoding="ascii") as file:
-        file.write(f".services exit,put\n.function main,leaf,0,0,1540\n.fuel 1540\n{puts} mov 7,%o0\n ta 0\n")
-    subprocess.run([f"{TOP}/sandbox", "asm", source, image], check=True)
-    run = object_of("run", image)
-    wanted = {"output": bytes(range(256)).hex().upper(), "end": {"how": "exit", "word": 7}, "limit": 100_000, "windows": 8, "fault": "none"}
-    return "" if {it: run[it] for it in wanted} == wanted else f"each byte: {run}"
+    head = ".services exit,put\n.function main,leaf,0,0,1540\n.fuel 1540\n"
+    image = asked.assembled(put(asked.at("each.s"), f"{head}{puts} mov 7,%o0\n ta 0\n"))
+    found = object_of("run", image)
+    wanted = {"output": bytes(range(256)).hex().upper(), "end": {"how": "exit", "word": 7}, "limit": 100_000,
+              "windows": 8,
+              "fault": "none"}
+    asked.tally.same("run --json: each byte", {it: found[it] for it in wanted}, wanted)
 
 
-def faults(folder):
+def try_words(asked):
     """What `--json` doesn't stand for, and what is no image: a status, and nothing on standard output."""
-    none = f"{folder}/none.img"
-    with open(none, "wb") as file:
-        file.write(b"no image")
+    none = put(asked.at("none.img"), "no image")
     for status, *words in (
         (2, "image", "--json", none),
         (2, "why", none, "--json"),
@@ -193,24 +196,16 @@ def faults(folder):
         (3, "check", "--json"),
         (3, "check", "--json", none, "--json"),
         (3, "why", "--json", "--source", none, none),
-        (4, "check", "--json", f"{folder}/missing.s"),
-        (4, "run", "--json", f"{folder}/missing.img"),
+        (4, "check", "--json", asked.at("missing.s")),
+        (4, "run", "--json", asked.at("missing.img")),
     ):
-        if inspect(*words) != (status, b""):
-            yield f"inspect {' '.join(words)}: another status than {status}, or an output"
+        asked.gives(status, *words)
 
 
-def main():
-    found = []
-    for line in sys.stdin:
-        command, image, told, given, *words = line.rstrip("\n").split("\t")
-        found.append(looked_at(command, image, told, *words, given=read(given)))
-    with tempfile.TemporaryDirectory() as folder:
-        found += [each_byte(folder), "".join(f"{it}\n" for it in faults(folder)).rstrip()]
-    wrong = [it for it in found if it]
-    for it in wrong:
-        print(it)
-    print(f"{len(found) - len(wrong)} {len(wrong)}")
-
-
-main()
+def try_objects(asked):
+    """The objects of all calls that told a text, and those of the rest."""
+    for command, image, told, options, given in asked.cases:
+        name = f"{command} --json {image.rpartition('/')[2]}"
+        asked.tally.check(name, *fault_of_object(command, image, told, options, given))
+    try_each_byte(asked)
+    try_words(asked)
