@@ -14,8 +14,6 @@ PATIENCE = 60
 SHIFT = 8
 QUIET = {"stdin": subprocess.DEVNULL, "stdout": subprocess.DEVNULL, "stderr": subprocess.DEVNULL}
 READY = "document.body && document.body.dataset.ready || ''"
-with open(f"{os.path.dirname(os.path.dirname(os.path.abspath(__file__)))}/page_looks.js", encoding="utf-8") as file:
-    LOOKS = file.read().partition("\n")[2]
 
 
 class Failed(Exception):
@@ -23,7 +21,9 @@ class Failed(Exception):
 
 
 class Browser:
-    """What both have in common."""
+    """What both have in common. A suite gives it `looks`, an object in JavaScript whose functions look at a page."""
+
+    looks = "{}"
 
     def until_ready(self):
         """Waits until the page says that it is shown."""
@@ -35,8 +35,8 @@ class Browser:
         raise Failed(f"the page isn't ready: {self.faults()}")
 
     def look(self, name, *values):
-        """What a function of page_looks.js gives."""
-        return self.js(f"({LOOKS.strip()}).{name}({', '.join(json.dumps(it) for it in values)})")
+        """What a function of `looks` gives."""
+        return self.js(f"({self.looks}).{name}({', '.join(json.dumps(it) for it in values)})")
 
     def end(self):
         """Waits for the browser's end, and removes what it kept."""
@@ -184,8 +184,10 @@ class Firefox(Browser):
         self.folder = tempfile.mkdtemp()
         with open(f"{self.folder}/user.js", "w", encoding="ascii") as file:
             file.write(
-                'user_pref("marionette.port", 0);\nuser_pref("datareporting.policy.dataSubmissionEnabled", false);\n'
-                'user_pref("browser.shell.checkDefaultBrowser", false);\nuser_pref("network.captive-portal-service.enabled", false);\n'
+                'user_pref("marionette.port", 0);\n'
+                'user_pref("datareporting.policy.dataSubmissionEnabled", false);\n'
+                'user_pref("browser.shell.checkDefaultBrowser", false);\n'
+                'user_pref("network.captive-portal-service.enabled", false);\n'
             )
         self.process = subprocess.Popen(
             [program, "--headless", "--marionette", "--no-remote", "--profile", self.folder],

@@ -1,4 +1,4 @@
-// What `tests/page` asks of a page in a browser: what is seen, by the texts of its elements, and what a user does.
+// What the suite page asks of a page in a browser: what is seen, by the texts of its elements, and what a user does.
 ({
   one : (selector, within = document) => within.querySelector(selector),
   all : (selector, within = document) => [...within.querySelectorAll(selector)],

@@ -2,7 +2,7 @@
 import random
 import re
 
-from page_data import CODES, LIMIT, NAMES, State
+from data import CODES, LIMIT, NAMES, State
 
 SHORT_NAMES = ["goli"[it // 8] + str(it % 8) for it in range(32)]
 # By the event that `sandbox trace` prints, what the sentence has to say; its number follows.
@@ -38,26 +38,26 @@ class Watch:
         self.tally, self.browser, self.program, self.windows = tally, browser, program, windows
         self.told, self.traced = program.told(windows, limit), program.traced(windows, limit)
 
-    def same(self, seen, wanted, what):
+    def same(self, name, came, wanted):
         """Counts whether what is seen is what is wanted."""
-        self.tally.same(seen, wanted, f"{self.at}: {what}")
+        self.tally.same(f"{self.at}: {name}", came, wanted)
 
-    def check(self, good, what):
+    def check(self, name, condition):
         """Counts a check of the turn that is looked at."""
-        self.tally.check(good, f"{self.at}: {what}")
+        self.tally.check(f"{self.at}: {name}", condition)
 
     def look(self, path, most):
         """Looks at so many turns at most, and returns how many they were."""
         self.browser.open(path)
         self.at = f"{self.program.name} on {self.windows} windows, {self.browser.name}"
-        self.same(len(self.traced), len(self.told), "turns told")
+        self.same("turns told", len(self.traced), len(self.told))
         turns, state, run = chosen(len(self.told), most), State(self.windows), self.at
         for turn, told in enumerate(self.told, 1):
             state.take(told[6])
             if turn in turns:
                 self.at = f"{run}, turn {turn}"
                 self.check_turn(self.browser.look("see", turn), turn, told, state)
-        self.same([str(it) for it in self.browser.faults()], [], "faults told by the browser")
+        self.same("faults told by the browser", [str(it) for it in self.browser.faults()], [])
         return len(turns)
 
     def check_turn(self, seen, turn, told, state):
@@ -73,78 +73,80 @@ class Watch:
     def check_place(self, seen, turn, told):
         """Number, window, mode, PC, word, place, instruction and event."""
         row, mode = self.traced[turn - 1], "user" if told[2] == "u" else "supervisor"
-        self.same((seen["goto"], row[:4]), (str(turn), [f"{turn:010}", *told[1:4]]), "number, window, mode, PC")
+        self.same("number, window, mode, PC", (seen["goto"], row[:4]), (str(turn), [f"{turn:010}", *told[1:4]]))
         text = told[5] if told[5] not in ("annulled", "not fetched") else "(not fetched)"
-        head = f"turn {turn} \u00b7 window {int(told[1])} \u00b7 {mode} \u00b7 {told[3]} {row[4]} {told[4]} \u00b7 {text} \u00b7 "
+        place = f"{told[3]} {row[4]} {told[4]}"
+        head = " \u00b7 ".join([f"turn {turn}", f"window {int(told[1])}", mode, place, text, ""])
         said = seen["say"][len(head) :]
-        self.check(seen["say"].startswith(head), f"{seen['say']!r} doesn't begin with {head!r}")
-        self.check(SIGNS[row[5]] + "".join(row[6:]) in said, f"{row[5:]} isn't in {said!r}")
+        self.check(f"{seen['say']!r} doesn't begin with {head!r}", seen["say"].startswith(head))
+        self.check(f"{row[5:]} isn't in {said!r}", SIGNS[row[5]] + "".join(row[6:]) in said)
         self.check_transfer(said, turn, told)
         for event, sign in SIGNS.items():
-            self.check(not sign or (sign in said) == (event == row[5]), f"{sign!r} in {said!r}")
+            self.check(f"{sign!r} in {said!r}", not sign or (sign in said) == (event == row[5]))
 
     def check_transfer(self, said, turn, told):
-        """What is said of a branch: a conditional one with `,a` annuls its slot where it isn't taken, others tell by where they go."""
+        """What is said of a branch: a conditional one with `,a` annuls its slot where it isn't taken, others tell by
+        where they go."""
         name = told[5].partition(" ")[0]
-        if told[2] == "s" or not re.fullmatch("b(?!set|tog|clr).*|call|jmpl", name) or told[6][:1] and told[6][0].startswith("trap"):
+        if told[2] == "s" or not re.fullmatch("b(?!set|tog|clr).*|call|jmpl",
+                                              name) or told[6][:1] and told[6][0].startswith("trap"):
             return
         taken = "transfer: next its slot" in said
-        self.check(taken != ("not taken" in said), f"{name}: {said!r}")
+        self.check(f"{name}: {said!r}", taken != ("not taken" in said))
         if name in ("ba", "ba,a", "call", "jmpl", "bn", "bn,a"):
-            self.same(taken, not name.startswith("bn"), f"{name} is taken")
+            self.same(f"{name} is taken", taken, not name.startswith("bn"))
         elif name.endswith(",a") and turn < len(self.told):
-            self.same(taken, self.told[turn][5] != "annulled", f"{name} is taken")
-        elif turn + 1 < len(self.told) and int(self.told[turn + 1][3], 16) not in (int(told[3], 16) + 8, int(self.told[turn][3], 16)):
-            self.check(taken or "trap" in str(self.told[turn][6]), f"{name} is taken")
+            self.same(f"{name} is taken", taken, self.told[turn][5] != "annulled")
+        elif turn + 1 < len(self.told) and int(self.told[turn + 1][3], 16) not in (int(told[3], 16) + 8,
+                                                                                   int(self.told[turn][3], 16)):
+            self.check(f"{name} is taken", taken or "trap" in str(self.told[turn][6]))
 
     def check_row(self, seen, turn, told):
         """The row of the code that is marked: one, but where nothing could be fetched."""
-        self.same(seen["struck"], told[5] == "annulled", "the slot struck through")
+        self.same("the slot struck through", seen["struck"], told[5] == "annulled")
         if told[5] == "not fetched" and not seen["rows"]:
             return
-        self.check(len(seen["rows"]) == 1 and seen["rows"][0].startswith(told[3]), f"the row is {seen['rows']}")
-        self.check(str(turn) in seen["signs"].split(), f"the row's sign is {seen['signs']!r}")
+        self.check(f"the row is {seen['rows']}", len(seen["rows"]) == 1 and seen["rows"][0].startswith(told[3]))
+        self.check(f"the row's sign is {seen['signs']!r}", str(turn) in seen["signs"].split())
         if told[3] in self.program.listing:
-            self.same(seen["rows"], [f"{told[3]} {self.program.listing[told[3]]}"], "the row")
+            self.same("the row", seen["rows"], [f"{told[3]} {self.program.listing[told[3]]}"])
 
     def check_next(self, seen, turn):
         """Where PC and nPC lead, by the next two turns."""
         if turn < len(self.told):
             after = self.told[turn]
-            self.same(
-                (seen["pc"], seen["cwp"], seen["mode"]),
-                (after[3], str(int(after[1])), "user" if after[2] == "u" else "supervisor"),
-                "what is next",
-            )
+            self.same("what is next", (seen["pc"], seen["cwp"], seen["mode"]),
+                      (after[3], str(int(after[1])), "user" if after[2] == "u" else "supervisor"))
         if turn + 1 < len(self.told) and not any(it.startswith("trap ") for it in self.told[turn][6]):
-            self.same(seen["npc"], self.told[turn + 1][3], "nPC")
+            self.same("nPC", seen["npc"], self.told[turn + 1][3])
 
     def check_state(self, seen, state, items):
         """Each register, those that changed, and the state registers."""
-        self.same(seen["regs"], {name: f"{state.register(it):08X}" for it, name in enumerate(SHORT_NAMES)}, "registers")
+        self.same("registers", seen["regs"],
+                  {name: f"{state.register(it):08X}" for it, name in enumerate(SHORT_NAMES)})
         changed = [SHORT_NAMES[NAMES.index(it[:3])] for it in items if it[0] == "%"]
-        self.same(sorted(seen["changed"]), sorted(changed), "registers that changed")
-        self.same(seen["psr"], f"{state.psr:08X}", "PSR")
-        self.same(seen["icc"], "".join(name for bit, name in CODES if state.psr >> bit & 1), "icc")
-        self.same(seen["y"], f"{state.y:08X}", "Y")
+        self.same("registers that changed", sorted(seen["changed"]), sorted(changed))
+        self.same("PSR", seen["psr"], f"{state.psr:08X}")
+        self.same("icc", seen["icc"], "".join(name for bit, name in CODES if state.psr >> bit & 1))
+        self.same("Y", seen["y"], f"{state.y:08X}")
         mask = int(seen["mask"], 16) if self.windows > 12 else sum(1 << it for it in seen["wim"])
-        self.same(mask, state.wim, "WIM")
-        self.same(seen["fault"], state.fault or "", "fault status")
+        self.same("WIM", mask, state.wim)
+        self.same("fault status", seen["fault"], state.fault or "")
 
     def check_changes(self, seen, turn, state, items):
         """Marks of pages, memory, output and traps."""
         marks = {page: it for page, it in seen["tiles"].items() if it and page < "F"}
-        self.same(marks, state.marks, "marks of pages")
+        self.same("marks of pages", marks, state.marks)
         for item in items:
             if item[0] == "[":
-                self.same(seen["mem"].get(item[1:9]), item[11:], f"memory at {item[1:9]}")
+                self.same(f"memory at {item[1:9]}", seen["mem"].get(item[1:9]), item[11:])
             elif item.startswith("puts out "):
-                self.check(item in seen["say"] and seen["fresh"], "the byte put out")
+                self.check("the byte put out", item in seen["say"] and seen["fresh"])
             elif item.startswith("trap ") and "error mode" not in items:
-                self.same(seen["traps"].split()[:3], [str(turn), *item[5:].split()[:2]], "the trap's row")
+                self.same("the trap's row", seen["traps"].split()[:3], [str(turn), *item[5:].split()[:2]])
         before = ".." if len(state.output) > SHOWN_BYTES else ""
-        self.same(seen["out"], before + shown_bytes(state.output), "the output")
-        self.same(seen["outn"].split()[0], str(len(state.output)), "bytes of output")
+        self.same("the output", seen["out"], before + shown_bytes(state.output))
+        self.same("bytes of output", seen["outn"].split()[0], str(len(state.output)))
 
     def check_walk(self, seen, told, state):
         """The walk of a store, or of a fetch where nothing is loaded or stored, by the tables of docs/profile.md."""
@@ -159,16 +161,15 @@ class Watch:
             "level 1 index 00 2400 00000281 \u2192 table 2800",
             f"level 2 index {group:02X} {0x2800 + 4 * group:04X} {0x291 + 0x10 * group:08X} \u2192 table {table:04X}",
         ]
-        self.same(seen["walk"][:3], wanted, "the walk")
+        self.same("the walk", seen["walk"][:3], wanted)
         last = f"level 3 index {address >> 12 & 63:02X} {table + 4 * (address >> 12 & 63):04X} "
         found = seen["walk"][3] if len(seen["walk"]) == 4 else ""
-        self.check(
-            found.startswith(last) and found.endswith(f" {marks}".rstrip()),
-            f"the walk ends by {found!r}, and not by {last!r} and {marks}",
-        )
+        self.check(f"the walk ends by {found!r}, and not by {last!r} and {marks}",
+                   found.startswith(last) and found.endswith(f" {marks}".rstrip()))
 
     def check_fuel(self, seen):
         """The bound is never below the run's turns, and is shown of accepted images alone."""
         found = re.search(r"ends by turn (\d+)", seen["fuel"])
-        self.same(bool(found), self.program.accepted, "a bound is shown")
-        self.check(not found or int(found[1]) >= len(self.told), f"the bound is below {len(self.told)}: {seen['fuel']!r}")
+        self.same("a bound is shown", bool(found), self.program.accepted)
+        self.check(f"the bound is below {len(self.told)}: {seen['fuel']!r}",
+                   not found or int(found[1]) >= len(self.told))

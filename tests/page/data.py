@@ -1,10 +1,9 @@
-"""What `tests/page` holds pages against: a program's run as `inspect trace` tells it, and the same text made again from a page's data
-alone."""
+"""What pages are held against: a program's run as `inspect trace` tells it, and the same text made again from a
+page's data alone."""
 import os
 import re
-import subprocess
 
-from crates import TOP
+from run import TOP, bytes_of, run
 
 LIMIT = 25_000
 
@@ -13,12 +12,14 @@ CODES = ((23, "N"), (22, "Z"), (21, "V"), (20, "C"))
 NAMES = [f"%{'goli'[it // 8]}{it % 8}" for it in range(32)]
 NAMES[14], NAMES[30] = "%sp", "%fp"
 LINE = re.compile(
-    r" *(\d+) (\d\d) ([us]) (\w{8}) (f\d+\+\w+|vector \w\w\+\w|(?:over|under)flow\+\w+|-) +(\S+(?: \S+)*)((?:  +\S+(?: \S+)*)*)$"
+    r" *(\d+) (\d\d) ([us]) (\w{8}) (f\d+\+\w+|vector \w\w\+\w|(?:over|under)flow\+\w+|-) +"
+    r"(\S+(?: \S+)*)((?:  +\S+(?: \S+)*)*)$"
 )
 
 
 def unbroken(text):
-    """The turns of `inspect trace`, each in one line. The line behind them that says that the limit was met is none."""
+    """The turns of `inspect trace`, each in one line. The line behind them that says that the limit was met is
+    none."""
     return re.sub(r"\n {7}(?=\S)", "  ", re.sub(r"^limit: .*\n\Z", "", text, flags=re.M)).splitlines()
 
 
@@ -96,12 +97,14 @@ class Page:
 
     def told(self):
         """Yields each turn as `inspect trace` tells it, without its columns: made from the data and nothing else."""
-        pc, npc, psr, fault, entries = 0x40000, 0x40004, 0x20, 0, {int(it[0], 16): int(it[1], 16) for it in self.head["e"]}
+        pc, npc, psr, fault, entries = 0x40000, 0x40004, 0x20, 0, {int(it[0], 16): int(it[1], 16)
+                                                                   for it in self.head["e"]}
         for number, line in enumerate(self.turns, 1):
             items = re.findall(r"([a-z])([0-9A-F]*)", line)
             kinds = dict(items)
             instruction = "annulled" if "a" in kinds else "not fetched" if "n" in kinds else self.code[pc]
-            head = [str(number), f"{psr & 31:02}", "s" if psr >> 7 & 1 else "u", f"{pc:08X}", self.place(pc), instruction]
+            head = [str(number), f"{psr & 31:02}", "s" if psr >> 7 & 1 else "u", f"{pc:08X}", self.place(pc),
+                    instruction]
             before, psr = psr, int(kinds.get("q", f"{psr:X}"), 16)
             fault = int(kinds.get("f", f"{fault:X}"), 16)
             yield (*head, [*self.events(kinds, fault), *self.changes(items, before, psr, entries)])
@@ -130,7 +133,8 @@ class Page:
         if psr != before:
             codes = "".join(name if psr >> bit & 1 else "-" for bit, name in CODES)
             yield f"PSR={psr:08X}" + (f" icc={codes}" if (psr ^ before) >> 20 & 15 else "")
-        yield from (f"{ {'w': 'WIM', 'y': 'Y'}[letter]}={int(it, 16):08X}" for letter, it in sorted(items) if letter in "wy")
+        yield from (f"{ {'w': 'WIM', 'y': 'Y'}[letter]}={int(it, 16):08X}" for letter,
+                    it in sorted(items) if letter in "wy")
         yield from self.pages(items, entries)
         yield from (f"puts out {it}" for letter, it in items if letter == "o")
         yield from (f"[{it[:8]}]={int(it[8:], 16):08X}" for letter, it in items if letter == "m")
@@ -154,32 +158,12 @@ def flat(place):
     return place[1] if place[0] == "globals" else 8 + 16 * place[1] + place[2] + (8 if place[0] == "locals" else 0)
 
 
-class Tally:
-    """What passed and what failed."""
-
-    def __init__(self, quiet=False):
-        self.passed = self.failed = 0
-        self.quiet = quiet
-
-    def check(self, good, what):
-        """Counts a check, and tells one that failed."""
-        self.passed, self.failed = self.passed + bool(good), self.failed + (not good)
-        if not good and not self.quiet and self.failed < 60:
-            print(f"failed: {what}", flush=True)
-
-    def same(self, seen, wanted, what):
-        """Counts whether two things are the same."""
-        self.check(seen == wanted, f"{what}: {seen!r}, and not {wanted!r}")
-
-
-def run(*words, given=b"", status=0):
-    """What a script of the repository prints."""
-    ran = subprocess.run(
-        [f"{TOP}/{words[0]}", *words[1:]], input=given, stdout=subprocess.PIPE, stderr=subprocess.PIPE, check=False
-    )
-    if ran.returncode != status:
-        raise SystemExit(f"{' '.join(words)}: status {ran.returncode}: {ran.stderr.decode(errors='replace')}")
-    return ran.stdout.decode()
+def told_by(script, *words, given=b""):
+    """What a script of the repository prints, which has to end well."""
+    ran = run([f"{TOP}/{script}", *words], given, seconds=None)
+    if ran.status:
+        raise SystemExit(f"{script} {' '.join(words)}: status {ran.status}: {ran.said}")
+    return ran.out.decode()
 
 
 class Program:
@@ -188,24 +172,22 @@ class Program:
     def __init__(self, source, folder):
         self.name, self.source = os.path.basename(source)[:-2], source
         self.image = f"{folder}/{self.name}.img"
-        run("sandbox", "asm", source, self.image)
-        self.given = b""
-        if os.path.exists(source[:-2] + ".in"):
-            with open(source[:-2] + ".in", "rb") as file:
-                self.given = file.read()
-        self.listing = {it[:8]: it[18:] for it in run("sandbox", "list", self.image).splitlines()}
-        self.accepted = run("inspect", "why", self.image).startswith("accepted")
+        told_by("sandbox", "asm", source, self.image)
+        beside = f"{source[:-2]}.in"
+        self.given = bytes_of(beside) if os.path.exists(beside) else b""
+        self.listing = {it[:8]: it[18:] for it in told_by("sandbox", "list", self.image).splitlines()}
+        self.accepted = told_by("inspect", "why", self.image).startswith("accepted")
 
     def page(self, *words):
         """Its page's text."""
-        return run("inspect", "page", *words, self.image, given=self.given)
+        return told_by("inspect", "page", *words, self.image, given=self.given)
 
     def told(self, windows, limit=LIMIT):
         """The turns that `inspect trace` tells."""
         words = ("--windows", str(windows), "--limit", str(limit), self.image)
-        return [items_of(it) for it in unbroken(run("inspect", "trace", *words, given=self.given))]
+        return [items_of(it) for it in unbroken(told_by("inspect", "trace", *words, given=self.given))]
 
     def traced(self, windows, limit=LIMIT):
         """The columns that `sandbox trace` prints."""
         words = ("--windows", str(windows), "--limit", str(limit), self.image)
-        return [it.split() for it in run("sandbox", "trace", *words, given=self.given).splitlines()]
+        return [it.split() for it in told_by("sandbox", "trace", *words, given=self.given).splitlines()]
