@@ -2,6 +2,8 @@
 crate's prefix; a head of crates.txt reads `# RING: FLOOR`."""
 import dataclasses
 
+# From the one that carries the promise outward.
+RINGS = ("promise", "language", "engine", "inspect", "cmd", "fit", "hosts", "tests")
 # The crates whose contracts say the promise: all below them is its ring.
 PROMISE = ("sbx_run", "sbx_stream", "sbx_batch")
 LANGUAGE = ("sbx_asm",)
@@ -9,6 +11,8 @@ LANGUAGE = ("sbx_asm",)
 PREFIXES = {"engine": "engine", "inspect": "inspect", "cmd": "cmd", "fit": "fit", "flat": "tests"}
 OTHERS = {"sbx_tool": "cmd", "sbx_reader": "cmd", "sbx_session": "hosts", "host": "hosts", "geyserpan": "hosts",
           "v8_vectors": "tests", "v8_turns": "tests", "sbx_verdicts": "tests", "sbx_bench": "tests"}
+
+
 @dataclasses.dataclass
 class Crate:
     line: str

@@ -143,6 +143,15 @@ def wrong_rows(page):
     yield from sorted(name for name in {*told, *known} if told.count(name) != 1 or name not in known)
 
 
+def try_map(tally):
+    """The picture of the rings, the heads of crates.txt, and the table of shared names."""
+    drawn = subprocess.run([f"{TOP}/tools/map"], stdout=subprocess.PIPE, text=True, check=False).stdout
+    tally.check("docs/map.svg", drawn == text_of(f"{TOP}/docs/map.svg"), "wanted what tools/map prints")
+    for tool in ("map", "namesakes"):
+        ran = subprocess.run([f"{TOP}/tools/{tool}", "--check"], stdout=subprocess.PIPE, text=True, check=False)
+        tally.check(f"tools/{tool} --check", ran.returncode == 0, ran.stdout.strip())
+
+
 def try_page(tally, page):
     """A page's commands, links and tables."""
     name = os.path.relpath(page, TOP)
@@ -159,6 +168,8 @@ def try_page(tally, page):
         tally.check(name, False, f"other lines: {row}")
     for crate in wrong_rows(page) if name == "docs/map.md" else ():
         tally.check(name, False, f"wanted one row for each crate and no other, came {crate}")
+    if name == "docs/map.md":
+        try_map(tally)
     if name == "docs/contracts.md":
         is_same = subprocess.run([f"{TOP}/tools/contracts", "--check"], check=False).returncode == 0
         tally.check(name, is_same, "wanted what tools/contracts prints")

@@ -54,15 +54,15 @@ TELLS = [
     ("cmd_stops", "CommandStop", "NoRoom", "Full"),
     ("cmd_words", "Usage", "Memory", "Want"),
     ("cmd_words", "Usage", "NoRoom", "Starved"),
-    ("engine_runs", "Halt", "Refused", "Want"),
-    ("engine_runs", "Stand", "Refused", "Want"),
-    ("inspect_start", "Cause", "Memory", "Want"),
+    ("engine_runs", "FlatStop", "Refused", "Want"),
+    ("engine_runs", "FlatStand", "Refused", "Want"),
+    ("inspect_start", "StartCause", "Memory", "Want"),
     ("sbx_verdicts", "LineFault", "Memory", "Want"),
     ("host", "Lack", "Memory", "Want"),
-    ("host", "Halt", "Memory", "Want"),
-    ("host", "Halt", "NoRoom", "Full"),
-    ("host", "Fault", "Memory", "Want"),
-    ("host", "Fault", "NoRoom", "Full"),
+    ("host", "RunHalt", "Memory", "Want"),
+    ("host", "RunHalt", "NoRoom", "Full"),
+    ("host", "HostFault", "Memory", "Want"),
+    ("host", "HostFault", "NoRoom", "Full"),
 ]
 
 # What tells a file or a stream as faulty: enum and variant.
@@ -267,8 +267,9 @@ def form_of_kept(tokens, at):
     word, before, behind = tokens[at][0], words_at(tokens, at - 1, 1), words_at(tokens, at + 1, 1)
     if is_used(tokens, at):
         return "use items"
-    if words_at(tokens, at - 2, 3) == "Stand :: Full" or words_at(tokens, opener_of(tokens, at) - 2,
-                                                                  2) == "enum Stand":
+    stands = ("Stand", "FlatStand")
+    is_stand = words_at(tokens, at - 2, 3) in [f"{it} :: Full" for it in stands]
+    if is_stand or words_at(tokens, opener_of(tokens, at) - 2, 2) in [f"enum {it}" for it in stands]:
         return "stands of a run in pieces"
     if before in ("struct", "impl") or before == "<" and behind == ">" or words_at(tokens, at - 2,
                                                                                    4) == f"NoRoom ( {word} )":
@@ -282,7 +283,7 @@ def arm_of(tokens, at):
     """Returns the pattern of the arm whose answer begins right before this place, as `=> Err(` or `=> return Err(`,
     and what is matched; None where there is no such arm."""
     arrow = at - 1
-    while words_at(tokens, arrow, 1) in ("(", "Err", "return", "Fault", "::", "Stop", "CommandStop"):
+    while words_at(tokens, arrow, 1) in ("(", "Err", "return", "InspectFault", "HostFault", "::", "Stop", "CommandStop"):
         arrow -= 1
     if words_at(tokens, arrow, 1) != "=>":
         return None

@@ -3,16 +3,13 @@ commit."""
 import os
 import re
 import subprocess
+import sys
 
 # The memory that one check is reckoned to take.
 CHECK_BYTES = 5 << 30
 TOP = os.path.dirname(os.path.dirname(os.path.dirname(os.path.abspath(__file__))))
-# The rings, from the one that carries the promise outward.
-RINGS = ("promise", "language", "engine", "inspect", "cmd", "fit", "hosts", "tests")
-# What runs an accepted image, and what makes an image of a source: a ring each with all that stands below.
-CARRIED = {"promise": ("sbx_run", "sbx_stream", "sbx_batch"), "language": ("sbx_asm",)}
-# The crates of other rings whose names don't say theirs.
-NAMED = {"sbx_tool": "cmd", "sbx_reader": "cmd", "sbx_session": "hosts", "host": "hosts", "geyserpan": "hosts"}
+sys.path.insert(0, f"{TOP}/tools")
+from rings import RINGS, rings_of
 
 
 def crates():
@@ -37,19 +34,8 @@ def all_below(name, listed):
 
 
 def rings():
-    """Returns the ring of each crate: by what is carried, else by its name."""
-    listed, found = crates(), {}
-    for ring, tops in CARRIED.items():
-        for top in tops:
-            for name in (top, *all_below(top, listed)):
-                found.setdefault(name, ring)
-    return {name: found.get(name) or ring_by_name(name) for name in listed}
-
-
-def ring_by_name(name):
-    """Returns the ring that a crate's name says; tests are what says none."""
-    prefix = name.partition("_")[0]
-    return NAMED.get(name) or (prefix if prefix in ("engine", "inspect", "cmd", "fit") else "tests")
+    """Returns the ring of each crate."""
+    return rings_of(crates())
 
 
 def lines_of(name):
