@@ -3,8 +3,8 @@
 
 Runs the commands that README.md and docs/*.md (or the FILEs) show, and compares what they print; docs/development.md
 says how a page shows them. Looks up the files and headings that the pages link to, counts the lines of the files
-whose lines a table tells, looks whether the map's tables have a row for each crate, and whether docs/contracts.md is
-what tools/contracts prints."""
+whose lines a table tells, looks whether the map's tables have a row for each crate, and those of docs/development.md
+one for each suite, and whether docs/contracts.md is what tools/contracts prints."""
 import glob
 import os
 import re

@@ -80,13 +80,14 @@ def strangers(pages):
 
 def fits(pages):
     """Each part is on the screen at four sizes, whole; letters are large enough."""
-    pages = []
+    single = []
     for name, turn in (("chain", 38), ("sort", 20700), ("fault", 3)):
-        pages.append((turn, pages.written(name, pages.programs[name].page("--source", pages.programs[name].source))))
+        program = pages.programs[name]
+        single.append((turn, pages.written(name, program.page("--source", program.source))))
     two = pages.written("two", pages.programs["chain"].page("--beside-windows", "4"))
     for width, height in SIZES:
         pages.browser.size(width, height)
-        for turn, path in pages:
+        for turn, path in single:
             pages.browser.open(path, f"#turn={turn}")
             fits_one(pages, f"{width} by {height}, {os.path.basename(path)}", (width, height))
         pages.browser.open(two, "#turn=100")

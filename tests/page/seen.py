@@ -25,8 +25,8 @@ def turns(pages):
             )
     for program in pages.further:
         looked += Watch(pages.tally, pages.browser, program, 8).look(pages.written(program.name, program.page()), SEEN)
-    pages = len(pages.programs) * len(WINDOWS) + len(pages.further)
-    print(f"{pages.browser.name}: {looked} turns of {pages} pages looked at", flush=True)
+    count = len(pages.programs) * len(WINDOWS) + len(pages.further)
+    print(f"{pages.browser.name}: {looked} turns of {count} pages looked at", flush=True)
     same_both_ways(pages)
     for name in ("fault", "slots", "sort"):
         source(pages, pages.programs[name])
