@@ -23,7 +23,8 @@ BUILT, WORK = "rlib", "incremental"
 RT = f"{TOP}/tools/build/rt-once"
 # The most jobs of one check that help.
 MOST_JOBS = 4
-# Where builds have their rooms. `rt` walks the folders out/ of all crates that it reads, and stops where a folder goes meanwhile.
+# Where builds have their rooms. `rt` walks the folders out/ of all crates that it reads, and stops where a folder
+# goes meanwhile.
 ROOMS = f"{TOP}/tools/build/out"
 # What removes rooms that are done with: no build waits for it, and the process ends after it.
 SWEEPER = ThreadPoolExecutor(1)
@@ -67,8 +68,8 @@ def line_of(name, listed):
 
 
 def lay_out(room, name, below):
-    """Makes a repository of the crate and those below it: sources and what is built by hard links, stamps by copies, which `rt`
-    writes over."""
+    """Makes a repository of the crate and those below it: sources and what is built by hard links, stamps by copies,
+    which `rt` writes over."""
     with open(f"{TOP}/crates.txt", encoding="utf-8") as file:
         listed = [it for it in file if it[:1].isalpha()]
     with open(f"{room}/crates.txt", "w", encoding="utf-8") as file:
@@ -126,8 +127,8 @@ def build_in(children, room, name, below, jobs):
 
 
 def build(children, name, below, jobs):
-    """Builds one library over those below it, which stand built. Returns what `rt` said where it failed, else None. What is half
-    built isn't kept, but for the work that `rt` goes on from."""
+    """Builds one library over those below it, which stand built. Returns what `rt` said where it failed, else None.
+    What is half built isn't kept, but for the work that `rt` goes on from."""
     for it in (f"{TOP}/crates/{name}/out", ROOMS):
         os.makedirs(it, exist_ok=True)
     held = os.open(f"{TOP}/crates/{name}", os.O_RDONLY)
@@ -164,8 +165,9 @@ def libraries_below(crate):
 
 
 def build_all(children, crate, tell):
-    """Builds the libraries that the crate stands on, lowest first, and first those that the longest chains wait for, with the processors
-    that no other one waits for as further jobs; says of each how many stand. Raises Failed with what the first failure said."""
+    """Builds the libraries that the crate stands on, lowest first, and first those that the longest chains wait for,
+    with the processors that no other one waits for as further jobs; says of each how many stand. Raises Failed with
+    what the first failure said."""
     names, below = libraries_below(crate)
     behind, left, given = chains(names, crates()), list(names), set()
     with ThreadPoolExecutor(lanes()) as pool:

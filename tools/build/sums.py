@@ -22,7 +22,8 @@ def sources(crate):
 def lines_of_crates(names):
     """What crates.txt says of the crates."""
     with open(f"{TOP}/crates.txt", encoding="utf-8") as file:
-        return sorted(it for it in file if it.partition(":")[0].split()[:1] and it.partition(":")[0].split()[0] in names)
+        return sorted(it for it in file if it.partition(":")[0].split()[:1]
+                      and it.partition(":")[0].split()[0] in names)
 
 
 def sum_of(crate):
@@ -43,5 +44,6 @@ def logic():
     rt = shutil.which("rt")
     if rt is None:
         return None
-    with open(os.path.join(os.path.dirname(os.path.dirname(os.path.realpath(rt))), "KIT-ID"), encoding="utf-8") as file:
+    with open(os.path.join(os.path.dirname(os.path.dirname(os.path.realpath(rt))), "KIT-ID"),
+              encoding="utf-8") as file:
         return file.readline().strip().partition(" logic ")[2]

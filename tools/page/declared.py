@@ -1,4 +1,5 @@
-"""The lines of a page's data that stand before the turns: what the image declares, holds and says, and the machine's own code."""
+"""The lines of a page's data that stand before the turns: what the image declares, holds and says, and the machine's
+own code."""
 import re
 
 from memory import CODE, DATA, TRAP_TABLE
@@ -11,9 +12,11 @@ LISTED = re.compile(r"([0-9A-F]{8}) ([0-9A-F]{8})  (\S+(?: [^!\n]*[^!\s])?) *(?:
 
 
 class Declared:
-    """What `inspect image` tells: pages of stack, words of code, regions (address, bytes, may be written), functions and blocks.
+    """What `inspect image` tells: pages of stack, words of code, regions (address, bytes, may be written), functions
+    and blocks.
 
-    A function is its address and the operands of its line, a block its function, address, fuel and terms (location, factor)."""
+    A function is its address and the operands of its line, a block its function, address, fuel and terms (location,
+    factor)."""
 
     def __init__(self, text):
         self.stack, self.words, self.regions, self.functions, self.blocks = 1, 0, [], [], []
@@ -57,7 +60,8 @@ class Declared:
         for number, address, framed, frame, room, budget, depth in self.functions:
             yield f"f{number} {address:X} {framed:d} {frame} {room} {budget} {depth}"
             for _, start, fuel, terms in (it for it in self.blocks if it[0] == number):
-                yield f"b{number} {start:X} {fuel}" + "".join(f" {location_number(name)}:{factor}" for name, factor in terms)
+                yield f"b{number} {start:X} {fuel}" + "".join(f" {location_number(name)}:{factor}" for name,
+                                                              factor in terms)
 
 
 def location_number(name):
@@ -117,8 +121,8 @@ class Handlers:
 
 
 def source_lines(text, listed):
-    """Yields the line of each line of a source: the address of its first word, how many it has, and its bytes. A `set` has one word
-    or two, told by the listing."""
+    """Yields the line of each line of a source: the address of its first word, how many it has, and its bytes. A
+    `set` has one word or two, told by the listing."""
     address = CODE
     for line in text.split("\n"):
         words = words_of(line, listed.get(address, ""))
@@ -138,7 +142,8 @@ def words_of(line, first):
 
 
 def set_takes_two(operands):
-    """Whether a `set` whose first word is `sethi` has a second: where it names a symbol, or the number's low ten bits aren't 0."""
+    """Whether a `set` whose first word is `sethi` has a second: where it names a symbol, or the number's low ten bits
+    aren't 0."""
     number = operands.strip().partition(",")[0].replace(" ", "")
     try:
         return int(number, 0 if "x" in number else 10) & 0x3FF != 0

@@ -3,7 +3,8 @@ CODE, DATA, STACK, TRAP_TABLE, HANDLERS, DEVICE = 0x40000, 0x80000, 0xC0000, 0xF
 PAGE, PAGES = 4096, 64
 REFERENCED, MODIFIED, ACCESS = 0x20, 0x40, 0x1C
 
-# By the address of the first page: where the entries of the pages of code, data and stack stand, and the first of them.
+# By the address of the first page: where the entries of the pages of code, data and stack stand, and the first of
+# them.
 TABLES = {CODE: (0x2A00, 0x1012), DATA: (0x2B00, 0x5006), STACK: (0x2C00, 0x6006)}
 SYSTEM = {TRAP_TABLE: 0x2D00, HANDLERS: 0x2D04, DEVICE: 0x2D40}
 SYSTEM_WORDS = {0x2D00: 0x1A, 0x2D04: 0x11A, 0x2D40: 0x1000001E}
@@ -21,8 +22,8 @@ def entry(address):
 
 
 def table_words(words, regions, stack):
-    """The words of the tables that aren't 0, by place: of an image with so many words, these regions (address, bytes, may be
-    written) and pages of stack."""
+    """The words of the tables that aren't 0, by place: of an image with so many words, these regions (address, bytes,
+    may be written) and pages of stack."""
     found = {**DESCRIPTORS, **SYSTEM_WORDS}
     found.update(entry(it) for it in range(CODE, CODE + 4 * words, PAGE))
     found.update(entry(STACK + PAGE * it) for it in range(PAGES - stack, PAGES))

@@ -5,7 +5,8 @@ import os
 
 HERE = os.path.dirname(os.path.abspath(__file__))
 # The script's parts, in the order in which each needs those before it.
-SCRIPT = ("elements", "run", "story", "bound", "code", "windows", "memory", "traps", "fuel", "stops", "beside", "steps")
+SCRIPT = ("elements", "run", "story", "bound", "code", "windows", "memory", "traps", "fuel", "stops", "beside",
+          "steps")
 
 
 def part(name):
@@ -15,7 +16,8 @@ def part(name):
 
 
 def lean(text):
-    """A style or a script without indentation, empty lines and lines that are comments, which nobody needs who looks at a run."""
+    """A style or a script without indentation, empty lines and lines that are comments, which nobody needs who looks
+    at a run."""
     lines = (it.strip() for it in text.split("\n"))
     return "".join(f"{it}\n" for it in lines if it and not it.startswith(("//", "/*")))
 

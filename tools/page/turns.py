@@ -1,13 +1,15 @@
 """The turns of a run as lines of a page's data: what `inspect trace` tells of each, and what follows from that.
 
-A line has an item for each thing that happened or changed, a small letter with capital hexadecimal behind it (docs/inspect.md has
-them all); where nothing but PC moved it is empty. `inspect trace` doesn't tell nPC, the trap base register, the address of a load
-and the marks of the system's pages: they follow from the lines about a turn and from the registers before it."""
+A line has an item for each thing that happened or changed, a small letter with capital hexadecimal behind it
+(docs/inspect.md has them all); where nothing but PC moved it is empty. `inspect trace` doesn't tell nPC, the trap
+base register, the address of a load and the marks of the system's pages: they follow from the lines about a turn and
+from the registers before it."""
 import re
 
 from memory import CODE, DEVICE, HANDLERS, MODIFIED, REFERENCED, TRAP_TABLE, entry
 
-HEAD = re.compile(r" *(\d+) (\d\d) ([us]) ([0-9A-F]{8}) (?:f\d+\+\w+|vector \w\w\+\w|overflow\+\w+|underflow\+\w+|-) +(.*)", re.S)
+PLACE = r"(?:f\d+\+\w+|vector \w\w\+\w|overflow\+\w+|underflow\+\w+|-)"
+HEAD = re.compile(rf" *(\d+) (\d\d) ([us]) ([0-9A-F]{{8}}) {PLACE} +(.*)", re.S)
 ACCESS = re.compile(r"(ld|st|swap)(\w*) .*\[(.*)\]")
 OPERAND = re.compile(r"-?%?\w+")
 
@@ -24,7 +26,8 @@ DATA_ACCESS = 9
 class Told:
     """A turn as `inspect trace` tells it."""
 
-    __slots__ = ("window", "user", "pc", "text", "trap", "trap_name", "fault", "fault_text", "end", "registers", "psr", "wim", "y",
+    __slots__ = ("window", "user", "pc", "text", "trap", "trap_name", "fault", "fault_text", "end", "registers", "psr",
+                 "wim", "y",
                  "pages", "stores", "put_out")
 
     def __init__(self, text):
@@ -32,7 +35,8 @@ class Told:
         if not head:
             raise ValueError(f"no turn: {text!r}")
         self.window, self.user, self.pc = int(head[2]), head[3] == "u", int(head[4], 16)
-        self.trap = self.trap_name = self.fault = self.fault_text = self.end = self.psr = self.wim = self.y = self.put_out = None
+        self.trap = self.trap_name = self.fault = self.fault_text = self.end = None
+        self.psr = self.wim = self.y = self.put_out = None
         self.registers, self.pages, self.stores = [], [], []
         self.text, *items = [it.strip() for it in head[5].replace("\n", "  ").split("  ") if it.strip()]
         for item in items:
@@ -71,8 +75,8 @@ class Told:
 
 
 def read(lines):
-    """Yields the turns of the text of `inspect trace`, whose lines go on where they begin with seven blanks. Behind them a line may say
-    that the limit was met."""
+    """Yields the turns of the text of `inspect trace`, whose lines go on where they begin with seven blanks. Behind
+    them a line may say that the limit was met."""
     text = ""
     for line in lines:
         if line.startswith("limit: "):
@@ -97,7 +101,8 @@ class Writer:
         self.trap_names, self.fault_texts = {}, {}
 
     def place(self, number, window):
-        """The register's place among 8 globals and 16 registers a window: the ins of a window are the outs of the one above it."""
+        """The register's place among 8 globals and 16 registers a window: the ins of a window are the outs of the one
+        above it."""
         if number < 8:
             return number
         if number < 24:
@@ -130,8 +135,8 @@ class Writer:
         return told
 
     def counters(self, turn, after, last):
-        """PC and nPC behind the turn, where they aren't what nPC was and the word behind that, or behind a trap the first two words
-        of its vector. The next two turns tell them; of a turn that traps, %l2 of its window does."""
+        """PC and nPC behind the turn, where they aren't what nPC was and the word behind that, or behind a trap the
+        first two words of its vector. The next two turns tell them; of a turn that traps, %l2 of its window does."""
         if turn.end == "error mode":
             pc, npc = turn.pc, self.npc
         elif after is None:
@@ -167,7 +172,8 @@ class Writer:
         return told
 
     def address(self, turn):
-        """The address that the turn's instruction loads from or stores to, by the registers before it: None where it does neither."""
+        """The address that the turn's instruction loads from or stores to, by the registers before it: None where it
+        does neither."""
         form = ACCESS.match(turn.text) if turn.fetched else None
         if not form:
             return None
@@ -195,7 +201,8 @@ class Writer:
         return told + "".join(f"m{place:08X}{word:X}" for place, word in turn.stores)
 
     def marks(self, turn, address):
-        """Yields the table words that change by a mark, each with its place: of pages that are told, and of the system's."""
+        """Yields the table words that change by a mark, each with its place: of pages that are told, and of the
+        system's."""
         for page, modified in turn.pages:
             yield from self.mark(page, modified)
         if turn.fetched and turn.pc >> 12 in (TRAP_TABLE >> 12, HANDLERS >> 12):

@@ -1,5 +1,5 @@
-"""The board with an image loaded, and the lines of its states: a model in Python, written from docs/profile.md and docs/image.md, apart
-from the program. `tools/vectors/make --traces` makes vectors/traces with it."""
+"""The board with an image loaded, and the lines of its states: a model in Python, written from docs/profile.md and
+docs/image.md, apart from the program. `tools/vectors/make --traces` makes vectors/traces with it."""
 import struct
 
 from v8_model import WORD, Cpu, Memory, Turn
@@ -15,10 +15,10 @@ VECTORS = {
     0x82: "273C0040 F024E004 81C48000 81CCA004",
 }
 OTHER = "273C0040 C024E00C 01000000 01000000"
-OVERFLOW = ("8334E001 AB2CE000 82154001 81E00000 81904000 01000000 01000000 01000000 E03BA000 E43BA008 E83BA010 EC3BA018 F03BA020"
-            " F43BA028 F83BA030 FC3BA038 81E80000 82100014 81C44000 81CC8000")
-UNDERFLOW = ("AB34E000 A8154014 81950000 01000000 01000000 01000000 81E80000 81E80000 E01BA000 E41BA008 E81BA010 EC1BA018 F01BA020"
-             " F41BA028 F81BA030 FC1BA038 81E00000 81E00000 81C44000 81CC8000")
+OVERFLOW = ("8334E001 AB2CE000 82154001 81E00000 81904000 01000000 01000000 01000000 E03BA000 E43BA008 E83BA010 "
+            "EC3BA018 F03BA020 F43BA028 F83BA030 FC3BA038 81E80000 82100014 81C44000 81CC8000")
+UNDERFLOW = ("AB34E000 A8154014 81950000 01000000 01000000 01000000 81E80000 81E80000 E01BA000 E41BA008 E81BA010"
+             " EC1BA018 F01BA020 F41BA028 F81BA030 FC1BA038 81E00000 81E00000 81C44000 81CC8000")
 TABLES = {0x2000: 0x241, 0x2400: 0x281, 0x27C0: 0x291, 0x2804: 0x2A1, 0x2808: 0x2B1, 0x280C: 0x2C1, 0x2900: 0x2D1,
           0x2D00: 0x1A, 0x2D04: 0x11A, 0x2D40: 0x1000001E}
 
@@ -122,8 +122,9 @@ class States:
 
     def head(self, number, word, event, annul):
         cpu = self.cpu
-        return (f"{number} {cpu.cwp:02d} {cpu.pc:08X} {cpu.npc:08X} {annul} {cpu.psr():08X} {cpu.wim:08X} {cpu.tbr():08X} {cpu.y:08X}"
-                f" {cpu.status:08X} {'--------' if word is None else f'{word:08X}'} {event}")
+        state = " ".join(f"{it:08X}" for it in (cpu.psr(), cpu.wim, cpu.tbr(), cpu.y, cpu.status))
+        return (f"{number} {cpu.cwp:02d} {cpu.pc:08X} {cpu.npc:08X} {annul} {state}"
+                f" {'--------' if word is None else f'{word:08X}'} {event}")
 
     def registers(self):
         """The registers of the window that hold another word than was told of them."""
@@ -142,7 +143,8 @@ class States:
         if turn.access and turn.access[3] and turn.access[1] < DEVICE:
             first = turn.access[1] & ~3
             stored = [it for it in range(first, first + max(turn.access[2], 4), 4) if it not in entries]
-        return [f"{kind}{place:08X}={now[place]:08X}" for kind, places in (("e", entries), ("m", stored)) for place in places
+        return [f"{kind}{place:08X}={now[place]:08X}" for kind,
+                places in (("e", entries), ("m", stored)) for place in places
                 if now.get(place, 0) != before.get(place, 0)]
 
     def lines(self, limit):
