@@ -46,7 +46,7 @@ with_number c Context n = record c { context = n }
 -- a register is that of the window that was named last
 abbrev pub set_named : Said → StartName → ℕ → Said
 set_named s names.Window n = record s { window = n }
-set_named s (names.ControlValue field) n = record s { control = with_number s.control field n }
+set_named s (names.Control field) n = record s { control = with_number s.control field n }
 set_named s (names.Register r) n =
     record s { registers = s.registers ++ record { window = s.window; register = r; word = n } ∷ [] }
 

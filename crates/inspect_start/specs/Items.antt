@@ -48,7 +48,7 @@ behind_name windows name (word ∷ more ∷ words) = Err causes.Count
 
 abbrev pub behind_word : ℕ → List ℕ → List (List ℕ) → Result Item StartCause
 behind_word windows word words =
-    elim (name_of word) [ Some name ↦ behind_name windows name words | None ↦ Err causes.StartName ]
+    elim (name_of word) [ Some name ↦ behind_name windows name words | None ↦ Err causes.Name ]
 
 -- what words say: none say nothing; the first one is a physical address of 36 bits, or a name
 abbrev pub said_by : ℕ → List (List ℕ) → Result Item StartCause
