@@ -6,7 +6,7 @@ use Rattle.std.proofs.lemmas.Bool.Decides.{nat_tests}
 use Rattle.std.proofs.lemmas.Grind.{common_steps}
 use Rattle.std.proofs.lemmas.List.{at_drop_more, ext_get_or, get_or-replicate, get_or-set_same, length-replicate, set-get_or, set-set}
 use Rattle.v8_map.specs.declared.TheConstants.{RAM, STACK_START}
-use Rattle.v8_core.specs.ControlValue.{ControlValue}
+use Rattle.v8_core.specs.Control.{Control}
 use Rattle.v8_core.specs.Cpu.{Cpu}
 use Rattle.v8_core.specs.Registers.{booted, cleared, psr_window, stack_pointer, started_with, trap_base, with_psr, with_wim}
 use Rattle.v8_core.specs.Windows.{Windows, moved, with_reg}
@@ -57,7 +57,7 @@ window_set n old new w false is made = (
   (ap (λ (c : Cpu n). c.control.annul) made, ap (λ (c : Cpu n). c.control.status) made, ap (λ (c : Cpu n). c.control.error) made),
 )
 
-pub same_rest : (a b c : ControlValue) → SameRest a b → SameRest b c → SameRest a c
+pub same_rest : (a b c : Control) → SameRest a b → SameRest b c → SameRest a c
 same_rest a b c (annul, status, error) (annul', status', error') = (annul' ∙ annul, status' ∙ status, error' ∙ error)
 
 -- PSR written with a window that there is
@@ -66,7 +66,7 @@ psr_set n old new w true is less made = made
 psr_set n old new w false is less made = let bad : false ≡ true = is.1 less in absurd (let worse : ⊥ = cc in worse)
 
 -- a processor whose other registers were written, and then PSR
-said : (n : ℕ) (regs : Windows) (k : ControlValue) (c : Said) → SameRest (started_with 0) k
+said : (n : ℕ) (regs : Windows) (k : Control) (c : Said) → SameRest (started_with 0) k
     → with_psr n (record { regs = record regs { mask = c.wim % 2 ^ n }; control = record k { base = trap_base c.tbr; tt = c.tbr / 2 ^ 4 % 2 ^ 8; y = c.y; pc = c.pc; npc = c.npc } }) c.psr
     ≡ with_control n regs c
 unfolding with_psr

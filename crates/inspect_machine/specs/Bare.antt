@@ -1,6 +1,6 @@
 -- A machine as a start sets it.
 use Rattle.std.specs.Prelude.{ℕ, ◌≡◌, ◌/◌, ◌%◌, ◌^◌, fold}
-use Rattle.v8_core.specs.ControlValue.{ControlValue}
+use Rattle.v8_core.specs.Control.{Control}
 use Rattle.v8_core.specs.Cpu.{Cpu}
 use Rattle.v8_core.specs.MmuRegs.{MmuRegs}
 use Rattle.v8_core.specs.Registers.{cleared, psr_window, started_with, trap_base, with_psr}
@@ -15,11 +15,11 @@ abbrev pub with_register : (n : ℕ) → Windows → Register → Windows
 with_register n v r = with_reg n (entered n v (psr_window r.window)) r.register r.word
 
 -- the annul flag, the fault status and error mode are as before
-abbrev pub SameRest : ControlValue → ControlValue → Type 0
+abbrev pub SameRest : Control → Control → Type 0
 SameRest old new = (new.annul ≡ old.annul) × (new.status ≡ old.status) × (new.error ≡ old.error)
 
 -- PC, nPC, TBR and Y; no annulled instruction, no fault status, no error mode
-abbrev pub control_of : Said → ControlValue
+abbrev pub control_of : Said → Control
 control_of c = record (started_with c.y) { pc = c.pc; npc = c.npc; base = trap_base c.tbr; tt = c.tbr / 2 ^ 4 % 2 ^ 8 }
 
 -- and WIM, of a processor with these registers, and PSR with its window
