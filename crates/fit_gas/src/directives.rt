@@ -26,11 +26,13 @@ enum DataItem {
     Values(usize),
     Strings { zeros: usize },
     Room,
+    /// A value so many times.
+    Repeated,
 }
 
 const WRITABLE: Section = Section::Data { readonly: false };
 
-static DIRECTIVES: [(&str, GasDirective); 39] = [
+static DIRECTIVES: [(&str, GasDirective); 40] = [
     (".section", GasDirective::Section { is_named: true }),
     (".text", GasDirective::Section { is_named: false }),
     (".data", GasDirective::Section { is_named: false }),
@@ -62,6 +64,7 @@ static DIRECTIVES: [(&str, GasDirective); 39] = [
     (".skip", GasDirective::Data(DataItem::Room)),
     (".space", GasDirective::Data(DataItem::Room)),
     (".zero", GasDirective::Data(DataItem::Room)),
+    (".fill", GasDirective::Data(DataItem::Repeated)),
     (".local", GasDirective::Nothing),
     (".size", GasDirective::Nothing),
     (".ident", GasDirective::Nothing),
@@ -168,16 +171,13 @@ impl Assembly {
             match data {
                 DataItem::Values(size) => self.value(size, first),
                 DataItem::Strings { zeros } => self.string(first, zeros),
-                DataItem::Room => break,
+                DataItem::Room => return self.room(text),
+                DataItem::Repeated => return self.repeated(text),
             }
             rest = others;
             if rest.is_empty() {
                 return;
             }
-        }
-        if let DataItem::Room = data {
-            let count = self.natural(text, 0xffff_ffff);
-            self.add(&[], count as usize);
         }
     }
 

@@ -130,8 +130,9 @@ pub struct Assembly {
     /// The files of the numbers of `.file`.
     pub(crate) numbered: BTreeMap<i64, usize>,
     pub(crate) section: Section,
-    /// What the next data are aligned to.
+    /// What the next data are aligned to, and what fills the room before them.
     pub(crate) align: u32,
+    pub(crate) padding: u8,
     /// Where the object begins that data are added to, the last one; none where they would have no label.
     pub(crate) start: Option<usize>,
     /// How many instructions the function has that others are added to, the last one; none where they would have none.
@@ -160,6 +161,7 @@ impl Assembly {
             numbered: BTreeMap::new(alloc),
             section: Section::Code,
             align: 1,
+            padding: 0,
             start: None,
             at: None,
             place: NO_LINE,
@@ -175,6 +177,11 @@ impl Assembly {
             None => self.bytes.len(),
         };
         bytes_between(self.bytes.as_slice(), object.start, end)
+    }
+
+    /// Whether a fault was noted.
+    pub(crate) fn is_refused(&self) -> bool {
+        self.fault.is_some()
     }
 
     /// Notes a fault at the line that is read, of which the first one is told.

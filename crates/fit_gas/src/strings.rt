@@ -1,5 +1,4 @@
 //! The bytes that a string of the assembler stands for.
-use crate::text::unquoted;
 use fit_code::Heap;
 use v8_syntax::{beside, bytes_between};
 
@@ -34,26 +33,33 @@ fn escaped(text: &[u8]) -> (u8, usize) {
     }
 }
 
-/// Appends the bytes of a string, which stands here in its quotes. False where it has no quotes, and where `\x` is in
-/// it, which isn't read, or a backslash that ends it.
-pub fn push_string(memory: &mut Heap, text: &[u8], out: &mut Vec<u8>) -> bool {
-    let Some(mut rest) = unquoted(text) else {
-        return false;
-    };
+/// Appends the bytes of strings that stand one behind the other, each in its quotes. False where one has none, and where
+/// `\x` is in it, which isn't read, or a backslash that ends it.
+pub fn push_strings(memory: &mut Heap, text: &[u8], out: &mut Vec<u8>) -> bool {
+    let mut rest = text;
+    let mut is_open = false;
     for _ in 0..text.len() {
         let Some((first, others)) = rest.split_first() else {
             break;
         };
-        let mut byte = *first;
-        let mut length = 0;
-        if byte == b'\\' {
-            (byte, length) = escaped(others);
-            if length == 0 {
-                return false;
+        rest = others;
+        if *first == b'"' {
+            is_open = !is_open;
+            rest = if is_open { others } else { others.trim_ascii() };
+        } else if is_open {
+            let mut byte = *first;
+            let mut length = 0;
+            if byte == b'\\' {
+                (byte, length) = escaped(others);
+                if length == 0 {
+                    return false;
+                }
             }
+            memory.push(out, byte);
+            rest = bytes_between(others, length, others.len());
+        } else {
+            return false;
         }
-        memory.push(out, byte);
-        rest = bytes_between(others, length, others.len());
     }
-    true
+    !is_open & !text.is_empty()
 }
