@@ -4,5 +4,7 @@ mod place;
 mod words;
 
 pub use cut::{copy_block, insert_instr, push_block, push_branch, push_instrs};
-pub use place::{CODES, SCRATCH, Y, drop_compare, in_use, last_writer, set_codes_again, use_of};
+pub use place::{
+    CODES, SCRATCH, Writer, Y, drop_compare, in_use, last_writer, set_codes_again, use_of,
+};
 pub use words::{by_immediate, clearing, number_in, register};

@@ -4,8 +4,10 @@
 
 mod asks;
 mod cuts;
+mod forms;
 mod plans;
 mod settling;
+mod undefined;
 
 pub use asks::{Asking, NotShown, UnshownAccess, asks_of, needed_alignment};
 pub use cuts::{CODES, Y, insert_instr, number_in, push_block, push_instrs, register, use_of};

@@ -2,10 +2,12 @@
 //! exit word tells kind and line. Nothing rests on them, since the verifier asks all again.
 use crate::asks::{Ask, Asking, NotShown, UnshownAccess, asks_of, live_behind, shorten_steps};
 use crate::cuts::{
-    CODES, SCRATCH, Y, clearing, copy_block, drop_compare, in_use, insert_instr, number_in,
-    push_block, register, set_codes_again,
+    CODES, SCRATCH, Y, copy_block, drop_compare, in_use, insert_instr, number_in, push_block,
+    register, set_codes_again,
 };
+use crate::forms::check_forms;
 use crate::plans::{SUM, Test, TestKind, TestPlan, TestWay, plan_of, subtracting, take_division};
+use crate::undefined::clear_undefined;
 use fit_code::{Block, End, Fault, Function, Heap, NO_LINE, Program, Reason};
 use fit_graph::{enter, range_in};
 use fit_ranges::Ranges;
@@ -35,8 +37,6 @@ struct Tests {
     /// How often tests that aren't needed may be taken out yet.
     drops: u32,
     list: Vec<Test>,
-    /// Locations that were cleared at the entry of a function, by its number.
-    cleared: Vec<(usize, u16)>,
     /// Blocks that were changed since the ranges were found, by the number of their function and their own.
     changed: Vec<(usize, usize)>,
     /// Whether memory was refused for tests that were put in since it was asked.
@@ -51,6 +51,11 @@ type Answer = Result<(), &'static str>;
 
 /// The register that is tested by, and the object in which an access has to lie, if one is known.
 type Key = (u8, Option<usize>);
+
+/// What is told of a register that the callee of a call leaves alone, and whose word before the call may be asked for
+/// behind it.
+const LOST_BY_CALL: &str =
+    "a register is read that a call has left undefined: compile with -fno-ipa-ra";
 
 /// The register of the exit word, %o0.
 const EXIT_WORD: u8 = 8;
@@ -165,21 +170,6 @@ fn is_needless(test: &Test, ranges: &Ranges) -> bool {
 }
 
 impl Tests {
-    /// Makes a location 0 at the entry of a function, where it may be read before it is written. Other steps of the
-    /// same round may have asked for it too.
-    fn clear_at_entry(&mut self, blocks: &mut Vec<Block>, ask: &Ask, location: u16) -> Answer {
-        let (key, entry) = ((ask.function, location), (ask.function, 0));
-        if !self.cleared.contains(&key) {
-            self.memory.push(&mut self.cleared, key);
-            self.memory.push(&mut self.changed, entry);
-            let clear = clearing(location);
-            insert_instr(&mut self.memory, blocks, (0, 0), clear, ask.line);
-        } else if !self.changed.contains(&entry) {
-            return Err("a register is read that a call has left undefined");
-        }
-        Ok(())
-    }
-
     /// Cuts a block for a test, and puts that in. A division goes with its WRY to the test.
     fn put_test(&mut self, blocks: &mut Vec<Block>, ask: &Ask, plan: &TestPlan) -> Answer {
         let (memory, number, frame) = (&mut self.memory, ask.block, ask.frame);
@@ -195,7 +185,7 @@ impl Tests {
         };
         let mut division = None;
         if matches!(plan.kind, TestKind::Divisor) {
-            division = Some(take_division(block, frame, place)?);
+            division = Some(take_division(memory, block, frame, place)?);
             place = place.saturating_sub(1);
         }
         let mut test = Test {
@@ -209,7 +199,7 @@ impl Tests {
         let beyond = push_second(memory, blocks, (ask, place), &test);
         test.head = blocks.len();
         if let Some(steps) = &division {
-            test.push_division(memory, blocks, steps);
+            test.push_division(memory, blocks, steps.as_slice());
             test.rest = blocks.len().saturating_sub(1);
         } else {
             test.push_blocks(memory, blocks, beyond);
@@ -228,10 +218,11 @@ impl Tests {
         if ask.function >= program.functions.len() {
             return Ok(());
         }
-        let blocks = &mut program.functions[ask.function].blocks;
-        if let NotShown::Defined(location) = ask.lack {
-            return self.clear_at_entry(blocks, ask, location);
+        // what is undefined else is 0 already
+        if let NotShown::Defined(_) | NotShown::Given(_) = ask.lack {
+            return Err(LOST_BY_CALL);
         }
+        let blocks = &mut program.functions[ask.function].blocks;
         let at = (ask.function, ask.block);
         if self.changed.contains(&at) {
             return Ok(());
@@ -250,10 +241,7 @@ impl Tests {
             (_, Some(plan)) => return self.put_test(blocks, ask, plan),
             (NotShown::Divisible(..), None) => return Err("a division by 0"),
             (NotShown::Placed(access), None) => join_address(blocks.as_mut_slice(), ask, access),
-            // one that a step reads was answered at the entry
-            (NotShown::Given(location) | NotShown::Defined(location), None) => Some(clearing(
-                *location,
-            )),
+            (NotShown::Given(_) | NotShown::Defined(_), None) => None,
         };
         let Some(instr) = instr else {
             return Err("an address that can't be tested");
@@ -289,6 +277,24 @@ impl Tests {
                 self.refused = self.answer(program, ask, &mut keys);
             }
         }
+    }
+
+    /// Defines what may be undefined, before something is asked of it.
+    fn define(
+        &mut self,
+        program: &mut Program,
+        ranges: &mut Ranges,
+        state: &mut State,
+    ) -> Result<(), Fault> {
+        for _ in 0..ROUNDS {
+            clear_undefined(&mut self.memory, program, ranges, &mut self.changed);
+            if self.changed.is_empty() {
+                break;
+            }
+            ranges.renew(program, self.changed.as_slice(), state)?;
+            self.changed.clear();
+        }
+        Ok(())
     }
 
     /// Writes a function's sums in a way of which more is known, in the blocks to which control comes.
@@ -392,6 +398,7 @@ impl Tests {
             return Err(Fault::new(ask.line, Reason::Form { function, what }));
         }
         if self.changed.is_empty() {
+            check_forms(program, ranges)?;
             return ranges.check_limits(program);
         }
         let (what, most) = ("rounds of tests", u64::from(ROUNDS));
@@ -412,12 +419,12 @@ pub fn add_tests(
         by_object: options.by_object,
         drops: if options.drops { DROPS } else { 0 },
         list: Vec::new(alloc),
-        cleared: Vec::new(alloc),
         changed: Vec::new(alloc),
         memory: Heap::new(alloc),
         asked: None,
         refused: Ok(()),
     };
+    tests.define(program, ranges, state)?;
     let functions = program.functions.as_mut_slice();
     for number in 0..functions.len() {
         tests.shorten(&mut functions[number], ranges, number, state);

@@ -1,10 +1,11 @@
 //! The blocks of tests.
 use crate::cuts::{
-    Y, by_immediate, in_use, last_writer, number_in, push_block, push_branch, register,
+    CODES, SCRATCH, Writer, Y, by_immediate, in_use, last_writer, number_in, push_block,
+    push_branch, register, use_of,
 };
 use crate::plans::plan::{Test, TestWay};
 use fit_code::{Block, End, Heap, Step};
-use v8_formats::{Cond, Instr, Operand, Reg, Three};
+use v8_formats::{Cond, Instr, Operand, Reg, Three, Two};
 
 /// The registers that tests work with.
 const NUMBER: u8 = 5;
@@ -45,35 +46,138 @@ pub fn subtracting(tested: u8, lo: i32) -> [Option<Instr>; 4] {
     [high, low, Some(subtract), Some(give_back)]
 }
 
+/// What is told of a division that can't be taken to where its divisor isn't 0.
+const NO_UPPER_WORD: &str = "a division whose upper word isn't written beside it";
+
+/// What is told of a division whose codes can't be set again.
+const CODES_OF_DIVISION: &str =
+    "codes of a division whose divisor has to be tested: compare its result with 0 behind it";
+
+/// What stands behind a division where codes that it sets are asked for: a compare of its result with 0, if that is
+/// kept, and if no branch asks for its overflow. Else why there is none.
+fn compare_of_result(division: &Step, end: &End) -> Result<Step, &'static str> {
+    let result = match &division.instr {
+        Instr::UdivCc(fields) | Instr::SdivCc(fields) => fields.rd.number(),
+        _ => 0,
+    };
+    let asks_signs = match end {
+        End::Branch { cond, .. } => matches!(
+            cond,
+            Cond::Equal | Cond::NotEqual | Cond::Negative | Cond::Positive
+        ),
+        _ => true,
+    };
+    if (result == 0) | !asks_signs {
+        return Err(CODES_OF_DIVISION);
+    }
+    let instr = Instr::SubCc(by_immediate(0, result, 0));
+    Ok(Step { instr, ..*division })
+}
+
+/// Whether a second operand is 0.
+fn is_zero(operand: Operand) -> bool {
+    match operand {
+        Operand::Immediate(number) => number == 0,
+        Operand::Register(register) => register == Reg::G0,
+    }
+}
+
+/// Whether a shift by this operand leaves the sign alone.
+fn is_sign_shift(operand: Operand) -> bool {
+    match operand {
+        Operand::Immediate(count) => count == 31,
+        Operand::Register(_) => false,
+    }
+}
+
+/// What puts the sign of a word into Y again behind steps of a block, the last of which that writes Y puts it there from
+/// a register that was written since: it is worked out in a scratch register. Else why that can't be.
+fn sign_again(frame: u32, steps: &[Step], writer: &Writer) -> Result<[Step; 2], &'static str> {
+    let (put, kept) = (writer.instr, writer.written);
+    let Instr::WriteY(fields) = put else {
+        return Err(NO_UPPER_WORD);
+    };
+    if writer.place >= steps.len() || !is_zero(fields.operand2) {
+        return Err(NO_UPPER_WORD);
+    }
+    let Some(sign) = last_writer(frame, &steps[..writer.place], writer.reads) else {
+        return Err(NO_UPPER_WORD);
+    };
+    let (made, is_changed) = (
+        sign.instr,
+        (sign.written | sign.writes | kept) & sign.reads != 0,
+    );
+    let Instr::Sra(shift) = made else {
+        return Err(NO_UPPER_WORD);
+    };
+    if is_changed || !is_sign_shift(shift.operand2) {
+        return Err(NO_UPPER_WORD);
+    }
+    let step = steps[writer.place];
+    let again = Instr::Sra(Three {
+        rd: register(REST),
+        rs1: shift.rs1,
+        operand2: shift.operand2,
+    });
+    let write = Instr::WriteY(Two {
+        rs1: register(REST),
+        operand2: fields.operand2,
+    });
+    let first = Step {
+        instr: again,
+        ..step
+    };
+    let second = Step {
+        instr: write,
+        ..step
+    };
+    Ok([first, second])
+}
+
 /// Takes the division at a place out of a block, and the WRY whose word it finds in Y: where nothing else reads that
-/// word before, and what WRY reads stays the same up to the division. Where the word is in use behind, WRY stays, if it
-/// reads no register. What stood behind the division stands a place before it then. Tells why they can't be taken.
+/// word before, and what WRY reads stays the same up to the division, or is the sign of a word that does. Where the word
+/// is in use behind, WRY stays, if it reads no register. What stood behind the division stands a place before it then, behind a compare of its result where
+/// its codes are asked for. Tells why they can't be taken.
 pub fn take_division(
+    memory: &mut Heap,
     block: &mut Block,
     frame: u32,
     place: usize,
-) -> Result<[Step; 2], &'static str> {
-    let is_shared = in_use(frame, block, place.saturating_add(1)) & Y != 0;
+) -> Result<Vec<Step>, &'static str> {
+    let asked = in_use(frame, block, place.saturating_add(1));
+    let is_shared = asked & Y != 0;
+    let end = block.end;
     let steps = &mut block.steps;
     if place < steps.len()
         && let Some(writer) = last_writer(frame, &steps[..place], Y)
         && matches!(writer.instr, Instr::WriteY(_))
-        && (writer.written | writer.used) & Y | writer.reads & writer.written == 0
+        && ((writer.written | writer.used) & Y == 0)
         && writer.place < place
     {
         if is_shared & (writer.reads != 0) {
             return Err("two divisions of one upper word");
         }
-        let taken = [steps[writer.place], steps[place]];
+        let [write, division] = [steps[writer.place], steps[place]];
+        let taken = if writer.reads & writer.written == 0 {
+            memory.copy(&[write, division])
+        } else if asked & SCRATCH != 0 {
+            return Err(NO_UPPER_WORD);
+        } else {
+            let [sign, write] = sign_again(frame, &steps[..place], &writer)?;
+            memory.copy(&[sign, write, division])
+        };
+        let sets_codes = use_of(frame, &division).1 & CODES != 0;
         if is_shared {
-            steps[place] = taken[0];
+            steps[place] = write;
+        } else if sets_codes & (asked & CODES != 0) {
+            steps[place] = compare_of_result(&division, &end)?;
         } else {
             steps.remove(place);
         }
         steps.remove(writer.place);
         return Ok(taken);
     }
-    Err("a division whose upper word isn't written beside it")
+    Err(NO_UPPER_WORD)
 }
 
 impl Test {
@@ -119,7 +223,7 @@ impl Test {
 
     /// The blocks of a test of a divisor, in which WRY and the division stand: twice, where the divisor may have either
     /// sign, since no range leaves out a 0 in its middle. The first one is the function's next block.
-    pub fn push_division(&self, memory: &mut Heap, blocks: &mut Vec<Block>, steps: &[Step; 2]) {
+    pub fn push_division(&self, memory: &mut Heap, blocks: &mut Vec<Block>, steps: &[Step]) {
         let (range, line) = (self.plan.range, self.line);
         let compare = [Some(Instr::SubCc(by_immediate(0, self.plan.register, 0)))];
         let mut divisions = 1;
