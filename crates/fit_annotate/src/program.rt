@@ -40,6 +40,7 @@ impl ReadImage {
                 name: String::new(self.memory.alloc),
                 bytes,
                 start,
+                outside: Vec::new(self.memory.alloc),
             };
             self.memory.push(&mut self.program.objects, object);
             let region = Region {

@@ -54,6 +54,7 @@ pub fn points_of(layout: &mut Layout, number: usize, code: &CodeBody) -> Vec<Poi
                 let (object, address) = layout.reach(symbol, reference.offset, item.line);
                 step.instr = decode(with_part(item.word, reference.part, address));
                 step.object = Some(object);
+                layout.name_outside(object, address);
             } else {
                 match layout.linked.place(symbol) {
                     SymbolPlace::Function(callee) => step.callee = Some(callee),

@@ -4,7 +4,7 @@ mod shifted;
 
 use fit_code::{Block, Function, Heap, Program, SourceLine, Step};
 use fit_graph::{effects_of, read_at_end, return_from, run_to_call};
-use fit_ranges::{Origin, Ranges, Trace, end_of, named_object, origin_of, trace_of};
+use fit_ranges::{Origin, Ranges, Trace, end_of, origin_of, trace_of};
 use sbx_domain::State;
 use sbx_range::{Range, excludes_zero, range_of_address};
 pub use shifted::{live_behind, shorten_steps};
@@ -107,7 +107,7 @@ impl Asking<'_> {
         let objects = self.program.objects.as_slice();
         if self.by_object
             && let Some(origin) = &origin
-            && let Some(number) = named_object(self.program, origin)
+            && let Some(number) = origin.object
             && number < objects.len()
         {
             let object = &objects[number];
@@ -157,7 +157,7 @@ impl Asking<'_> {
                 }
                 (Operation::Transfer(transfer, fields), Some(first), Some(second)) => {
                     let range = range_of_address(first, second);
-                    let origin = origin_of(frame, block, trace, place);
+                    let origin = origin_of(self.program, frame, block, trace, place);
                     self.lack_of_access(transfer, (fields.rs1, fields.operand2), range, origin)
                 }
                 _ => None,

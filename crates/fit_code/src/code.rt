@@ -85,6 +85,8 @@ pub struct Object {
     pub bytes: Vec<u8>,
     /// The address of the first byte, once the data are laid out.
     pub start: u32,
+    /// Addresses outside of it that instructions name by its name, as that behind its last byte.
+    pub outside: Vec<u32>,
 }
 
 /// A part of the data that lies on pages of its own, as a source's `.region` has it.

@@ -3,13 +3,14 @@
 mod objects;
 mod trace;
 
+use crate::origin::objects::object_at;
 use crate::origin::trace::OperandRanges;
-use fit_code::{Block, Step};
-use fit_graph::effects_in;
-pub use objects::{WordBounds, bounds_in_constants, bounds_of, end_of, named_object};
+use fit_code::{Block, Program, Step};
+use fit_graph::{Effects, effects_in};
+pub use objects::{WordBounds, bounds_in_constants, bounds_of, end_of};
 use sbx_range::{Range, is_single};
 pub use trace::{Trace, operands_of, trace_of};
-use v8_formats::Operand;
+use v8_formats::{Instr, Operand};
 use v8_meaning::{Op, Operation, operation_of};
 
 /// An address as a constant and a multiple of one register's word, where that stands at a place of the block.
@@ -25,13 +26,15 @@ pub struct Origin {
     pub last: usize,
     /// What is known of the word; nothing where the register is undefined.
     pub range: Option<Range>,
-    /// The object within which the constant's parts name an address.
+    /// The object that the constant's parts name: by its symbol or, where none is seen, as the one to which the address
+    /// belongs that one of them is.
     pub object: Option<usize>,
 }
 
 /// A sum of a constant and of multiples of registers' words.
 #[derive(Clone, Copy)]
-struct AddressSum {
+struct AddressSum<'p> {
+    program: &'p Program,
     constant: i64,
     /// How often each register's word is in it, and what is known of that word.
     times: [i64; 32],
@@ -42,16 +45,19 @@ struct AddressSum {
     is_lost: bool,
     /// Registers whose words are part of the constant, each of which has a bit.
     folded: u32,
+    /// The object of a symbol that is a part, and that of the address that a register holds which is one.
     object: Option<usize>,
+    addressed: Option<usize>,
 }
 
 /// Numbers stay below this one.
 const GREAT: i64 = 1 << 40;
 
-impl AddressSum {
-    /// No words, of an address in an object.
-    fn nothing(object: Option<usize>) -> AddressSum {
+impl<'p> AddressSum<'p> {
+    /// No words, of an address in an object of a program.
+    fn nothing(program: &'p Program, object: Option<usize>) -> AddressSum<'p> {
         AddressSum {
+            program,
             constant: 0,
             times: [0; 32],
             ranges: [None; 32],
@@ -59,6 +65,7 @@ impl AddressSum {
             is_lost: false,
             folded: 0,
             object,
+            addressed: None,
         }
     }
 
@@ -76,6 +83,9 @@ impl AddressSum {
             self.constant = self.constant.saturating_add(more);
             self.is_lost |= self.constant.saturating_abs() > GREAT;
             self.folded |= 1 << number;
+            if (times == 1) & (number > 0) && self.addressed.is_none() {
+                self.addressed = object_at(self.program, i64::from(range.lo));
+            }
         } else if number > 0 {
             let before = self.times[usize::from(number)];
             let sum = before.saturating_add(times);
@@ -123,6 +133,20 @@ impl AddressSum {
         None
     }
 
+    /// Takes the object whose address is a part of what a step computes, if that is part of the constant: else what it
+    /// is the sum of is a part of it.
+    fn name(&mut self, step: &Step, effects: &Effects) {
+        if effects.writes & self.folded != 0 {
+            self.folded &= !effects.writes;
+            if self.object.is_none() {
+                self.object = step.object;
+                if let Instr::Add(_) | Instr::Or(_) = step.instr {
+                    self.folded |= effects.reads;
+                }
+            }
+        }
+    }
+
     /// Puts what a step computes in the place of its result, which was there so many times. Says whether that could be
     /// done.
     fn expand(&mut self, times: i64, step: &Step, operands: OperandRanges) -> bool {
@@ -158,7 +182,13 @@ fn is_zero(range: &Option<Range>) -> bool {
 
 /// What the address of the access at a place of a block is worked out from, as far back as one register stands for
 /// it. Nothing where it is worked out from several, or is a number.
-pub fn origin_of(frame: u32, block: &Block, trace: &Trace, place: usize) -> Option<Origin> {
+pub fn origin_of(
+    program: &Program,
+    frame: u32,
+    block: &Block,
+    trace: &Trace,
+    place: usize,
+) -> Option<Origin> {
     let steps = block.steps.as_slice();
     if place >= steps.len() {
         return None;
@@ -167,28 +197,30 @@ pub fn origin_of(frame: u32, block: &Block, trace: &Trace, place: usize) -> Opti
         return None;
     };
     let operands = trace.at(place);
-    let mut sum = AddressSum::nothing(steps[place].object);
+    let mut sum = AddressSum::nothing(program, steps[place].object);
     sum.add(Operand::Register(first), 1, operands[0]);
     sum.add(second, 1, operands[1]);
     let mut found = sum.origin(place);
+    let mut is_known = true;
     for earlier in (0..place).rev() {
         let step = &steps[earlier];
-        let writes = effects_in(frame, step).writes;
-        if writes & sum.folded != 0 {
-            sum.folded &= !writes;
-            sum.object = sum.object.or(step.object);
-        }
-        if let Some(times) = sum.take(writes) {
+        let effects = effects_in(frame, step);
+        sum.name(step, &effects);
+        if is_known && let Some(times) = sum.take(effects.writes) {
             if let Some(origin) = &mut found
                 && origin.first == 0
             {
                 origin.first = earlier.saturating_add(1);
             }
-            if !sum.expand(times, step, trace.at(earlier)) {
-                return found;
+            is_known = sum.expand(times, step, trace.at(earlier));
+            if is_known {
+                found = sum.origin(earlier).or(found);
             }
-            found = sum.origin(earlier).or(found);
         }
+    }
+    // its constant's parts may stand before the word
+    if let Some(origin) = &mut found {
+        origin.object = sum.object.or(sum.addressed);
     }
     found
 }

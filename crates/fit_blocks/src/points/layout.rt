@@ -66,6 +66,7 @@ impl Layout<'_> {
             name,
             bytes: Vec::new(self.stops.memory.alloc),
             start,
+            outside: Vec::new(self.stops.memory.alloc),
         };
         if self.end > LAST {
             self.stops.note(line, TOO_MANY);
@@ -151,6 +152,18 @@ impl Layout<'_> {
         };
         self.stops.note(line, Obstacle::Named(naming, symbol));
         (0, 0)
+    }
+
+    /// Takes down that an instruction names an address by an object's name, if it lies outside of that.
+    pub fn name_outside(&mut self, number: usize, address: u32) {
+        let objects = self.objects.as_mut_slice();
+        if number < objects.len() {
+            let object = &mut objects[number];
+            let is_in = (address.wrapping_sub(object.start) as usize) < object.bytes.len();
+            if !is_in && !object.outside.contains(&address) {
+                self.stops.memory.push(&mut object.outside, address);
+            }
+        }
     }
 
     /// Fills in an address that an object of the source holds.

@@ -188,8 +188,10 @@ pub fn plan_of(program: &Program, ask: &Ask) -> Option<TestPlan> {
     };
     let mut object = None;
     if let Some(origin) = &access.origin {
+        // one that isn't a multiple of the access's size says nothing of the register's low bits
+        let offset = origin.constant & i64::from(access.size).saturating_sub(1);
         let plan = plan_by(program, access, origin);
-        if !plan.says_nothing {
+        if !plan.says_nothing & (offset == 0) {
             return Some(plan);
         }
         object = origin.object;

@@ -12,9 +12,6 @@ pub struct WordBounds {
     pub object: Option<usize>,
 }
 
-/// An address so far before an object is taken to belong to it.
-const BEFORE: i64 = 16;
-
 /// A pointer's test leaves so many bytes at the beginning of the data, and so many at their end, for what lies beside
 /// the field that is asked for.
 const HEAD: i64 = 32;
@@ -26,37 +23,21 @@ pub fn end_of(object: &Object) -> i64 {
     i64::from(object.start).saturating_add(object.bytes.len().min(0x7fff_ffff) as i64)
 }
 
-/// Whether an address lies in the data.
-fn is_in_data(program: &Program, address: i64) -> bool {
-    let mut is_in = false;
-    for region in program.regions.as_slice() {
-        let start = i64::from(region.start);
-        let end = start.saturating_add(i64::from(region.length));
-        is_in |= (start <= address) & (address < end);
-    }
-    is_in
-}
-
-/// The object that an address of the data belongs to: in which it lies, or a little before which.
-fn object_at(program: &Program, address: i64) -> Option<usize> {
-    let is_in_data = is_in_data(program, address);
-    let objects = program.objects.as_slice();
-    for number in 0..objects.len() {
-        let object = &objects[number];
-        let is_behind = address.saturating_add(BEFORE) < i64::from(object.start);
-        if is_in_data & !is_behind & (address < end_of(object)) {
-            return Some(number);
+/// The object that an address belongs to: the one in which it lies, or outside of which, but by whose name, instructions
+/// name it, as that behind its last byte. Nothing where that are two.
+pub fn object_at(program: &Program, address: i64) -> Option<usize> {
+    let word = (address.cast_unsigned() & 0xffff_ffff) as u32;
+    let mut found = None;
+    for (number, object) in program.objects.as_slice().iter().enumerate() {
+        let is_in = (i64::from(object.start) <= address) & (address < end_of(object));
+        if is_in || object.outside.contains(&word) {
+            if found.is_some() {
+                return None;
+            }
+            found = Some(number);
         }
     }
-    None
-}
-
-/// The object that an origin's constant names.
-pub fn named_object(program: &Program, origin: &Origin) -> Option<usize> {
-    match origin.object {
-        Some(object) => Some(object),
-        None => object_at(program, origin.constant),
-    }
+    found
 }
 
 /// The address that an origin gives with a word of its register.
@@ -115,7 +96,7 @@ fn bounds_between(
 /// Where the word of an origin's register may lie for an access of so many bytes: that it lies in the object that its
 /// base names, else in the data that may be written.
 pub fn bounds_of(program: &Program, origin: &Origin, size: i64) -> WordBounds {
-    let named = named_object(program, origin).or(least_object(program, origin));
+    let named = origin.object.or(least_object(program, origin));
     let objects = program.objects.as_slice();
     let addresses = match named {
         Some(number) if number < objects.len() => {
