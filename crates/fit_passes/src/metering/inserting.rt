@@ -1,6 +1,8 @@
 //! Putting the meter into a function. Before some of its blocks stand places that count it down: on each round of its
 //! loops is one, but for those that a counter bounds. A loop so bounded that stands behind a loop without bound, and in
-//! no loop, has one all the same: else each round of that loop would pay for it, since the run may go on there.
+//! no loop, has one all the same: else each round of that loop would pay for it, since the run may go on there. For the
+//! same reason there is one on each way out of a loop behind which a call may come.
+use crate::metering::exits::dear_exits;
 use crate::metering::registers::free_register;
 use fit_checks::{insert_instr, push_block, register};
 use fit_code::{Block, End, Function, Heap, NO_LINE};
@@ -92,20 +94,25 @@ fn meter_for(function: &mut Function, turns: u64) -> Option<Meter> {
     })
 }
 
+/// Where an end goes that goes to another block in the place of one.
+fn led(end: End, from: usize, to: usize) -> End {
+    match end {
+        End::Jump(way) => End::Jump(if way == from { to } else { way }),
+        End::Branch { cond, taken, next } => End::Branch {
+            cond,
+            taken: if taken == from { to } else { taken },
+            next: if next == from { to } else { next },
+        },
+        end => end,
+    }
+}
+
 /// Lets blocks that go to a block go to another one, but for those of a loop, which is given by whether each block is
 /// in it.
 fn redirect(blocks: &mut [Block], from: usize, to: usize, within: &[bool]) {
     for number in 0..blocks.len() {
         if number >= within.len() || !within[number] {
-            blocks[number].end = match blocks[number].end {
-                End::Jump(way) => End::Jump(if way == from { to } else { way }),
-                End::Branch { cond, taken, next } => End::Branch {
-                    cond,
-                    taken: if taken == from { to } else { taken },
-                    next: if next == from { to } else { next },
-                },
-                end => end,
-            };
+            blocks[number].end = led(blocks[number].end, from, to);
         }
     }
 }
@@ -173,6 +180,46 @@ fn put_at_entries(
     }
 }
 
+/// The instruction that reads the count between places.
+fn read_count(meter: &Meter) -> Instr {
+    match word_move(meter, false) {
+        Some(load) => load,
+        None => Instr::Or(Three {
+            rd: meter.scratch,
+            rs1: meter.register,
+            operand2: Operand::Immediate(0),
+        }),
+    }
+}
+
+/// Puts places of a meter on dear ways out of loops that have it, one for all of them that lead to a block. Behind it the
+/// count is read once more: so it is known there, and what comes then is paid by what the place takes.
+fn put_at_exits(
+    memory: &mut Heap,
+    blocks: &mut Vec<Block>,
+    meter: &Meter,
+    loops: &[Loop],
+    heads: &[bool],
+) {
+    let exits = dear_exits(memory, blocks.as_slice(), loops, heads);
+    for to in 0..heads.len() {
+        let behind = blocks.len();
+        let mut line = None;
+        for exit in exits.as_slice() {
+            if (exit.to == to) & (exit.from < blocks.len()) {
+                let block = &mut blocks[exit.from];
+                block.end = led(block.end, to, behind);
+                line = Some(block.line);
+            }
+        }
+        if let Some(line) = line {
+            let read = [Some(read_count(meter))];
+            push_block(memory, blocks, &read, (End::Jump(to), None), line);
+            put_place(memory, blocks, meter, behind, &[]);
+        }
+    }
+}
+
 /// Gives the next function a meter of so many turns: one place for each block that control goes back to but those of
 /// loops with bounds, of which some have one all the same. None of a function that has no other loops. What the meter
 /// begins with is set where the function begins. Says whether the function has the register, or the word, that its
@@ -195,6 +242,7 @@ pub fn insert_meter(
         put_at_heads(memory, &mut function.blocks, meter, heads);
         let loops = bounds.loops.as_slice();
         put_at_entries(memory, &mut function.blocks, meter, loops, heads);
+        put_at_exits(memory, &mut function.blocks, meter, loops, heads);
         let [high, low] = number_in(meter.register, meter.count);
         for instr in &[word_move(meter, true), low, high] {
             if let Some(instr) = *instr {
