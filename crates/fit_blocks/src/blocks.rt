@@ -205,7 +205,7 @@ pub fn result_register() -> Reg {
 }
 
 /// What leaves 0 as a run's exit word.
-fn no_result(line: SourceLine) -> Step {
+pub fn no_result(line: SourceLine) -> Step {
     let instr = Instr::Or(Three {
         rd: result_register(),
         rs1: Reg::G0,
@@ -218,11 +218,11 @@ fn no_result(line: SourceLine) -> Step {
 /// block can be reached, and none goes to the first one. What stops it is noted: what `points_of` notes, and a form
 /// that isn't compilers', as a transfer in a delay slot, SAVE that isn't first, a return without RESTORE.
 pub fn function_of(layout: &mut Layout, number: usize, code: &CodeBody) -> Function {
-    let points = points_of(layout, number, code);
+    let mut points = points_of(layout, number, code);
     let name = name_of(layout.source, code.symbol);
     let stops = &mut layout.stops;
     let alloc = stops.memory.alloc;
-    let (frame, start) = frame_and_start(stops, points.as_slice());
+    let (frame, start) = frame_and_start(stops, points.as_mut_slice());
     let mut leads = leads_of(&mut stops.memory, points.as_slice(), start);
     let mut builder = Builder {
         stops,

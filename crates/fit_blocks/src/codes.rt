@@ -2,7 +2,9 @@
 //! of its branch. A compare whose branch stands in a later block is repeated there.
 mod entries;
 mod pruning;
+mod splitting;
 
+use crate::codes::splitting::copy_for_ways;
 use crate::plain::{against_zero, step_of};
 use crate::points::{bit_of, operands_read, registers_of};
 use crate::stops::Stops;
@@ -17,6 +19,9 @@ const REFUSED: &str = "condition codes of several places, or of numbers that cha
 
 /// The bits of a word in which its destination stands.
 const DESTINATION: u32 = 0x3e00_0000;
+
+/// So many blocks are copied at most, for codes of several places.
+const SPLITS: u32 = 64;
 
 /// The minor opcodes of what reads the codes, a bit each: ADDX, SUBX, ADDXcc, SUBXcc and MULScc.
 const READERS: u64 = 1 << 0x08 | 1 << 0x0c | 1 << 0x18 | 1 << 0x1c | 1 << 0x24;
@@ -123,23 +128,30 @@ fn setter_of(
     }
 }
 
+/// Whether a block reads the codes of other blocks' ends, and then whether it asks for zero and sign alone.
+fn asked_of(block: &Block) -> Option<bool> {
+    let codes = codes_of(block.steps.as_slice());
+    let is_zero = matches!(
+        block.end,
+        End::Branch {
+            cond: Cond::Equal | Cond::NotEqual | Cond::Negative | Cond::Positive,
+            ..
+        }
+    );
+    let is_branch = matches!(block.end, End::Branch { .. });
+    if codes.reads | (is_branch & (codes.setter == 0)) {
+        Some(is_zero & !codes.reads)
+    } else {
+        None
+    }
+}
+
 /// Repeats compares in the blocks that read the codes of other blocks' ends and that ask for zero and sign alone, or in
 /// all others. It is a fault where they can't be.
 fn repeat_those(stops: &mut Stops, blocks: &mut [Block], before: &[Vec<usize>], zero_alone: bool) {
     for number in 0..blocks.len() {
-        let block = &blocks[number];
-        let line = block.line;
-        let codes = codes_of(block.steps.as_slice());
-        let is_zero = matches!(
-            block.end,
-            End::Branch {
-                cond: Cond::Equal | Cond::NotEqual | Cond::Negative | Cond::Positive,
-                ..
-            }
-        );
-        let is_branch = matches!(block.end, End::Branch { .. });
-        let is_asked = codes.reads | (is_branch & (codes.setter == 0));
-        if is_asked & (number < before.len()) && zero_alone == (is_zero & !codes.reads) {
+        let line = blocks[number].line;
+        if number < before.len() && asked_of(&blocks[number]) == Some(zero_alone) {
             let first = before[number].as_slice();
             let word = setter_of(&mut stops.memory, blocks, before, first, zero_alone);
             if word != 0 {
@@ -153,9 +165,66 @@ fn repeat_those(stops: &mut Stops, blocks: &mut [Block], before: &[Vec<usize>], 
     }
 }
 
+/// The block to which several ways lead with codes that one block asks for and no one compare sets: that block itself, or
+/// one before it from which one way leads there.
+fn block_of_several(memory: &mut Heap, blocks: &[Block], before: &[Vec<usize>]) -> Option<usize> {
+    for number in 0..blocks.len() {
+        if let Some(zero_alone) = asked_of(&blocks[number])
+            && number < before.len()
+            && setter_of(
+                memory,
+                blocks,
+                before,
+                before[number].as_slice(),
+                zero_alone,
+            ) == 0
+        {
+            let found = several_before(blocks, before, number);
+            if found.is_some() {
+                return found;
+            }
+        }
+    }
+    None
+}
+
+/// The block at which several ways come together that lead to a block, without a step that sets codes behind that.
+fn several_before(blocks: &[Block], before: &[Vec<usize>], block: usize) -> Option<usize> {
+    let mut number = block;
+    for _ in 0..blocks.len() {
+        match before.get(number)?.as_slice() {
+            [one] if codes_of(blocks.get(*one)?.steps.as_slice()).setter == 0 => number = *one,
+            [_, _, ..] => return Some(number),
+            _ => return None,
+        }
+    }
+    None
+}
+
+/// Copies blocks that ask for codes of several places for each way to them, as far as that may be.
+fn split_joins(stops: &mut Stops, function: &mut Function) {
+    for _ in 0..SPLITS {
+        let before = stops.made(predecessors_of(stops.memory.alloc, function));
+        let memory = &mut stops.memory;
+        let Some(number) = block_of_several(memory, function.blocks.as_slice(), before.as_slice())
+        else {
+            break;
+        };
+        let ways = if number < before.len() {
+            before[number].len()
+        } else {
+            0
+        };
+        if !copy_for_ways(memory, &mut function.blocks, number, ways) {
+            break;
+        }
+    }
+}
+
 /// Repeats compares in the blocks that read the codes of other blocks' ends. It is a fault where they can't be. What is
 /// put in for zero and sign alone does for no block that asks for more, so those come first.
 pub fn repeat_compares(stops: &mut Stops, function: &mut Function) {
+    split_joins(stops, function);
     let before = stops.made(predecessors_of(stops.memory.alloc, function));
     let blocks = function.blocks.as_mut_slice();
     for zero_alone in [false, true] {

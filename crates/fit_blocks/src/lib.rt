@@ -9,7 +9,7 @@ mod points;
 mod slots;
 mod stops;
 
-pub use blocks::{function_of, result_register};
+pub use blocks::{function_of, no_result, result_register};
 pub use codes::{give_one_entry, repeat_compares};
 pub use plain::{push_plain, step_of};
 pub use points::{

@@ -2,7 +2,7 @@
 //! frame's memory goes to the data, since nothing recurses.
 use crate::arguments::{BYTES, ReachedPlace, argument_of, in_object, scratch};
 use crate::places::{
-    SAVE_AREA, STACK, STACK_POINTER, address_made, by_scratch, place_accessed, word_place,
+    FRAME, SAVE_AREA, STACK, STACK_POINTER, address_made, by_scratch, place_accessed, word_place,
     word_step,
 };
 use fit_blocks::{Layout, Stops, operands_read, registers_of, signed};
@@ -138,6 +138,7 @@ fn push_placed(
                 _ => whose,
             };
             let address = layout.address(object, offset);
+            layout.name_outside(object, address);
             let memory = &mut layout.stops.memory;
             let placed = in_object(object, address, step, made);
             memory.is_refused |= steps.extend_from_slice(&placed).is_err();
@@ -205,7 +206,7 @@ pub fn place_frame(layout: &mut Layout, function: &mut Function, number: usize) 
     }
     let size = room.unwrap_or(function.frame);
     let (is_used, is_more) = use_of(&mut layout.stops, function, size);
-    let stays = is_used & !is_more & function.framed & (size % 8 == 0);
+    let stays = is_used & !is_more & function.framed & (size % 8 == 0) & (size <= FRAME);
     let way = if stays | !is_used {
         FrameWay::Spills(size)
     } else {

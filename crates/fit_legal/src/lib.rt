@@ -3,6 +3,7 @@
 
 mod arguments;
 mod calls;
+mod endless;
 mod frames;
 mod places;
 mod programs;

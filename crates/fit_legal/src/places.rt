@@ -10,7 +10,7 @@ use v8_word::Reg;
 pub const SAVE_AREA: u32 = 64;
 
 /// The greatest frame that is left in the stack.
-const FRAME: u32 = 4_096;
+pub const FRAME: u32 = 4_096;
 
 /// The bits of %sp, and of %sp and %fp, a bit a register.
 pub const STACK_POINTER: u32 = 1 << 14;

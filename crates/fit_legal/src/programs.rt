@@ -1,6 +1,7 @@
 //! Makes a program of code that compilers wrote: blocks without delay slots, what the rules forbid put otherwise,
 //! data laid out, functions in the order of their calls.
 use crate::calls::order_of_calls;
+use crate::endless::end_behind_calls;
 use crate::frames::place_frame;
 use fit_blocks::{
     Layout, Obstacle, Stops, bit_of, function_of, give_one_entry, layout_of, operands_read,
@@ -19,9 +20,12 @@ const FUNCTIONS: usize = 256;
 /// The registers that hold frames and the ways back, a bit a register: %sp, %o7, %fp and %i7.
 const HELD: u32 = 1 << 14 | 1 << 15 | 1 << 30 | 1 << 31;
 
+/// The locals and ins, which a function without SAVE has none of.
+const OF_WINDOW: u32 = 0xffff_0000;
+
 /// Puts plainer forms into a function, and gives its calls the numbers of the program's functions, of which `order` has
 /// those in the source. It is a fault where a step names a register that holds a frame or a way back, but to spill
-/// words, or the end of a block does. A run ends where the first function, which it begins at, would return: in a
+/// words, or the end of a block does; and where a function without SAVE names a register of a window. A run ends where the first function, which it begins at, would return: in a
 /// framed one %o0 gets its result before that.
 fn put_plainly(stops: &mut Stops, function: &mut Function, order: &[usize], is_first: bool) {
     let what = "a register that holds a frame or the way back";
@@ -30,8 +34,15 @@ fn put_plainly(stops: &mut Stops, function: &mut Function, order: &[usize], is_f
         let mut steps = Vec::new(stops.memory.alloc);
         for step in block.steps.as_slice() {
             let Effects { reads, writes, .. } = effects_of(frame, &step.instr);
-            if step.callee.is_none() & ((reads | writes) & HELD != 0) {
+            let named = if step.callee.is_none() {
+                reads | writes
+            } else {
+                0
+            };
+            if named & HELD != 0 {
                 stops.form(step.line, what);
+            } else if !framed & (named & OF_WINDOW != 0) {
+                stops.form(step.line, "a local or an in register without a SAVE before");
             }
             push_plain(&mut stops.memory, &mut steps, step, order);
         }
@@ -105,6 +116,7 @@ pub fn program_of(alloc: Global, source: &Assembly, entry: &str) -> Result<Progr
     layout.stops = stops;
     let mut functions = Vec::new(alloc);
     add_all(&mut layout, &mut functions, order.as_slice());
+    end_behind_calls(&mut layout.stops, functions.as_mut_slice());
     let files = layout.stops.made(source.files.clone());
     match layout.stops.fault(source, before.as_str()) {
         Some(fault) => Err(fault),

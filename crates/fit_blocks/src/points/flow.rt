@@ -41,6 +41,9 @@ pub fn flow_of(instr: &Instr, to: Option<usize>) -> Result<ControlFlow, Obstacle
         return Err(Obstacle::Form("one of %g5 to %g7, which tests and meters work with"));
     }
     match instr {
+        Instr::LoadDouble(fields) | Instr::StoreDouble(fields) if fields.rd.number() % 2 == 1 => {
+            Err(Obstacle::Form("a double word of an odd register"))
+        }
         Instr::Bicc(branch) => match to {
             Some(to) => Ok(ControlFlow::Branch {
                 cond: branch.cond,

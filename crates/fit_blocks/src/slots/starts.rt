@@ -1,5 +1,5 @@
 //! Where a function's body and its blocks begin, and how large its frame is.
-use crate::points::{ControlFlow, Point, signed};
+use crate::points::{ControlFlow, Point, bit_of, registers_of, signed};
 use crate::stops::Stops;
 use fit_code::Heap;
 use v8_formats::{Instr, Operand, Three};
@@ -56,6 +56,13 @@ fn frame_of(before: &[Point], fields: &Three) -> Option<u32> {
                 Operand::Immediate(number) => (fields.rd, fields.rs1, number),
                 Operand::Register(_) => return None,
             },
+            // of a number that was there: what is added to get there
+            Instr::Xor(fields) => match fields.operand2 {
+                Operand::Immediate(number) if fields.rs1 == register => {
+                    (fields.rd, fields.rs1, (known ^ number).wrapping_sub(known))
+                }
+                _ => return None,
+            },
             _ => return None,
         };
         is_alone &= rd == register;
@@ -75,16 +82,73 @@ fn frame_of(before: &[Point], fields: &Three) -> Option<u32> {
     }
 }
 
-/// The frame of a function, and where its instructions begin. It is a fault where the frame isn't known.
-pub fn frame_and_start(stops: &mut Stops, points: &[Point]) -> (Option<u32>, usize) {
-    for (place, point) in points.iter().enumerate() {
-        if let Instr::Save(fields) = point.step.instr {
-            let frame = frame_of(points.get(..place).unwrap_or(&[]), &fields);
+/// The bytes that an instruction takes from %sp, if it takes a number of them.
+fn room_taken(instr: &Instr) -> Option<u32> {
+    let (fields, is_sum) = match instr {
+        Instr::Add(fields) => (fields, true),
+        Instr::Sub(fields) => (fields, false),
+        _ => return None,
+    };
+    match fields.operand2 {
+        Operand::Immediate(number) if (fields.rs1 == Reg::SP) & (fields.rd == Reg::SP) => {
+            Some(if is_sum {
+                number.wrapping_neg()
+            } else {
+                number
+            })
+        }
+        _ => None,
+    }
+}
+
+/// Where more room is taken from %sp, and how much, before the first transfer behind SAVE and whatever else names %sp:
+/// where a frame has more bytes than SAVE itself can take.
+fn more_room(points: &[Point], start: usize) -> Option<(usize, u32)> {
+    for place in start..points.len() {
+        let Point { step, flow } = &points[place];
+        let effects = registers_of(&step.instr);
+        if let Some(number) = room_taken(&step.instr) {
+            return (signed(number) > 0).then_some((place, number));
+        }
+        let names_it = (effects.reads | effects.writes) & bit_of(Reg::SP) != 0;
+        if names_it | !matches!(flow, ControlFlow::On | ControlFlow::Nothing) {
+            return None;
+        }
+    }
+    None
+}
+
+/// Whether a branch goes to a point from one place up to another one.
+fn is_led_to(points: &[Point], first: usize, last: usize) -> bool {
+    let mut is_led_to = false;
+    for point in points {
+        if let ControlFlow::Branch { to, .. } = point.flow {
+            is_led_to |= (first <= to) & (to <= last);
+        }
+    }
+    is_led_to
+}
+
+/// The frame of a function, and where its instructions begin; what takes more room behind SAVE does nothing any more. It
+/// is a fault where the frame isn't known.
+pub fn frame_and_start(stops: &mut Stops, points: &mut [Point]) -> (Option<u32>, usize) {
+    for place in 0..points.len() {
+        if let Instr::Save(fields) = points[place].step.instr {
+            let start = place.saturating_add(1);
+            let mut frame = frame_of(&points[..place], &fields);
+            if let Some(taken) = frame
+                && let Some((at, more)) = more_room(&*points, start)
+                && at < points.len()
+                && !is_led_to(&*points, start, at)
+            {
+                frame = taken.checked_add(more);
+                points[at].flow = ControlFlow::Nothing;
+            }
             if frame.is_none() {
                 let what = "a frame of unknown size, or instructions before SAVE";
-                stops.form(point.step.line, what);
+                stops.form(points[place].step.line, what);
             }
-            return (frame, place.saturating_add(1));
+            return (frame, start);
         }
     }
     (None, 0)
