@@ -206,12 +206,33 @@ def try_budgets(to):
                 to.accepted(f"{name} of {turns} turns", made, f"{to.work}/turns.img")
 
 
+# What stored assembly puts out on an input, both in hex, and its status, as found by another tool; and its turns.
+GIVEN = re.compile(r"^! given ([0-9a-f]*) puts ([0-9a-f]*), status ([01])$", re.M)
+TURNS = re.compile(r"^! (--turns \d+)$", re.M)
+
+
+def try_found(to, file):
+    """Assembly that was refused once, or whose source was, or meant something else."""
+    source, made, image = f"{HERE}/found/{file}", f"{to.work}/found.s", f"{to.work}/found.img"
+    with open(source, encoding="utf-8") as lines:
+        text = lines.read()
+    turns = TURNS.search(text)
+    told = run([FIT, source, PLUG, "-o", made, *(turns[1].split() if turns else [])])
+    is_made = to.tally.check(f"found {file}", told.status == 0, f"wanted a source, came {told}", [source])
+    if not is_made or not to.accepted(f"found {file}", made, image, [source]):
+        return
+    for given, wanted, status in GIVEN.findall(text):
+        mine = run([SANDBOX, "run", image], bytes.fromhex(given))
+        holds = mine.out.hex() == wanted and mine.status == int(status)
+        to.tally.check(f"found {file} on {given}", holds, f"wanted {wanted}, status {status}, came {mine}")
+
+
 def try_faults(to, options):
-    """What isn't the compiler's, and assembly whose source was refused by the verifier once."""
+    """What isn't the compiler's, and stored assembly."""
     for name, (given, part) in FAULTS.items():
         try_fault(to, name, given, part)
     for file in sorted(os.listdir(f"{HERE}/found")):
-        to.fitted(f"found {file}", [f"{HERE}/found/{file}", PLUG], f"{to.work}/found.s", f"{to.work}/found.img")
+        try_found(to, file)
     try_words(to)
     try_budgets(to)
     try_entries(to)

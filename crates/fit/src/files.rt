@@ -5,6 +5,7 @@ use fit_text::FaultLine;
 use sbx_put::put_through;
 use std::fs::File;
 use std::io::{ErrorKind, Read};
+use std::os::unix::fs::MetadataExt;
 use std::{fs, io};
 
 /// The most bytes that a file may have.
@@ -54,15 +55,35 @@ pub fn bytes_of(rt: &HostRuntime, path: &str) -> Result<Vec<u8>, u8> {
     }
 }
 
+/// Whether a path has the plain file of one of the sources that words name.
+fn is_source(rt: &HostRuntime, words: &Arguments<'_>, path: &str) -> bool {
+    let Ok(out) = fs::metadata(rt, path) else {
+        return false;
+    };
+    let mut is_source = false;
+    for source in words.sources.as_slice() {
+        if let Ok(found) = fs::metadata(rt, *source) {
+            is_source |= out.is_file() && found.dev() == out.dev() && found.ino() == out.ino();
+        }
+    }
+    is_source
+}
+
 /// Writes a source to the file that words name, or to standard output where they name none or `-`, and gives the exit
-/// status; what is wrong with the file is told. Where something isn't shown, and the words say that this is an error,
-/// none is written.
+/// status; what is wrong with the file is told, as that it is a source itself. Where something isn't shown, and the words
+/// say that this is an error, none is written.
 pub fn write_source(rt: &HostRuntime, words: &Arguments<'_>, has_lacks: bool, text: &[u8]) -> u8 {
     if words.is_strict && has_lacks {
         return 1;
     }
     let written = match words.out {
         None | Some("-") => put_through(&mut rt.stdout(), text),
+        Some(path) if is_source(rt, words, path) => {
+            let _ = eprintln!(rt;
+                "{path}: can't be written: it is a source itself; name another file"
+            );
+            return NO_FILE;
+        }
         Some(path) => match fs::create(rt, path) {
             Ok(file) => {
                 let mut file: File = file;

@@ -20,7 +20,7 @@ use sbx_domain::State;
 use std::alloc::{AllocError, Global};
 use std::mem::replace;
 
-/// A budget is below this.
+/// A budget is below this, and the fuel of a block in magnitude.
 const BOUND: u64 = 1 << 40;
 
 /// So often weights are set anew: each time some places take more.
@@ -72,8 +72,9 @@ fn settle(
     Some((line, "no fuel was found for its loops"))
 }
 
-/// Finds the fuel of a function with these bounds, which each of its blocks says then, and what a call takes. A budget
-/// that is too great is told at the loop that takes the most of it, or at the function if it has none.
+/// Finds the fuel of a function with these bounds, which each of its blocks says then, and what a call takes. A budget,
+/// or a block's fuel, that is too great is told at the loop that takes the most of it, or at the function if it has
+/// none.
 fn find_total(
     program: &mut Program,
     task: &Task<'_>,
@@ -92,11 +93,15 @@ fn find_total(
     }
     let constants = fuel.constants.as_slice();
     let blocks = fuel.blocks.as_mut_slice();
+    let mut most = 0;
     for block in 0..blocks.len() {
-        blocks[block].fuel = constant_at(constants, block).unwrap_or(0);
+        let constant = constant_at(constants, block).unwrap_or(0);
+        blocks[block].fuel = constant;
+        most = most.max(constant.unsigned_abs());
     }
     let turns = constant_at(constants, 0).unwrap_or(0).max(0).unsigned_abs();
-    if turns >= BOUND {
+    if most >= BOUND {
+        let turns = most;
         let dearest = dearest_loop(function, bounds.loops.as_slice(), fuel, task.meter);
         let is_loop = dearest.is_some();
         let line = dearest.unwrap_or(function.line);
