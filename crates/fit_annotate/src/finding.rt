@@ -49,6 +49,7 @@ impl AnnotationSearch<'_, '_, '_> {
             program: self.program,
             ranges: &self.ranges,
             by_object: false,
+            wraps: false,
         };
         match asks_of(&asking, number, self.state) {
             Ok(asks) => {

@@ -59,6 +59,8 @@ pub struct Asking<'a> {
     pub ranges: &'a Ranges,
     /// Whether an access has to lie in the object that its base names, and not only in the data.
     pub by_object: bool,
+    /// Whether the function that is asked has words that are meant but for their high bits, which a shift pushes out.
+    pub wraps: bool,
 }
 
 /// %sp, %fp and the addresses of calls, which are never asked for, each of which has a bit.
@@ -157,7 +159,7 @@ impl Asking<'_> {
                 }
                 (Operation::Transfer(transfer, fields), Some(first), Some(second)) => {
                     let range = range_of_address(first, second);
-                    let origin = origin_of(self.program, frame, block, trace, place);
+                    let origin = origin_of((self.program, self.wraps), frame, block, trace, place);
                     self.lack_of_access(transfer, (fields.rs1, fields.operand2), range, origin)
                 }
                 _ => None,

@@ -37,6 +37,8 @@ struct Tests {
     /// How often tests that aren't needed may be taken out yet.
     drops: u32,
     list: Vec<Test>,
+    /// The functions with words that are meant but for their high bits, by their numbers.
+    wrapping: Vec<usize>,
     /// Blocks that were changed since the ranges were found, by the number of their function and their own.
     changed: Vec<(usize, usize)>,
     /// Whether memory was refused for tests that were put in since it was asked.
@@ -265,6 +267,7 @@ impl Tests {
             program,
             ranges,
             by_object: self.by_object,
+            wraps: self.wrapping.contains(&function),
         };
         let Ok(asks) = asks_of(&asking, function, state) else {
             self.memory.is_refused = true;
@@ -308,8 +311,14 @@ impl Tests {
             }
             let live = live_behind(blocks[place].end, ranges.live(number));
             let steps = blocks[place].steps.as_mut_slice();
-            if ranges.reaches(number, place) && shorten_steps(frame, results, steps, live, state) {
-                self.memory.push(&mut self.changed, (number, place));
+            if ranges.reaches(number, place) {
+                let (is_changed, wraps) = shorten_steps(frame, results, steps, live, state);
+                if is_changed {
+                    self.memory.push(&mut self.changed, (number, place));
+                }
+                if wraps {
+                    self.memory.push(&mut self.wrapping, number);
+                }
             }
         }
     }
@@ -390,6 +399,8 @@ impl Tests {
             return Err(Fault::from(AllocError));
         }
         if let (Some(ask), Err(what)) = (&self.asked, self.refused) {
+            // what an instruction reads of Y or codes that nothing sets is undefined, and so is what it writes
+            check_forms(program, ranges)?;
             let is_by_zero = matches!(ask.lack, NotShown::Divisible(Operand::Immediate(_), _));
             if is_by_zero || ask.function >= program.functions.len() {
                 return Err(Fault::new(ask.line, Reason::Unreadable(what)));
@@ -419,6 +430,7 @@ pub fn add_tests(
         by_object: options.by_object,
         drops: if options.drops { DROPS } else { 0 },
         list: Vec::new(alloc),
+        wrapping: Vec::new(alloc),
         changed: Vec::new(alloc),
         memory: Heap::new(alloc),
         asked: None,

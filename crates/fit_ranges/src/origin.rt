@@ -35,6 +35,8 @@ pub struct Origin {
 #[derive(Clone, Copy)]
 struct AddressSum<'p> {
     program: &'p Program,
+    /// Whether a word before a shift to the left may have other high bits than those of the number that is meant.
+    wraps: bool,
     constant: i64,
     /// How often each register's word is in it, and what is known of that word.
     times: [i64; 32],
@@ -55,9 +57,10 @@ const GREAT: i64 = 1 << 40;
 
 impl<'p> AddressSum<'p> {
     /// No words, of an address in an object of a program.
-    fn nothing(program: &'p Program, object: Option<usize>) -> AddressSum<'p> {
+    fn nothing((program, wraps): (&'p Program, bool), object: Option<usize>) -> AddressSum<'p> {
         AddressSum {
             program,
+            wraps,
             constant: 0,
             times: [0; 32],
             ranges: [None; 32],
@@ -158,7 +161,10 @@ impl<'p> AddressSum<'p> {
             Op::Sub | Op::SubCc => (1, -1),
             Op::Or | Op::OrCc if is_zero(&operands[0]) | is_zero(&operands[1]) => (1, 1),
             Op::Sll => match operands[1] {
-                Some(count) if is_single(count) => (1i64 << (count.lo.cast_unsigned() % 32), 0),
+                Some(count)
+                    if is_single(count) && !self.wraps | keeps_all(&operands[0], count.lo) => {
+                    (1i64 << (count.lo.cast_unsigned() % 32), 0)
+                }
                 _ => return false,
             },
             _ => return false,
@@ -173,6 +179,16 @@ impl<'p> AddressSum<'p> {
     }
 }
 
+/// Whether a shift to the left by so many bits pushes out none that says more than the sign: else other words than the
+/// one that is meant give the same address.
+fn keeps_all(range: &Option<Range>, count: i32) -> bool {
+    let most = i32::MAX >> (count.cast_unsigned() % 32);
+    match range {
+        Some(range) => (most.saturating_neg() <= range.lo) & (range.hi <= most),
+        None => false,
+    }
+}
+
 fn is_zero(range: &Option<Range>) -> bool {
     match range {
         Some(range) => (range.lo == 0) & (range.hi == 0),
@@ -181,9 +197,10 @@ fn is_zero(range: &Option<Range>) -> bool {
 }
 
 /// What the address of the access at a place of a block is worked out from, as far back as one register stands for
-/// it. Nothing where it is worked out from several, or is a number.
+/// it. Nothing where it is worked out from several, or is a number. The setting says whether there may be words that are
+/// meant but for their high bits: it isn't worked out past a shift that pushes such bits out.
 pub fn origin_of(
-    program: &Program,
+    setting: (&Program, bool),
     frame: u32,
     block: &Block,
     trace: &Trace,
@@ -197,7 +214,7 @@ pub fn origin_of(
         return None;
     };
     let operands = trace.at(place);
-    let mut sum = AddressSum::nothing(program, steps[place].object);
+    let mut sum = AddressSum::nothing(setting, steps[place].object);
     sum.add(Operand::Register(first), 1, operands[0]);
     sum.add(second, 1, operands[1]);
     let mut found = sum.origin(place);

@@ -11,6 +11,34 @@ use v8_formats::{Instr, Operand, Three};
 /// Numbers of at least this magnitude are looked at.
 const GREAT: u32 = 1 << 24;
 
+/// What a shift by 3, the greatest of an index, makes 0.
+const PUSHED_OUT: u32 = 1 << 29;
+
+/// Whether a great number is a small one but for bits that a shift by 1 to 3 pushes out.
+fn is_small_shifted(number: i32) -> bool {
+    let beside = number.cast_unsigned().wrapping_add(4096) % PUSHED_OUT;
+    (number.unsigned_abs() >= GREAT) & (beside < 8192)
+}
+
+/// Whether an instruction adds or subtracts such a number, where the state is that before it.
+fn adds_shifted(instr: &Instr, state: &State) -> bool {
+    let fields = match instr {
+        Instr::Add(fields) | Instr::Sub(fields) => fields,
+        _ => return false,
+    };
+    let mut is_found = false;
+    let second = match fields.operand2 {
+        Operand::Register(second) => second,
+        Operand::Immediate(_) => fields.rs1,
+    };
+    for register in [fields.rs1, second] {
+        if let Some(known) = state.range(u16::from(register.number())) {
+            is_found |= is_single(known) & is_small_shifted(known.lo);
+        }
+    }
+    is_found
+}
+
 /// The least of the shifts to the left that read a register in steps from a place on, before it is written again; 0
 /// where something else may read it, or nothing does. Behind the steps these registers are live.
 fn least_shift(frame: u32, steps: &[Step], place: usize, register: u8, live: u32) -> u32 {
@@ -55,15 +83,17 @@ pub fn live_behind(end: End, live: &[LocationSet]) -> u32 {
 
 /// Lets steps add small numbers where they may, behind which these registers are live: the number from -4096 to 4095
 /// that has the same low bits as a great one, but for the high ones that the shifts push out. The state is that before
-/// the first step. Says whether one does that didn't.
+/// the first step. Says whether one does that didn't, and whether one is left with a number that is small but for high
+/// bits.
 pub fn shorten_steps(
     frame: u32,
     results: &[Vec<Range>],
     steps: &mut [Step],
     live: u32,
     state: &mut State,
-) -> bool {
+) -> (bool, bool) {
     let mut is_changed = false;
+    let mut wraps = false;
     for place in 0..steps.len() {
         let mut shorter = None;
         if let Instr::Add(fields) = steps[place].instr
@@ -79,11 +109,12 @@ pub fn shorten_steps(
                 shorter = Some(by_immediate(register, fields.rs1.number(), small));
             }
         }
+        wraps |= shorter.is_none() & adds_shifted(&steps[place].instr, state);
         run_step(frame, results, &steps[place], state);
         if let Some(fields) = shorter {
             steps[place].instr = Instr::Add(fields);
             is_changed = true;
         }
     }
-    is_changed
+    (is_changed, wraps)
 }
