@@ -6,7 +6,7 @@ use fit_checks::{insert_instr, push_block};
 use fit_code::{Block, End, Function, Heap, opposite};
 use fit_graph::Graph;
 use std::mem;
-use v8_formats::{Instr, Reg, Upper};
+use v8_formats::{Cond, Instr, Reg, Upper};
 
 /// Where control comes to from a block's beginning, past blocks that do nothing.
 fn through(blocks: &[Block], block: usize) -> usize {
@@ -54,9 +54,28 @@ fn number_of(numbers: &[Option<usize>], block: usize) -> Option<usize> {
     }
 }
 
+/// Whether a block counts a meter down, and ends the run where it is empty: what it goes on to is its next block then,
+/// by which it is known.
+fn counts_down(blocks: &[Block], at: usize) -> bool {
+    if at < blocks.len()
+        && let End::Branch {
+            cond: Cond::Negative,
+            taken,
+            ..
+        } = blocks[at].end
+        && taken < blocks.len()
+        && let End::Exit = blocks[taken].end
+        && let Some(last) = blocks[at].steps.last()
+        && let Instr::SubCc(fields) = last.instr
+    {
+        return fields.rd != Reg::G0;
+    }
+    false
+}
+
 /// Puts a block behind those that are placed, if it isn't one of them, and behind it what follows: the block that it
-/// goes on to, if that isn't placed. A branch whose next block stands elsewhere is turned; behind one both of whose
-/// blocks stand elsewhere comes a block that jumps to the next one.
+/// goes on to, if that isn't placed. A branch whose next block stands elsewhere is turned, if it isn't a meter's; behind
+/// one both of whose blocks stand elsewhere comes a block that jumps to the next one.
 fn follow(
     memory: &mut Heap,
     blocks: &mut [Block],
@@ -70,6 +89,7 @@ fn follow(
             return;
         }
         numbers[at] = Some(placed.len());
+        let is_meter = counts_down(blocks, at);
         let block = &mut blocks[at];
         let (mut end, line, mut jump) = (block.end, block.line, None);
         if let End::Jump(to) = end {
@@ -77,7 +97,7 @@ fn follow(
         } else if let End::Branch { cond, taken, next } = end {
             if number_of(numbers, next).is_none() {
                 at = next;
-            } else if number_of(numbers, taken).is_none() {
+            } else if !is_meter && number_of(numbers, taken).is_none() {
                 let (cond, taken, next) = (opposite(cond), next, taken);
                 end = End::Branch { cond, taken, next };
                 at = next;
