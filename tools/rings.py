@@ -1,5 +1,5 @@
-"""The rings of crates.txt: which crates the promise rests on, and what serves what. A ring is told by what stands on a crate, or by the
-crate's prefix; a head of crates.txt reads `# RING: FLOOR`."""
+"""The rings of crates.txt: which crates the promise rests on, and what serves what. A ring is told by what stands on
+a crate, or by the crate's prefix; a head of crates.txt reads `# RING: FLOOR`."""
 import dataclasses
 
 # From the one that carries the promise outward.

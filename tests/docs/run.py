@@ -143,6 +143,14 @@ def wrong_rows(page):
     yield from sorted(name for name in {*told, *known} if told.count(name) != 1 or name not in known)
 
 
+def wrong_suites(page):
+    """Yields the suites that don't stand in just one row of a page's tables of commands, and what stands there and is
+    none."""
+    told = re.findall(r"^\| `tests/run ([\w-]+)", text_of(page), re.M)
+    known = {os.path.basename(os.path.dirname(it)) for it in glob.glob(f"{TOP}/tests/*/run.py")} - {"lib"}
+    yield from sorted(name for name in {*told, *known} if told.count(name) != 1 or name not in known)
+
+
 def try_map(tally):
     """The picture of the rings, the heads of crates.txt, and the table of shared names."""
     drawn = subprocess.run([f"{TOP}/tools/map"], stdout=subprocess.PIPE, text=True, check=False).stdout
@@ -170,6 +178,8 @@ def try_page(tally, page):
         tally.check(name, False, f"wanted one row for each crate and no other, came {crate}")
     if name == "docs/map.md":
         try_map(tally)
+    for suite in wrong_suites(page) if name == "docs/development.md" else ():
+        tally.check(name, False, f"wanted one row for each suite and no other, came {suite}")
     if name == "docs/contracts.md":
         is_same = subprocess.run([f"{TOP}/tools/contracts", "--check"], check=False).returncode == 0
         tally.check(name, is_same, "wanted what tools/contracts prints")
