@@ -1,0 +1,135 @@
+/* Of stdio.h: a program that prints and reads no doubles has no code for them.
+
+   Each function of printf's and scanf's kind is there twice: under the standard's name, for everything, and as __NAME_whole, without the
+   conversions of doubles (%a, %e, %f, %g). The functions below have the standard's names and become a part of their callers. Where the
+   compiler knows the format, which it does of a string in the call, it finds while it compiles whether a double may be converted, by
+   plain functions of strings that it works out; and what is left is a call of the one or of the other. A format that it doesn't know, or
+   one of more than 16 conversions, is left to the function for everything, as are calls through pointers, and all calls by -O0.
+
+   So the whole is right without this file, and no weak symbol, section or linker has a part in it: what is called decides, in one file, in
+   several that are compiled into one assembly (-flto, -fwhole-program), or where unreached functions are left out later. vprintf and kin
+   have formats that aren't known, as a rule. GEYSERPAN_NO_DOUBLES says that there is none in any: such a conversion ends the run then. */
+#ifndef GEYSERPAN_WHOLE_H
+#define GEYSERPAN_WHOLE_H
+
+#ifdef __cplusplus
+extern "C" {
+#endif
+
+int __printf_whole(const char *, ...);
+int __fprintf_whole(FILE *, const char *, ...);
+int __sprintf_whole(char *, const char *, ...);
+int __snprintf_whole(char *, size_t, const char *, ...);
+int __vprintf_whole(const char *, va_list);
+int __vfprintf_whole(FILE *, const char *, va_list);
+int __vsprintf_whole(char *, const char *, va_list);
+int __vsnprintf_whole(char *, size_t, const char *, va_list);
+int __scanf_whole(const char *, ...);
+int __fscanf_whole(FILE *, const char *, ...);
+int __sscanf_whole(const char *, const char *, ...);
+int __vscanf_whole(const char *, va_list);
+int __vfscanf_whole(FILE *, const char *, va_list);
+int __vsscanf_whole(const char *, const char *, va_list);
+
+#if defined __GNUC__ && !defined __clang__ && defined __OPTIMIZE__ && !defined GEYSERPAN_LIBRARY
+
+int __printf_any(const char *, ...) __asm__("printf");
+int __fprintf_any(FILE *, const char *, ...) __asm__("fprintf");
+int __sprintf_any(char *, const char *, ...) __asm__("sprintf");
+int __snprintf_any(char *, size_t, const char *, ...) __asm__("snprintf");
+int __vprintf_any(const char *, va_list) __asm__("vprintf");
+int __vfprintf_any(FILE *, const char *, va_list) __asm__("vfprintf");
+int __vsprintf_any(char *, const char *, va_list) __asm__("vsprintf");
+int __vsnprintf_any(char *, size_t, const char *, va_list) __asm__("vsnprintf");
+int __scanf_any(const char *, ...) __asm__("scanf");
+int __fscanf_any(FILE *, const char *, ...) __asm__("fscanf");
+int __sscanf_any(const char *, const char *, ...) __asm__("sscanf");
+int __vscanf_any(const char *, va_list) __asm__("vscanf");
+int __vfscanf_any(FILE *, const char *, va_list) __asm__("vfscanf");
+int __vsscanf_any(const char *, const char *, va_list) __asm__("vsscanf");
+
+#define __INLINE extern __inline __attribute__((__always_inline__, __gnu_inline__, __artificial__))
+
+/* On to the letter of the next conversion, which is of doubles, or may be; and behind it. A long double counts as one. */
+#define __STEP \
+    __at += __builtin_strcspn(__at, "%"); \
+    __at += *__at != 0; \
+    __at += __builtin_strspn(__at, "-+ #'0123456789.*hljztq"); \
+    __doubles |= *__at == 'a' || *__at == 'A' || *__at == 'L' || (*__at >= 'E' && *__at <= 'G') || (*__at >= 'e' && *__at <= 'g'); \
+    __at += *__at != 0;
+
+/* Whether a format may convert a double. In a set of scanf's (%[..]) a sign of a conversion counts as one, which is on the safe side. */
+__INLINE int __converts_doubles(const char *__at) {
+    int __doubles = 0;
+    __STEP __STEP __STEP __STEP __STEP __STEP __STEP __STEP
+    __STEP __STEP __STEP __STEP __STEP __STEP __STEP __STEP
+    return __doubles || __at[__builtin_strcspn(__at, "%")];
+}
+
+#ifdef GEYSERPAN_NO_DOUBLES
+#define __IS_WHOLE(format) 1
+#else
+#define __IS_WHOLE(format) \
+    __extension__({ int __known = __converts_doubles(format); __builtin_constant_p(__known) && !__known; })
+#endif
+#define __CHOOSE(name, format, ...) \
+    if (__IS_WHOLE(format)) return __##name##_whole(__VA_ARGS__); \
+    return __##name##_any(__VA_ARGS__)
+#define __REST __builtin_va_arg_pack()
+
+__INLINE int printf(const char *__format, ...) {
+    __CHOOSE(printf, __format, __format, __REST);
+}
+__INLINE int fprintf(FILE *__to, const char *__format, ...) {
+    __CHOOSE(fprintf, __format, __to, __format, __REST);
+}
+__INLINE int sprintf(char *__to, const char *__format, ...) {
+    __CHOOSE(sprintf, __format, __to, __format, __REST);
+}
+__INLINE int snprintf(char *__to, size_t __size, const char *__format, ...) {
+    __CHOOSE(snprintf, __format, __to, __size, __format, __REST);
+}
+__INLINE int vprintf(const char *__format, va_list __arguments) {
+    __CHOOSE(vprintf, __format, __format, __arguments);
+}
+__INLINE int vfprintf(FILE *__to, const char *__format, va_list __arguments) {
+    __CHOOSE(vfprintf, __format, __to, __format, __arguments);
+}
+__INLINE int vsprintf(char *__to, const char *__format, va_list __arguments) {
+    __CHOOSE(vsprintf, __format, __to, __format, __arguments);
+}
+__INLINE int vsnprintf(char *__to, size_t __size, const char *__format, va_list __arguments) {
+    __CHOOSE(vsnprintf, __format, __to, __size, __format, __arguments);
+}
+__INLINE int scanf(const char *__format, ...) {
+    __CHOOSE(scanf, __format, __format, __REST);
+}
+__INLINE int fscanf(FILE *__from, const char *__format, ...) {
+    __CHOOSE(fscanf, __format, __from, __format, __REST);
+}
+__INLINE int sscanf(const char *__from, const char *__format, ...) {
+    __CHOOSE(sscanf, __format, __from, __format, __REST);
+}
+__INLINE int vscanf(const char *__format, va_list __arguments) {
+    __CHOOSE(vscanf, __format, __format, __arguments);
+}
+__INLINE int vfscanf(FILE *__from, const char *__format, va_list __arguments) {
+    __CHOOSE(vfscanf, __format, __from, __format, __arguments);
+}
+__INLINE int vsscanf(const char *__from, const char *__format, va_list __arguments) {
+    __CHOOSE(vsscanf, __format, __from, __format, __arguments);
+}
+
+#undef __INLINE
+#undef __STEP
+#undef __IS_WHOLE
+#undef __CHOOSE
+#undef __REST
+
+#endif
+
+#ifdef __cplusplus
+}
+#endif
+
+#endif

@@ -1,0 +1,1 @@
+#error "<complex.h> is not here: arithmetic of complex numbers isn't provided"

@@ -1,0 +1,1 @@
+#error "<fcntl.h> is not here: a program of a sandbox has no files; stdin and stdout are all"

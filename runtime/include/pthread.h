@@ -1,0 +1,1 @@
+#error "<pthread.h> is not here: a program of a sandbox is one thread"

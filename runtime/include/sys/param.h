@@ -1,0 +1,3 @@
+/* Of BSD: the order of bytes. */
+#include <endian.h>
+#include <sys/types.h>

@@ -1,0 +1,1 @@
+#error "<uchar.h> is not here: only characters of one byte are provided"

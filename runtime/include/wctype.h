@@ -1,0 +1,1 @@
+#error "<wctype.h> is not here: only characters of one byte are provided: ctype.h"

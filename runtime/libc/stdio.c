@@ -1,0 +1,81 @@
+/* Bytes and lines of streams. */
+#include "stream.h"
+
+FILE __stdin = {INPUT, EOF, 0, 0}, __stdout = {OUTPUT, EOF, 0, 0}, __stderr = {NOWHERE, EOF, 0, 0};
+
+int fgetc(FILE *stream) { return next_byte(stream); }
+int getc(FILE *stream) { return next_byte(stream); }
+int getchar(void) { return next_byte(stdin); }
+
+int ungetc(int c, FILE *stream) {
+    if (c == EOF || stream->pushed != EOF || stream->kind != INPUT) return EOF;
+    stream->pushed = (unsigned char)c;
+    stream->is_ended = 0;
+    return (unsigned char)c;
+}
+
+char *fgets(char *to, int size, FILE *stream) {
+    int i = 0, c = 0;
+    while (i < size - 1 && c != '\n') {
+        c = next_byte(stream);
+        if (c < 0) break;
+        to[i++] = (char)c;
+    }
+    if (size < 1 || (i == 0 && c < 0)) return NULL;
+    to[i] = 0;
+    return to;
+}
+
+size_t fread(void *to, size_t size, size_t count, FILE *stream) {
+    size_t all = size * count, i = 0;
+    for (; i < all; i++) {
+        int c = next_byte(stream);
+        if (c < 0) return i / size;
+        ((unsigned char *)to)[i] = (unsigned char)c;
+    }
+    return all ? count : 0;
+}
+
+int fputc(int c, FILE *stream) { return put_byte(stream, c); }
+int putc(int c, FILE *stream) { return put_byte(stream, c); }
+
+int putchar(int c) {
+    put(c);
+    return (unsigned char)c;
+}
+
+int fputs(const char *text, FILE *stream) {
+    for (; *text; text++)
+        if (put_byte(stream, *text) == EOF) return EOF;
+    return 0;
+}
+
+int puts(const char *text) {
+    for (; *text; text++) put(*text);
+    put('\n');
+    return 0;
+}
+
+size_t fwrite(const void *from, size_t size, size_t count, FILE *stream) {
+    size_t all = size * count;
+    for (size_t i = 0; i < all; i++)
+        if (put_byte(stream, ((const unsigned char *)from)[i]) == EOF) return i / size;
+    return all ? count : 0;
+}
+
+int feof(FILE *stream) { return stream->is_ended; }
+int ferror(FILE *stream) { return stream->has_failed; }
+
+void clearerr(FILE *stream) { stream->is_ended = stream->has_failed = 0; }
+
+int fflush(FILE *stream) {
+    (void)stream;
+    return 0;
+}
+
+int setvbuf(FILE *stream, char *buffer, int mode, size_t size) {
+    (void)stream, (void)buffer, (void)size;
+    return mode == _IOFBF || mode == _IOLBF || mode == _IONBF ? 0 : -1;
+}
+
+void setbuf(FILE *stream, char *buffer) { (void)stream, (void)buffer; }
