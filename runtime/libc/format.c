@@ -3,42 +3,58 @@
 #include <limits.h>
 #include <stdint.h>
 #include <stdlib.h>
+#include <string.h>
 #include "print.h"
 
+/* How many of so many bytes have room in memory. */
+static size_t stored(const struct sink *sink, size_t size) {
+    size_t room = sink->count < sink->room ? sink->room - sink->count : 0;
+    return size < room ? size : room;
+}
+
 void __sink_bytes(struct sink *sink, const char *from, size_t size) {
-    for (size_t i = 0; i < size; i++) sink_byte(sink, from[i]);
+    if (sink->stream) {
+        fwrite(from, 1, size, sink->stream);
+    } else {
+        size_t kept = stored(sink, size);
+        if (kept) memcpy(sink->to + sink->count, from, kept);
+    }
+    sink->count += size;
 }
 
 void __sink_repeated(struct sink *sink, char c, size_t count) {
-    for (; count > 0; count--) sink_byte(sink, c);
+    for (; count > 0; count--) __sink_bytes(sink, &c, 1);
 }
 
-static size_t size_of(const char *text) {
-    size_t size = 0;
-    while (text[size]) size++;
-    return size;
-}
-
-/* How many blanks bring size to the width. */
-static size_t blanks(const struct conversion *asked, size_t size) {
+/* How many bytes bring size to the width. */
+static size_t fill_of(const struct conversion *asked, size_t size) {
     return (size_t)asked->width > size ? (size_t)asked->width - size : 0;
 }
 
-void __print_head(struct sink *sink, const struct conversion *asked, const char *prefix, size_t zeros, size_t size) {
-    size_t prefix_size = size_of(prefix), fill = blanks(asked, prefix_size + zeros + size);
-    if (asked->flags & LEFT) fill = 0;
-    if (!(asked->flags & ZEROS)) __sink_repeated(sink, ' ', fill);
-    __sink_bytes(sink, prefix, prefix_size);
-    if (asked->flags & ZEROS) zeros += fill;
+void __print_head(struct sink *sink, const struct conversion *asked, struct prefix prefix, size_t zeros, size_t size) {
+    if (asked->width && !(asked->flags & LEFT)) {
+        size_t fill = fill_of(asked, prefix.size + zeros + size);
+        if (asked->flags & ZEROS) zeros += fill;
+        else __sink_repeated(sink, ' ', fill);
+    }
+    if (prefix.size) __sink_bytes(sink, prefix.text, prefix.size);
     __sink_repeated(sink, '0', zeros);
 }
 
-void __print_tail(struct sink *sink, const struct conversion *asked, const char *prefix, size_t size) {
-    if (asked->flags & LEFT) __sink_repeated(sink, ' ', blanks(asked, size_of(prefix) + size));
+void __print_tail(struct sink *sink, const struct conversion *asked, struct prefix prefix, size_t size) {
+    if (asked->flags & LEFT) __sink_repeated(sink, ' ', fill_of(asked, prefix.size + size));
+}
+
+struct prefix __sign_of(const struct conversion *asked, int is_minus) {
+    struct prefix prefix = {"-", 1};
+    if (is_minus) return prefix;
+    prefix.text = asked->flags & PLUS ? "+" : " ";
+    prefix.size = (asked->flags & (PLUS | BLANK)) != 0;
+    return prefix;
 }
 
 static void print_text(struct sink *sink, const struct conversion *asked, const char *text, size_t size) {
-    size_t fill = blanks(asked, size);
+    size_t fill = fill_of(asked, size);
     if (!(asked->flags & LEFT)) __sink_repeated(sink, ' ', fill);
     __sink_bytes(sink, text, size);
     if (asked->flags & LEFT) __sink_repeated(sink, ' ', fill);
@@ -87,78 +103,75 @@ static char *binary_digits(char *end, uint64_t number, unsigned shift, char lett
     return end;
 }
 
-static void print_number(struct sink *sink, struct conversion *asked, const char *prefix, uint64_t number) {
-    char digits[MOST_DIGITS], *end = digits + MOST_DIGITS, *from = NULL;
-    char letter = asked->letter;
-    if (letter == 'o') from = binary_digits(end, number, 3, 'a');
-    else if (letter == 'x' || letter == 'X' || letter == 'p') from = binary_digits(end, number, 4, letter == 'X' ? 'A' : 'a');
-    else from = decimal_digits(end, number);
-    size_t size = (size_t)(end - from), wanted = asked->precision < 0 ? 1 : (size_t)asked->precision;
-    if (asked->precision >= 0) asked->flags &= ~(unsigned)ZEROS;
+static void print_number(struct print *print, struct prefix prefix, uint64_t number) {
+    struct conversion *asked = &print->asked;
+    char digits[MOST_DIGITS], *end = digits + MOST_DIGITS, *from, letter = asked->letter;
+    if (letter == 'd' || letter == 'i' || letter == 'u') from = decimal_digits(end, number);
+    else if (letter == 'o') from = binary_digits(end, number, 3, 'a');
+    else from = binary_digits(end, number, 4, letter == 'X' ? 'A' : 'a');
+    size_t size = (size_t)(end - from), wanted = 1;
+    if (asked->precision >= 0) {
+        wanted = (size_t)asked->precision;
+        asked->flags &= ~(unsigned)ZEROS;
+    }
     if (letter == 'o' && asked->flags & OTHER && wanted <= size) wanted = size + 1;
     size_t zeros = wanted > size ? wanted - size : 0;
-    __print_head(sink, asked, prefix, zeros, size);
-    __sink_bytes(sink, from, size);
-    __print_tail(sink, asked, prefix, zeros + size);
+    __print_head(print->sink, asked, prefix, zeros, size);
+    __sink_bytes(print->sink, from, size);
+    __print_tail(print->sink, asked, prefix, zeros + size);
 }
 
 static intmax_t signed_argument(struct print *print) {
-    switch (print->asked.length) {
-    case 'H': return (signed char)va_arg(print->arguments, int);
-    case 'h': return (short)va_arg(print->arguments, int);
-    case 'l': return va_arg(print->arguments, long);
-    case 'q': return va_arg(print->arguments, long long);
-    case 'j': return va_arg(print->arguments, intmax_t);
-    case 'z':
-    case 't': return va_arg(print->arguments, ptrdiff_t);
-    default: return va_arg(print->arguments, int);
-    }
+    char length = print->asked.length;
+    if (length == 0) return va_arg(print->arguments, int);
+    if (length == 'l') return va_arg(print->arguments, long);
+    if (length == 'q') return va_arg(print->arguments, long long);
+    if (length == 'h') return (short)va_arg(print->arguments, int);
+    if (length == 'H') return (signed char)va_arg(print->arguments, int);
+    if (length == 'j') return va_arg(print->arguments, intmax_t);
+    return va_arg(print->arguments, ptrdiff_t);
 }
 
 static uintmax_t unsigned_argument(struct print *print) {
-    switch (print->asked.length) {
-    case 'H': return (unsigned char)va_arg(print->arguments, int);
-    case 'h': return (unsigned short)va_arg(print->arguments, int);
-    case 'l': return va_arg(print->arguments, unsigned long);
-    case 'q': return va_arg(print->arguments, unsigned long long);
-    case 'j': return va_arg(print->arguments, uintmax_t);
-    case 'z':
-    case 't': return va_arg(print->arguments, size_t);
-    default: return va_arg(print->arguments, unsigned);
-    }
+    char length = print->asked.length;
+    if (length == 0) return va_arg(print->arguments, unsigned);
+    if (length == 'l') return va_arg(print->arguments, unsigned long);
+    if (length == 'q') return va_arg(print->arguments, unsigned long long);
+    if (length == 'h') return (unsigned short)va_arg(print->arguments, int);
+    if (length == 'H') return (unsigned char)va_arg(print->arguments, int);
+    if (length == 'j') return va_arg(print->arguments, uintmax_t);
+    return va_arg(print->arguments, size_t);
 }
 
 static void print_signed(struct print *print) {
     intmax_t number = signed_argument(print);
-    const char *prefix = number < 0 ? "-" : print->asked.flags & PLUS ? "+" : print->asked.flags & BLANK ? " " : "";
-    print_number(&print->sink, &print->asked, prefix, number < 0 ? -(uintmax_t)number : (uintmax_t)number);
+    print_number(print, __sign_of(&print->asked, number < 0), number < 0 ? -(uintmax_t)number : (uintmax_t)number);
 }
 
 static void print_unsigned(struct print *print) {
     uintmax_t number = unsigned_argument(print);
-    int is_marked = print->asked.flags & OTHER && number != 0;
-    const char *prefix = !is_marked ? "" : print->asked.letter == 'x' ? "0x" : print->asked.letter == 'X' ? "0X" : "";
-    print_number(&print->sink, &print->asked, prefix, number);
+    struct prefix prefix = {print->asked.letter == 'X' ? "0X" : "0x", 0};
+    if (print->asked.flags & OTHER && number != 0 && (print->asked.letter | 32) == 'x') prefix.size = 2;
+    print_number(print, prefix, number);
 }
 
 static void print_pointer(struct print *print) {
+    struct prefix prefix = {"0x", 2};
     uintptr_t address = (uintptr_t)va_arg(print->arguments, void *);
-    if (address) print_number(&print->sink, &print->asked, "0x", address);
-    else print_text(&print->sink, &print->asked, "(nil)", 5);
+    if (address) print_number(print, prefix, address);
+    else print_text(print->sink, &print->asked, "(nil)", 5);
 }
 
 static void store_count(struct print *print) {
-    size_t count = print->sink.count;
-    switch (print->asked.length) {
-    case 'H': *va_arg(print->arguments, signed char *) = (signed char)count; break;
-    case 'h': *va_arg(print->arguments, short *) = (short)count; break;
-    case 'l': *va_arg(print->arguments, long *) = (long)count; break;
-    case 'q': *va_arg(print->arguments, long long *) = (long long)count; break;
-    case 'j': *va_arg(print->arguments, intmax_t *) = (intmax_t)count; break;
-    case 'z':
-    case 't': *va_arg(print->arguments, ptrdiff_t *) = (ptrdiff_t)count; break;
-    default: *va_arg(print->arguments, int *) = (int)count;
-    }
+    size_t count = print->sink->count;
+    char length = print->asked.length;
+    if (length == 0) *va_arg(print->arguments, int *) = (int)count;
+    else if (length == 'l') *va_arg(print->arguments, long *) = (long)count;
+    else if (length == 'q') *va_arg(print->arguments, long long *) = (long long)count;
+    else if (length == 'h') *va_arg(print->arguments, short *) = (short)count;
+    else if (length == 'H') *va_arg(print->arguments, signed char *) = (signed char)count;
+    else if (length == 'j') *va_arg(print->arguments, intmax_t *) = (intmax_t)count;
+    else *va_arg(print->arguments, ptrdiff_t *) = (ptrdiff_t)count;
 }
 
 static unsigned flag_of(char c) {
@@ -195,24 +208,32 @@ static char read_length(struct print *print) {
     return length == 'h' ? 'H' : 'q';
 }
 
-/* Reads a conversion behind its sign, its letter among it. */
-static void read_conversion(struct print *print) {
+/* Flags, width and precision, which most conversions haven't got. */
+static void read_modifiers(struct print *print) {
     struct conversion *asked = &print->asked;
-    asked->flags = 0;
     for (unsigned flag; (flag = flag_of(*print->at)) != 0; print->at++) asked->flags |= flag;
     asked->width = read_size(print);
     if (asked->width < 0) {
         asked->flags |= LEFT;
         asked->width = asked->width == INT_MIN ? INT_MAX : -asked->width;
     }
-    asked->precision = -1;
     if (*print->at == '.') {
         print->at++;
         asked->precision = read_size(print);
         if (asked->precision < 0) asked->precision = -1;
     }
     if (asked->flags & LEFT) asked->flags &= ~(unsigned)ZEROS;
-    asked->length = read_length(print);
+}
+
+/* Reads a conversion behind its sign, its letter among it. */
+static void read_conversion(struct print *print) {
+    struct conversion *asked = &print->asked;
+    asked->flags = 0;
+    asked->width = 0;
+    asked->precision = -1;
+    asked->length = 0;
+    if (!isalpha((unsigned char)*print->at)) read_modifiers(print);
+    if (*print->at >= 'h' || *print->at == 'L') asked->length = read_length(print);
     asked->letter = *print->at;
     if (asked->letter) print->at++;
 }
@@ -220,32 +241,29 @@ static void read_conversion(struct print *print) {
 /* What isn't a conversion is put out as it stands; what is one elsewhere, and isn't known here, ends the run. */
 static void print_unknown(struct print *print, const char *from) {
     if (print->asked.letter == '$') abort();
-    __sink_bytes(&print->sink, from, (size_t)(print->at - from));
+    __sink_bytes(print->sink, from, (size_t)(print->at - from));
+}
+
+/* %s and %c; no characters of several bytes. */
+static void print_characters(struct print *print) {
+    if (print->asked.length == 'l') abort();
+    if (print->asked.letter == 's') {
+        print_string(print->sink, &print->asked, va_arg(print->arguments, const char *));
+    } else {
+        char one = (char)va_arg(print->arguments, int);
+        print_text(print->sink, &print->asked, &one, 1);
+    }
 }
 
 static void print_converted(struct print *print, const char *from) {
-    char one;
-    switch (print->asked.letter) {
-    case 'd':
-    case 'i': print_signed(print); break;
-    case 'u':
-    case 'x':
-    case 'X':
-    case 'o': print_unsigned(print); break;
-    case 's':
-        if (print->asked.length == 'l') abort();
-        print_string(&print->sink, &print->asked, va_arg(print->arguments, const char *));
-        break;
-    case 'c':
-        if (print->asked.length == 'l') abort();
-        one = (char)va_arg(print->arguments, int);
-        print_text(&print->sink, &print->asked, &one, 1);
-        break;
-    case 'p': print_pointer(print); break;
-    case 'n': store_count(print); break;
-    case '%': sink_byte(&print->sink, '%'); break;
-    default: print_unknown(print, from);
-    }
+    char letter = print->asked.letter;
+    if (letter == 'd' || letter == 'i') print_signed(print);
+    else if (letter == 's' || letter == 'c') print_characters(print);
+    else if (letter == 'u' || letter == 'x' || letter == 'X' || letter == 'o') print_unsigned(print);
+    else if (letter == 'p') print_pointer(print);
+    else if (letter == 'n') store_count(print);
+    else if (letter == '%') __sink_bytes(print->sink, "%", 1);
+    else print_unknown(print, from);
 }
 
 static int is_of_double(char letter) {
@@ -255,19 +273,20 @@ static int is_of_double(char letter) {
 
 int __print_on(struct print *print) {
     for (;;) {
-        for (; *print->at && *print->at != '%'; print->at++) sink_byte(&print->sink, *print->at);
+        const char *from = print->at;
+        while (*print->at && *print->at != '%') print->at++;
+        if (print->at != from) __sink_bytes(print->sink, from, (size_t)(print->at - from));
         if (!*print->at) return 0;
-        const char *from = print->at++;
+        from = print->at++;
         read_conversion(print);
         if (is_of_double(print->asked.letter)) return 1;
         print_converted(print, from);
     }
 }
 
-int __print_whole(struct sink sink, const char *format, va_list arguments) {
+void __print_whole(struct sink *sink, const char *format, va_list arguments) {
     struct print print = {.sink = sink, .at = format};
     va_copy(print.arguments, arguments);
     if (__print_on(&print)) abort();
     va_end(print.arguments);
-    return (int)print.sink.count;
 }

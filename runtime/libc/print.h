@@ -13,12 +13,6 @@ struct sink {
     size_t room, count;
 };
 
-static inline void sink_byte(struct sink *sink, int c) {
-    if (sink->stream) put_byte(sink->stream, c);
-    else if (sink->count < sink->room) sink->to[sink->count] = (char)c;
-    sink->count++;
-}
-
 void __sink_bytes(struct sink *sink, const char *from, size_t size);
 void __sink_repeated(struct sink *sink, char c, size_t count);
 
@@ -31,22 +25,27 @@ struct conversion {
 };
 
 struct print {
-    struct sink sink;
+    struct sink *sink;
     const char *at; /* what is left of the format */
     va_list arguments;
     struct conversion asked;
 };
 
+/* What stands before the digits of a number: a sign, 0x, both, or nothing. */
+struct prefix { const char *text; size_t size; };
+
 /* Goes through the format up to its end, and returns 0; or up to a conversion of a double, which is in asked then, and returns 1. So the
    functions that print no doubles have no reference to the ones that do. */
 int __print_on(struct print *print);
-/* Prints a double by what is asked, and goes on. */
+/* Prints a double by what is asked. */
 void __print_double(struct sink *sink, const struct conversion *asked, double number);
-/* A number's text between its sign or prefix and what fills the width: zeros first, digits then; all is printed but for the digits. */
-void __print_head(struct sink *sink, const struct conversion *asked, const char *prefix, size_t zeros, size_t size);
-void __print_tail(struct sink *sink, const struct conversion *asked, const char *prefix, size_t size);
+/* What stands before the so many bytes of a number, and behind them, so that all has the width: blanks, prefix, and zeros. */
+void __print_head(struct sink *sink, const struct conversion *asked, struct prefix prefix, size_t zeros, size_t size);
+void __print_tail(struct sink *sink, const struct conversion *asked, struct prefix prefix, size_t size);
+/* The sign, or what the flags ask for in its place. */
+struct prefix __sign_of(const struct conversion *asked, int is_minus);
 
-int __print_whole(struct sink sink, const char *format, va_list arguments);
-int __print_any(struct sink sink, const char *format, va_list arguments);
+void __print_whole(struct sink *sink, const char *format, va_list arguments);
+void __print_any(struct sink *sink, const char *format, va_list arguments);
 
 #endif

@@ -6,13 +6,10 @@
 
 static int is_upper(const struct conversion *asked) { return asked->letter < 'a'; }
 
-static const char *prefix_of(const struct conversion *asked, uint64_t bits) {
-    return sign_of(bits) ? "-" : asked->flags & PLUS ? "+" : asked->flags & BLANK ? " " : "";
-}
-
 static void print_word(struct sink *sink, const struct conversion *asked, uint64_t bits) {
     struct conversion unfilled = *asked;
-    const char *prefix = prefix_of(asked, bits), *word = is_nan(bits) ? is_upper(asked) ? "NAN" : "nan" : is_upper(asked) ? "INF" : "inf";
+    struct prefix prefix = __sign_of(asked, sign_of(bits) != 0);
+    const char *word = is_nan(bits) ? is_upper(asked) ? "NAN" : "nan" : is_upper(asked) ? "INF" : "inf";
     unfilled.flags &= ~(unsigned)ZEROS;
     __print_head(sink, &unfilled, prefix, 0, 3);
     __sink_bytes(sink, word, 3);
@@ -21,20 +18,20 @@ static void print_word(struct sink *sink, const struct conversion *asked, uint64
 
 /* Digits from one place up to another, 0s where the decimal has none. */
 static void print_digits(struct sink *sink, const struct decimal *decimal, int from, int to) {
-    for (; from < to && from < 0; from++) sink_byte(sink, '0');
-    for (; from < to && from < decimal->count; from++) sink_byte(sink, '0' + decimal->digits[from]);
+    for (; from < to && from < 0; from++) __sink_repeated(sink, '0', 1);
+    for (; from < to && from < decimal->count; from++) __sink_repeated(sink, (char)('0' + decimal->digits[from]), 1);
     if (from < to) __sink_repeated(sink, '0', (size_t)(to - from));
 }
 
 /* A point where digits follow, or # asks for it. */
 static int has_point(const struct conversion *asked, int places) { return places > 0 || (asked->flags & OTHER) != 0; }
 
-static void print_fixed(struct sink *sink, const struct conversion *asked, const char *prefix, const struct decimal *decimal, int places) {
+static void print_fixed(struct sink *sink, const struct conversion *asked, struct prefix prefix, const struct decimal *decimal, int places) {
     int whole = decimal->point > 0 ? decimal->point : 1, point = has_point(asked, places);
     size_t size = (size_t)whole + (size_t)point + (size_t)places;
     __print_head(sink, asked, prefix, 0, size);
     print_digits(sink, decimal, decimal->point - whole, decimal->point);
-    if (point) sink_byte(sink, '.');
+    if (point) __sink_repeated(sink, '.', 1);
     print_digits(sink, decimal, decimal->point, decimal->point + places);
     __print_tail(sink, asked, prefix, size);
 }
@@ -52,7 +49,7 @@ static size_t exponent_text(char *text, char letter, int exponent, int least) {
     return size;
 }
 
-static void print_scientific(struct sink *sink, const struct conversion *asked, const char *prefix, const struct decimal *decimal,
+static void print_scientific(struct sink *sink, const struct conversion *asked, struct prefix prefix, const struct decimal *decimal,
                              int places) {
     char exponent[8];
     size_t exponent_size = exponent_text(exponent, is_upper(asked) ? 'E' : 'e', decimal->count ? decimal->point - 1 : 0, 2);
@@ -60,14 +57,14 @@ static void print_scientific(struct sink *sink, const struct conversion *asked, 
     size_t size = 1 + (size_t)point + (size_t)places + exponent_size;
     __print_head(sink, asked, prefix, 0, size);
     print_digits(sink, decimal, 0, 1);
-    if (point) sink_byte(sink, '.');
+    if (point) __sink_repeated(sink, '.', 1);
     print_digits(sink, decimal, 1, 1 + places);
     __sink_bytes(sink, exponent, exponent_size);
     __print_tail(sink, asked, prefix, size);
 }
 
 /* %g: the shorter of both, without the 0s at the end unless # asks for them. */
-static void print_general(struct sink *sink, const struct conversion *asked, const char *prefix, struct decimal *decimal, int digits) {
+static void print_general(struct sink *sink, const struct conversion *asked, struct prefix prefix, struct decimal *decimal, int digits) {
     int exponent = decimal->count ? decimal->point - 1 : 0, is_scientific = exponent < -4 || exponent >= digits;
     int kept = digits;
     if (!(asked->flags & OTHER)) {
@@ -104,19 +101,18 @@ static struct hex hex_of(uint64_t bits, int precision) {
 
 static void print_hex(struct sink *sink, const struct conversion *asked, uint64_t bits) {
     struct hex hex = hex_of(bits, asked->precision);
-    static const char *const prefixes[2][4] = {{"0x", "-0x", "+0x", " 0x"}, {"0X", "-0X", "+0X", " 0X"}};
-    const char *sign = prefix_of(asked, bits), letters = is_upper(asked) ? 'A' : 'a';
-    const char *prefix = prefixes[is_upper(asked)][*sign == '-' ? 1 : *sign == '+' ? 2 : *sign == ' ' ? 3 : 0];
-    char exponent[8];
+    struct prefix sign = __sign_of(asked, sign_of(bits) != 0);
+    char text[3] = {*sign.text, '0', is_upper(asked) ? 'X' : 'x'}, letter_a = is_upper(asked) ? 'A' : 'a', exponent[8];
+    struct prefix prefix = {sign.size ? text : text + 1, sign.size + 2};
     size_t exponent_size = exponent_text(exponent, is_upper(asked) ? 'P' : 'p', hex.exponent, 1);
     int places = asked->precision >= 0 ? asked->precision : hex.places, point = has_point(asked, places);
     size_t size = 1 + (size_t)point + (size_t)places + exponent_size;
     __print_head(sink, asked, prefix, 0, size);
-    sink_byte(sink, '0' + (int)(hex.significand >> 52));
-    if (point) sink_byte(sink, '.');
+    __sink_repeated(sink, (char)('0' + (hex.significand >> 52)), 1);
+    if (point) __sink_repeated(sink, '.', 1);
     for (int i = 0; i < places && i < 13; i++) {
         int digit = (int)(hex.significand >> 4 * (12 - i)) & 15;
-        sink_byte(sink, digit < 10 ? '0' + digit : letters + digit - 10);
+        __sink_repeated(sink, (char)(digit < 10 ? '0' + digit : letter_a + digit - 10), 1);
     }
     if (places > 13) __sink_repeated(sink, '0', (size_t)places - 13);
     __sink_bytes(sink, exponent, exponent_size);
@@ -126,7 +122,7 @@ static void print_hex(struct sink *sink, const struct conversion *asked, uint64_
 void __print_double(struct sink *sink, const struct conversion *asked, double number) {
     struct decimal decimal;
     uint64_t bits = bits_of(number);
-    const char *prefix = prefix_of(asked, bits);
+    struct prefix prefix = __sign_of(asked, sign_of(bits) != 0);
     int precision = asked->precision < 0 ? 6 : asked->precision;
     number = double_of(magnitude_of(bits));
     if (magnitude_of(bits) >= INFINITE) {

@@ -3,21 +3,20 @@
 #include <stdlib.h>
 #include "print.h"
 
-int __print_any(struct sink sink, const char *format, va_list arguments) {
+void __print_any(struct sink *sink, const char *format, va_list arguments) {
     struct print print = {.sink = sink, .at = format};
     va_copy(print.arguments, arguments);
     while (__print_on(&print)) {
         if (print.asked.length == 'L') abort();
-        __print_double(&print.sink, &print.asked, va_arg(print.arguments, double));
+        __print_double(print.sink, &print.asked, va_arg(print.arguments, double));
     }
     va_end(print.arguments);
-    return (int)print.sink.count;
 }
 
 int vfprintf(FILE *stream, const char *format, va_list arguments) {
     struct sink sink = {stream, NULL, 0, 0};
-    int count = __print_any(sink, format, arguments);
-    return stream->kind >= INPUT ? EOF : count;
+    __print_any(&sink, format, arguments);
+    return stream->kind >= INPUT ? EOF : (int)sink.count;
 }
 
 int vprintf(const char *format, va_list arguments) { return vfprintf(stdout, format, arguments); }
@@ -41,9 +40,9 @@ int fprintf(FILE *stream, const char *format, ...) {
 /* (a size of 0 has room for nothing, any other one for the text's end, too) */
 int vsnprintf(char *to, size_t size, const char *format, va_list arguments) {
     struct sink sink = {NULL, to, size ? size - 1 : 0, 0};
-    int count = __print_any(sink, format, arguments);
-    if (size) to[(size_t)count < size ? (size_t)count : size - 1] = 0;
-    return count;
+    __print_any(&sink, format, arguments);
+    if (size) to[sink.count < size ? sink.count : size - 1] = 0;
+    return (int)sink.count;
 }
 
 int snprintf(char *to, size_t size, const char *format, ...) {

@@ -4,8 +4,8 @@
 
 int __vfprintf_whole(FILE *stream, const char *format, va_list arguments) {
     struct sink sink = {stream, NULL, 0, 0};
-    int count = __print_whole(sink, format, arguments);
-    return stream->kind >= INPUT ? EOF : count;
+    __print_whole(&sink, format, arguments);
+    return stream->kind >= INPUT ? EOF : (int)sink.count;
 }
 
 int __vprintf_whole(const char *format, va_list arguments) { return __vfprintf_whole(stdout, format, arguments); }
@@ -29,9 +29,9 @@ int __fprintf_whole(FILE *stream, const char *format, ...) {
 /* (a size of 0 has room for nothing, any other one for the text's end, too) */
 int __vsnprintf_whole(char *to, size_t size, const char *format, va_list arguments) {
     struct sink sink = {NULL, to, size ? size - 1 : 0, 0};
-    int count = __print_whole(sink, format, arguments);
-    if (size) to[(size_t)count < size ? (size_t)count : size - 1] = 0;
-    return count;
+    __print_whole(&sink, format, arguments);
+    if (size) to[sink.count < size ? sink.count : size - 1] = 0;
+    return (int)sink.count;
 }
 
 int __snprintf_whole(char *to, size_t size, const char *format, ...) {

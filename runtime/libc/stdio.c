@@ -1,4 +1,5 @@
 /* Bytes and lines of streams. */
+#include <string.h>
 #include "stream.h"
 
 FILE __stdin = {INPUT, EOF, 0, 0}, __stdout = {OUTPUT, EOF, 0, 0}, __stderr = {NOWHERE, EOF, 0, 0};
@@ -44,23 +45,24 @@ int putchar(int c) {
     return (unsigned char)c;
 }
 
+/* (the kind is looked at once: whole texts come here) */
+size_t fwrite(const void *from, size_t size, size_t count, FILE *stream) {
+    const unsigned char *at = from, *end = at + size * count;
+    if (stream->kind == OUTPUT)
+        for (; at != end; at++) put(*at);
+    else if (stream->kind != NOWHERE && at != end && put_byte(stream, *at) == EOF) return 0;
+    return size ? count : 0;
+}
+
 int fputs(const char *text, FILE *stream) {
-    for (; *text; text++)
-        if (put_byte(stream, *text) == EOF) return EOF;
-    return 0;
+    size_t size = strlen(text);
+    return fwrite(text, 1, size, stream) == size ? 0 : EOF;
 }
 
 int puts(const char *text) {
-    for (; *text; text++) put(*text);
+    fputs(text, stdout);
     put('\n');
     return 0;
-}
-
-size_t fwrite(const void *from, size_t size, size_t count, FILE *stream) {
-    size_t all = size * count;
-    for (size_t i = 0; i < all; i++)
-        if (put_byte(stream, ((const unsigned char *)from)[i]) == EOF) return i / size;
-    return all ? count : 0;
 }
 
 int feof(FILE *stream) { return stream->is_ended; }
