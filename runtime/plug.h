@@ -97,6 +97,8 @@ static inline char *plug_strchr(const char *s, int c) {
     return (char *)s;
 }
 
+/* Where string.h is included, too, in whatever order, its functions are meant. */
+#ifndef GEYSERPAN_STRING_H
 #define memcpy(to, from, n) plug_memcpy(to, from, n)
 #define memmove(to, from, n) plug_memmove(to, from, n)
 #define memset(to, c, n) plug_memset(to, c, n)
@@ -107,6 +109,7 @@ static inline char *plug_strchr(const char *s, int c) {
 #define strncmp(a, b, n) plug_strncmp(a, b, n)
 #define strcpy(to, from) plug_strcpy(to, from)
 #define strchr(s, c) plug_strchr(s, c)
+#endif
 
 #endif
 #endif
