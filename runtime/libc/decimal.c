@@ -59,9 +59,9 @@ static uint32_t multiply(struct words *words) {
 /* So many digits of a number, 0s at its begin among them, but for those before the first of the decimal's. */
 static void append(struct decimal *decimal, uint32_t number, int digits) {
     char text[9];
-    for (int i = digits; i-- > 0; number /= 10) text[i] = (char)(number % 10);
+    for (int i = digits; i-- > 0; number /= 10) text[i] = (char)('0' + number % 10);
     for (int i = 0; i < digits; i++)
-        if (decimal->count > 0 || text[i] != 0) decimal->digits[decimal->count++] = text[i];
+        if (decimal->count > 0 || text[i] != '0') decimal->digits[decimal->count++] = text[i];
         else decimal->point--;
 }
 
@@ -77,18 +77,18 @@ static void append_whole(struct decimal *decimal, struct words *words) {
 
 /* Takes 1 more in a place, and carries. */
 static void round_up(struct decimal *decimal) {
-    while (decimal->count > 0 && decimal->digits[decimal->count - 1] == 9) decimal->count--;
+    while (decimal->count > 0 && decimal->digits[decimal->count - 1] == '9') decimal->count--;
     if (decimal->count > 0) {
         decimal->digits[decimal->count - 1]++;
         return;
     }
-    decimal->digits[decimal->count++] = 1;
+    decimal->digits[decimal->count++] = '1';
     decimal->point++;
 }
 
 static int is_zero_from(const struct decimal *decimal, int at) {
     for (; at < decimal->count; at++)
-        if (decimal->digits[at] != 0) return 0;
+        if (decimal->digits[at] != '0') return 0;
     return 1;
 }
 
@@ -100,9 +100,9 @@ static void cut(struct decimal *decimal, int digits, int is_exact) {
         return;
     }
     int first = decimal->digits[digits], is_odd = digits > 0 && decimal->digits[digits - 1] % 2 != 0;
-    int is_half = first == 5 && is_exact && is_zero_from(decimal, digits + 1);
+    int is_half = first == '5' && is_exact && is_zero_from(decimal, digits + 1);
     decimal->count = digits;
-    if (is_half ? is_odd : first >= 5) round_up(decimal);
+    if (is_half ? is_odd : first >= '5') round_up(decimal);
 }
 
 /* Digits of the fraction, up to one behind those that are asked for. */

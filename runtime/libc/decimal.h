@@ -8,7 +8,7 @@
 /* 0.DDD.. * 10^point, the first digit not 0; no digits are 0. */
 struct decimal {
     int count, point;
-    char digits[DECIMAL_DIGITS]; /* 0 to 9 */
+    char digits[DECIMAL_DIGITS]; /* '0' to '9' */
 };
 
 /* Of a finite number that isn't below 0: digits up to so many places behind the point, or so many digits in all. Digits that would all be

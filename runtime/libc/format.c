@@ -70,15 +70,13 @@ static void print_string(struct sink *sink, const struct conversion *asked, cons
 
 /* number /= 10,000 by 16 bits a step, since there is no division of 64 bits; what is left over. */
 static unsigned divided(uint64_t *number) {
-    unsigned rest = 0;
-    uint64_t quotient = 0;
-    for (int at = 48; at >= 0; at -= 16) {
-        rest = rest << 16 | (unsigned)(*number >> at & 0xFFFF);
-        quotient = quotient << 16 | rest / 10000;
-        rest %= 10000;
-    }
-    *number = quotient;
-    return rest;
+    unsigned high = (unsigned)(*number >> 32), low = (unsigned)*number;
+    unsigned second = (high >> 16) % 10000 << 16 | (high & 0xFFFF), third = second % 10000 << 16 | low >> 16;
+    unsigned last = third % 10000 << 16 | (low & 0xFFFF);
+    high = (high >> 16) / 10000 << 16 | second / 10000;
+    low = third / 10000 << 16 | last / 10000;
+    *number = (uint64_t)high << 32 | low;
+    return last % 10000;
 }
 
 /* (22 digits to the base 8) */

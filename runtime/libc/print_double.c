@@ -18,8 +18,14 @@ static void print_word(struct sink *sink, const struct conversion *asked, uint64
 
 /* Digits from one place up to another, 0s where the decimal has none. */
 static void print_digits(struct sink *sink, const struct decimal *decimal, int from, int to) {
-    for (; from < to && from < 0; from++) __sink_repeated(sink, '0', 1);
-    for (; from < to && from < decimal->count; from++) __sink_repeated(sink, (char)('0' + decimal->digits[from]), 1);
+    int before = from < 0 ? (to < 0 ? to : 0) - from : 0;
+    __sink_repeated(sink, '0', (size_t)before);
+    from += before;
+    int end = to < decimal->count ? to : decimal->count;
+    if (from < end) {
+        __sink_bytes(sink, decimal->digits + from, (size_t)(end - from));
+        from = end;
+    }
     if (from < to) __sink_repeated(sink, '0', (size_t)(to - from));
 }
 
@@ -68,7 +74,7 @@ static void print_general(struct sink *sink, const struct conversion *asked, str
     int exponent = decimal->count ? decimal->point - 1 : 0, is_scientific = exponent < -4 || exponent >= digits;
     int kept = digits;
     if (!(asked->flags & OTHER)) {
-        while (decimal->count > 0 && decimal->digits[decimal->count - 1] == 0) decimal->count--;
+        while (decimal->count > 0 && decimal->digits[decimal->count - 1] == '0') decimal->count--;
         kept = decimal->count ? decimal->count : 1;
     }
     int places = is_scientific ? kept - 1 : kept - 1 - exponent;

@@ -8,7 +8,8 @@
 static void copy(void) {
     long count = 0;
     for (int c; (c = getchar()) != EOF; count++) putchar(c);
-    printf("\n%ld %d %d %d\n", count, feof(stdin) != 0, ferror(stdin) != 0, getchar());
+    printf("\n%ld %d %d", count, feof(stdin) != 0, ferror(stdin) != 0);
+    printf(" %d\n", getchar());
 }
 
 static void lines(int most) {
@@ -18,7 +19,8 @@ static void lines(int most) {
         fputs(line, stdout);
         if (most == 1 && getc(stdin) == EOF) break;
     }
-    printf("%d %d\n", feof(stdin) != 0, fgets(line, 0 + (most > 1 ? most : 2), stdin) == NULL);
+    printf("%d", feof(stdin) != 0);
+    printf(" %d\n", fgets(line, most > 1 ? most : 2, stdin) == NULL);
 }
 
 static void blocks(size_t size, size_t count) {
@@ -27,7 +29,8 @@ static void blocks(size_t size, size_t count) {
     do {
         memset(block, '.', sizeof block);
         had = fread(block, size, count, stdin);
-        printf("%zu %zu\n", had, fwrite(block, size, count, stdout));
+        printf("%zu\n", had);
+        printf("%zu\n", fwrite(block, size, count, stdout));
     } while (had == count && count > 0 && size > 0);
     printf("%d %d\n", feof(stdin) != 0, ferror(stdin) != 0);
 }
@@ -45,11 +48,11 @@ static void whole_lines(int end) {
 
 static void back(void) {
     for (int c, i = 0; (c = getc(stdin)) != EOF; i++) {
-        if (i % 3 == 0) printf("%d %d|", ungetc(c, stdin), feof(stdin) != 0);
+        if (i % 3 == 0) printf("%d", ungetc(c, stdin)), printf("%d|", feof(stdin) != 0);
         else putc(c, stdout);
     }
-    printf("%d %d", ungetc(EOF, stdin), ungetc('x', stdin));
-    printf("%d %d %d\n", feof(stdin) != 0, fgetc(stdin), fgetc(stdin));
+    printf("%d", ungetc(EOF, stdin)), printf("%d", ungetc('x', stdin));
+    printf("%d", feof(stdin) != 0), printf("%d", fgetc(stdin)), printf("%d\n", fgetc(stdin));
 }
 
 static void numbers(void) {
@@ -85,15 +88,14 @@ static void doubles(void) {
 
 static void errors(void) {
     errno = 0;
-    printf("%d %d", fputc('x', stdin), ferror(stdin) != 0);
-    printf(" %d\n", errno == EBADF);
+    printf("%d", fputc('x', stdin)), printf("%d", ferror(stdin) != 0), printf("%d\n", errno == EBADF);
     clearerr(stdin);
-    printf("%d %d %d\n", ferror(stdin) != 0, fgetc(stdout), ferror(stdout) != 0);
+    printf("%d", ferror(stdin) != 0), printf("%d", fgetc(stdout)), printf("%d\n", ferror(stdout) != 0);
     clearerr(stdout);
-    printf("%d %d\n", fprintf(stderr, "%d", 5), fputs("lost", stderr) >= 0);
-    printf("%d %d\n", fputc('x', stderr), ferror(stderr) != 0);
-    printf("%d %d %d\n", fflush(stdout), fflush(NULL), puts("a line") >= 0);
-    printf("%d %d\n", fprintf(stdout, "%s-%5d", "abc", 12), fputc(300, stdout));
+    printf("%d", fprintf(stderr, "%d", 5)), printf("%d\n", fputs("lost", stderr) >= 0);
+    printf("%d", fputc('x', stderr)), printf("%d\n", ferror(stderr) != 0);
+    printf("%d", fflush(stdout)), printf("%d", fflush(NULL)), printf("%d\n", puts("a line") >= 0);
+    printf("%d", fprintf(stdout, "%s-%5d", "abc", 12)), printf("%d", fputc(300, stdout));
     fputs("end\n", stdout);
 }
 
