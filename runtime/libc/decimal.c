@@ -42,11 +42,11 @@ static unsigned divide(struct words *words) {
     return rest;
 }
 
-/* fraction *= 10^9; what comes before the point. */
-static uint32_t multiply(struct words *words) {
+/* fraction *= by, a power of 10 up to 10^9; what comes before the point. */
+static uint32_t multiply(struct words *words, uint32_t by) {
     uint32_t carry = 0;
     for (int i = words->end - 1; i >= words->first; i--) {
-        uint64_t product = (uint64_t)words->word[i] * 1000000000 + carry;
+        uint64_t product = (uint64_t)words->word[i] * by + carry;
         words->word[i] = (uint32_t)product;
         carry = (uint32_t)(product >> 32);
     }
@@ -105,10 +105,15 @@ static void cut(struct decimal *decimal, int digits, int is_exact) {
     if (is_half ? is_odd : first >= '5') round_up(decimal);
 }
 
+static int lesser(int one, int other) { return one < other ? one : other; }
+
 /* Digits of the fraction, up to one behind those that are asked for. */
 static void append_fraction(struct decimal *decimal, struct words *fraction, int places, int digits) {
-    while (fraction->first < fraction->end && decimal->count <= digits && decimal->count - decimal->point <= places)
-        append(decimal, multiply(fraction), 9);
+    static const uint32_t powers[] = {1, 10, 100, 1000, 10000, 100000, 1000000, 10000000, 100000000, 1000000000};
+    while (fraction->first < fraction->end && decimal->count <= digits && decimal->count - decimal->point <= places) {
+        int wanted = lesser(lesser(digits - decimal->count, places - (decimal->count - decimal->point)), 8) + 1;
+        append(decimal, multiply(fraction, powers[wanted]), wanted);
+    }
 }
 
 /* The words of a number's whole part and of its fraction. */
@@ -141,7 +146,7 @@ static void decimal_of(struct decimal *decimal, double number, int places, int d
     append_fraction(decimal, &fraction, places, digits);
     int is_exact = fraction.first == fraction.end;
     int by_places = places > INT_MAX - 400 ? INT_MAX : decimal->point + places;
-    cut(decimal, by_places < digits ? by_places : digits, is_exact);
+    cut(decimal, lesser(by_places, digits), is_exact);
     if (decimal->count == 0) decimal->point = 0;
 }
 

@@ -210,7 +210,7 @@ def refused_line(words, name):
 
 def run_headers(work, cases, seed):
     """Each header by itself and twice, by each compiler that is there, in C and C++; plug.h before and behind; the refused ones."""
-    compilers = [["gcc", "-std=c99", "-pedantic"], ["gcc", "-std=c11", "-O2"], ["g++", "-std=c++17", "-O2"], ["clang", "-std=c11"],
+    compilers = [["gcc", "-std=c89", "-O2"], ["gcc", "-std=c99", "-pedantic", "-O2"], ["gcc", "-std=c11", "-O2"], ["g++", "-std=c++17", "-O2"], ["clang", "-std=c11"],
                  [SPARC[0], "-m32", "-mcpu=v8", "-msoft-float", "-std=gnu11", "-O2"],
                  ["clang", "--target=sparc-linux-gnu", "-msoft-float", "-std=gnu11", "-O2"]]
     here = [compiler for compiler in compilers if shutil.which(compiler[0])]
@@ -272,14 +272,15 @@ def run_whole(work, cases, seed):
     whole = ['printf("%d\\n", 5);', 'printf("value: %-5d, %s, %c%%, %#llx of %u\\n", 1, "a", 98, 5LL, 7u);', 'printf("Hello\\n");',
              'char t[9]; snprintf(t, 9, "%*.*d", 3, 2, 1); fprintf(stdout, "%s", t);', 'int n; scanf("%d %*[^f]", &n); sscanf("1", "%i", &n);']
     doubles = ['printf("%5.2f\\n", 1.5);', 'extern const char *f; printf(f, 1.5);', 'double x; scanf("%lf", &x);', 'printf("%d %Lg", 1, 2.0L);']
-    for flag in ("-O1", "-O2", "-Os", "-O3"):
-        for i, statement in enumerate(whole + doubles):
-            source = HELLO % statement + 'const char *f = "%f";\n'
+    promised = "#define GEYSERPAN_NO_DOUBLES\n"
+    for flag in ("-O1", "-O2", "-Os"):
+        for i, (begin, statement) in enumerate([("", statement) for statement in whole + doubles] + [(promised, doubles[1])]):
+            source = begin + HELLO % statement + 'const char *f = "%f";\n'
             there = functions(linked(work, source, f"whole{i}", "main", flag)[0])
             has_doubles = bool(there & {"__print_double", "__scan_double", "__print_any", "__scan_any", "strtod", "decimal_of"})
-            if has_doubles != (statement in doubles):
-                raise Differs(f"{flag}: {statement} {'has' if has_doubles else 'lacks'} the code of doubles")
-    return f"{4 * len(whole)} programs without doubles have no code for them, {4 * len(doubles)} with doubles have"
+            if has_doubles != (statement in doubles and not begin):
+                raise Differs(f"{flag}: {begin}{statement} {'has' if has_doubles else 'lacks'} the code of doubles")
+    return f"{3 * len(whole) + 3} programs without doubles have no code for them, {3 * len(doubles)} with doubles have"
 
 
 COUNTED = """#include <math.h>

@@ -31,7 +31,24 @@ int __vscanf_whole(const char *, va_list);
 int __vfscanf_whole(FILE *, const char *, va_list);
 int __vsscanf_whole(const char *, const char *, va_list);
 
-#if defined __GNUC__ && !defined __clang__ && defined __OPTIMIZE__ && !defined GEYSERPAN_LIBRARY
+#ifdef GEYSERPAN_NO_DOUBLES
+
+int printf(const char *, ...) __asm__("__printf_whole");
+int fprintf(FILE *, const char *, ...) __asm__("__fprintf_whole");
+int sprintf(char *, const char *, ...) __asm__("__sprintf_whole");
+int snprintf(char *, size_t, const char *, ...) __asm__("__snprintf_whole");
+int vprintf(const char *, va_list) __asm__("__vprintf_whole");
+int vfprintf(FILE *, const char *, va_list) __asm__("__vfprintf_whole");
+int vsprintf(char *, const char *, va_list) __asm__("__vsprintf_whole");
+int vsnprintf(char *, size_t, const char *, va_list) __asm__("__vsnprintf_whole");
+int scanf(const char *, ...) __asm__("__scanf_whole");
+int fscanf(FILE *, const char *, ...) __asm__("__fscanf_whole");
+int sscanf(const char *, const char *, ...) __asm__("__sscanf_whole");
+int vscanf(const char *, va_list) __asm__("__vscanf_whole");
+int vfscanf(FILE *, const char *, va_list) __asm__("__vfscanf_whole");
+int vsscanf(const char *, const char *, va_list) __asm__("__vsscanf_whole");
+
+#elif defined __GNUC__ && !defined __clang__ && defined __OPTIMIZE__ && !defined GEYSERPAN_LIBRARY
 
 int __printf_any(const char *, ...) __asm__("printf");
 int __fprintf_any(FILE *, const char *, ...) __asm__("fprintf");
@@ -66,12 +83,8 @@ __INLINE int __converts_doubles(const char *__at) {
     return __doubles || __at[__builtin_strcspn(__at, "%")];
 }
 
-#ifdef GEYSERPAN_NO_DOUBLES
-#define __IS_WHOLE(format) 1
-#else
 #define __IS_WHOLE(format) \
     __extension__({ int __known = __converts_doubles(format); __builtin_constant_p(__known) && !__known; })
-#endif
 #define __CHOOSE(name, format, ...) \
     if (__IS_WHOLE(format)) return __##name##_whole(__VA_ARGS__); \
     return __##name##_any(__VA_ARGS__)
