@@ -82,32 +82,35 @@ static unsigned divided(uint64_t *number) {
 /* (22 digits to the base 8) */
 #define MOST_DIGITS 24
 
-/* Writes the digits of a number before the end; the first one. There is none of 0. */
-static char *decimal_digits(char *end, uint64_t number) {
+/* Writes the digits of a number at the end of the room for them; where the first one is. There is none of 0. */
+static unsigned decimal_digits(char digits[MOST_DIGITS], uint64_t number) {
+    unsigned at = MOST_DIGITS;
     while (number >> 32) {
         unsigned four = divided(&number);
-        for (int i = 0; i < 4; i++, four /= 10) *--end = (char)('0' + four % 10);
+        for (int i = 0; i < 4; i++, four /= 10) digits[--at] = (char)('0' + four % 10);
     }
-    for (unsigned left = (unsigned)number; left > 0; left /= 10) *--end = (char)('0' + left % 10);
-    return end;
+    for (unsigned left = (unsigned)number; left > 0; left /= 10) digits[--at] = (char)('0' + left % 10);
+    return at;
 }
 
 /* To the base 8 or 16. */
-static char *binary_digits(char *end, uint64_t number, unsigned shift, char letter_a) {
+static unsigned binary_digits(char digits[MOST_DIGITS], uint64_t number, unsigned shift, char letter_a) {
+    unsigned at = MOST_DIGITS;
     for (; number > 0; number >>= shift) {
         unsigned digit = (unsigned)number & ((1U << shift) - 1);
-        *--end = (char)(digit < 10 ? '0' + digit : letter_a + digit - 10);
+        digits[--at] = (char)(digit < 10 ? '0' + digit : letter_a + digit - 10);
     }
-    return end;
+    return at;
 }
 
 static void print_number(struct print *print, struct prefix prefix, uint64_t number) {
     struct conversion *asked = &print->asked;
-    char digits[MOST_DIGITS], *end = digits + MOST_DIGITS, *from, letter = asked->letter;
-    if (letter == 'd' || letter == 'i' || letter == 'u') from = decimal_digits(end, number);
-    else if (letter == 'o') from = binary_digits(end, number, 3, 'a');
-    else from = binary_digits(end, number, 4, letter == 'X' ? 'A' : 'a');
-    size_t size = (size_t)(end - from), wanted = 1;
+    char digits[MOST_DIGITS], letter = asked->letter;
+    unsigned first;
+    if (letter == 'd' || letter == 'i' || letter == 'u') first = decimal_digits(digits, number);
+    else if (letter == 'o') first = binary_digits(digits, number, 3, 'a');
+    else first = binary_digits(digits, number, 4, letter == 'X' ? 'A' : 'a');
+    size_t size = MOST_DIGITS - first, wanted = 1;
     if (asked->precision >= 0) {
         wanted = (size_t)asked->precision;
         asked->flags &= ~(unsigned)ZEROS;
@@ -115,7 +118,7 @@ static void print_number(struct print *print, struct prefix prefix, uint64_t num
     if (letter == 'o' && asked->flags & OTHER && wanted <= size) wanted = size + 1;
     size_t zeros = wanted > size ? wanted - size : 0;
     __print_head(print->sink, asked, prefix, zeros, size);
-    __sink_bytes(print->sink, from, size);
+    __sink_bytes(print->sink, digits + first, size);
     __print_tail(print->sink, asked, prefix, zeros + size);
 }
 
@@ -184,62 +187,68 @@ static unsigned flag_of(char c) {
 }
 
 /* A width or a precision: digits, or * for an argument. */
-static int read_size(struct print *print) {
-    int size = 0;
-    if (*print->at == '*') {
-        print->at++;
-        return va_arg(print->arguments, int);
+static const char *read_size(struct print *print, const char *at, int *size) {
+    if (*at == '*') {
+        *size = va_arg(print->arguments, int);
+        return at + 1;
     }
-    for (; isdigit((unsigned char)*print->at); print->at++) {
-        int digit = *print->at - '0';
-        size = size > (INT_MAX - digit) / 10 ? INT_MAX : size * 10 + digit;
+    for (*size = 0; isdigit((unsigned char)*at); at++) {
+        int digit = *at - '0';
+        *size = *size > (INT_MAX - digit) / 10 ? INT_MAX : *size * 10 + digit;
     }
-    return size;
-}
-
-static char read_length(struct print *print) {
-    char length = *print->at;
-    if (length != 'h' && length != 'l' && length != 'j' && length != 'z' && length != 't' && length != 'L') return 0;
-    print->at++;
-    if (*print->at != length || (length != 'h' && length != 'l')) return length;
-    print->at++;
-    return length == 'h' ? 'H' : 'q';
+    return at;
 }
 
 /* Flags, width and precision, which most conversions haven't got. */
-static void read_modifiers(struct print *print) {
+static const char *read_modifiers(struct print *print, const char *at) {
     struct conversion *asked = &print->asked;
-    for (unsigned flag; (flag = flag_of(*print->at)) != 0; print->at++) asked->flags |= flag;
-    asked->width = read_size(print);
+    for (unsigned flag; (flag = flag_of(*at)) != 0; at++) asked->flags |= flag;
+    at = read_size(print, at, &asked->width);
     if (asked->width < 0) {
         asked->flags |= LEFT;
         asked->width = asked->width == INT_MIN ? INT_MAX : -asked->width;
     }
-    if (*print->at == '.') {
-        print->at++;
-        asked->precision = read_size(print);
+    if (*at == '.') {
+        at = read_size(print, at + 1, &asked->precision);
         if (asked->precision < 0) asked->precision = -1;
     }
     if (asked->flags & LEFT) asked->flags &= ~(unsigned)ZEROS;
+    return at;
 }
 
-/* Reads a conversion behind its sign, its letter among it. */
-static void read_conversion(struct print *print) {
+static int is_length(char c) { return c == 'h' || c == 'l' || c == 'j' || c == 'z' || c == 't' || c == 'L'; }
+
+static const char *read_length(struct conversion *asked, const char *at) {
+    asked->length = *at++;
+    if (*at != asked->length || (*at != 'h' && *at != 'l')) return at;
+    asked->length = *at == 'h' ? 'H' : 'q';
+    return at + 1;
+}
+
+/* Reads a conversion behind its sign, its letter among it; what follows. */
+static const char *read_conversion(struct print *print, const char *at) {
     struct conversion *asked = &print->asked;
+    char c = *at;
     asked->flags = 0;
     asked->width = 0;
     asked->precision = -1;
     asked->length = 0;
-    if (!isalpha((unsigned char)*print->at)) read_modifiers(print);
-    if (*print->at >= 'h' || *print->at == 'L') asked->length = read_length(print);
-    asked->letter = *print->at;
-    if (asked->letter) print->at++;
+    if (!isalpha((unsigned char)c)) {
+        at = read_modifiers(print, at);
+        c = *at;
+    }
+    if (is_length(c)) {
+        at = read_length(asked, at);
+        c = *at;
+    }
+    asked->letter = c;
+    return c ? at + 1 : at;
 }
 
 /* What isn't a conversion is put out as it stands; what is one elsewhere, and isn't known here, ends the run. */
-static void print_unknown(struct print *print, const char *from) {
+static void print_unknown(struct print *print, const char *from, const char *end) {
     if (print->asked.letter == '$') abort();
-    __sink_bytes(print->sink, from, (size_t)(print->at - from));
+    __sink_bytes(print->sink, from, (size_t)(end - from));
 }
 
 /* %s and %c; no characters of several bytes. */
@@ -253,7 +262,7 @@ static void print_characters(struct print *print) {
     }
 }
 
-static void print_converted(struct print *print, const char *from) {
+static void print_converted(struct print *print, const char *from, const char *end) {
     char letter = print->asked.letter;
     if (letter == 'd' || letter == 'i') print_signed(print);
     else if (letter == 's' || letter == 'c') print_characters(print);
@@ -261,7 +270,7 @@ static void print_converted(struct print *print, const char *from) {
     else if (letter == 'p') print_pointer(print);
     else if (letter == 'n') store_count(print);
     else if (letter == '%') __sink_bytes(print->sink, "%", 1);
-    else print_unknown(print, from);
+    else print_unknown(print, from, end);
 }
 
 static int is_of_double(char letter) {
@@ -270,15 +279,18 @@ static int is_of_double(char letter) {
 }
 
 int __print_on(struct print *print) {
-    for (;;) {
-        const char *from = print->at;
-        while (*print->at && *print->at != '%') print->at++;
-        if (print->at != from) __sink_bytes(print->sink, from, (size_t)(print->at - from));
-        if (!*print->at) return 0;
-        from = print->at++;
-        read_conversion(print);
-        if (is_of_double(print->asked.letter)) return 1;
-        print_converted(print, from);
+    for (const char *at = print->at;;) {
+        const char *from = at;
+        while (*at && *at != '%') at++;
+        if (at != from) __sink_bytes(print->sink, from, (size_t)(at - from));
+        if (!*at) return 0;
+        from = at;
+        at = read_conversion(print, at + 1);
+        if (is_of_double(print->asked.letter)) {
+            print->at = at;
+            return 1;
+        }
+        print_converted(print, from, at);
     }
 }
 
