@@ -1,5 +1,6 @@
-/* What a compiler calls for bits of whole numbers where the machine has no instruction, beside what plug.c has: counts and reversals of
-   64 bits, and sign bits. As with a compiler's own, the counts of 0 are left open where C's builtins leave them open. */
+/* What a compiler calls for bits of whole numbers where the machine has no instruction, beside what plug.c has:
+   counts and reversals of 64 bits, and sign bits. As with a compiler's own, the counts of 0 are left open where C's
+   builtins leave them open. */
 typedef unsigned long long u64;
 typedef long long s64;
 typedef unsigned int u32;
@@ -32,4 +33,4 @@ int __clrsbdi2(s64 x) {
     return unlike ? __clzdi2(unlike) - 1 : 63;
 }
 
-s64 __negdi2(s64 x) { return (s64)-(u64)x; }
+s64 __negdi2(s64 x) { return (s64) - (u64)x; }

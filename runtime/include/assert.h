@@ -1,5 +1,5 @@
-/* An assertion that fails ends the run as abort does, with the exit word 00060000; nothing is printed, since stderr goes nowhere.
-   (As the standard has it, the file may be included again with another NDEBUG.) */
+/* An assertion that fails ends the run as abort does, with the exit word 00060000; nothing is printed, since stderr
+   goes nowhere. (As the standard has it, the file may be included again with another NDEBUG.) */
 #undef assert
 #ifdef NDEBUG
 #define assert(condition) ((void)0)

@@ -1,4 +1,5 @@
-/* Of the C locale: what isn't ASCII belongs to no class. Each is a comparison or two, in the function that calls it. */
+/* Of the C locale: what isn't ASCII belongs to no class. Each is a comparison or two, in the function that calls
+   it. */
 #ifndef GEYSERPAN_CTYPE_H
 #define GEYSERPAN_CTYPE_H
 

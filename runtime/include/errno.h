@@ -1,4 +1,5 @@
-/* The numbers are Linux's on most machines; of those the library itself sets EBADF, EDOM, EINVAL, ENOENT, ENOMEM and ERANGE. */
+/* The numbers are Linux's on most machines; of those the library itself sets EBADF, EDOM, EINVAL, ENOENT, ENOMEM and
+   ERANGE. */
 #ifndef GEYSERPAN_ERRNO_H
 #define GEYSERPAN_ERRNO_H
 

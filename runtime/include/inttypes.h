@@ -15,8 +15,12 @@ static __inline imaxdiv_t imaxdiv(intmax_t __number, intmax_t __by) {
     imaxdiv_t __both = {__number / __by, __number % __by};
     return __both;
 }
-static __inline intmax_t strtoimax(const char *__text, char **__end, int __base) { return strtoll(__text, __end, __base); }
-static __inline uintmax_t strtoumax(const char *__text, char **__end, int __base) { return strtoull(__text, __end, __base); }
+static __inline intmax_t strtoimax(const char *__text, char **__end, int __base) {
+    return strtoll(__text, __end, __base);
+}
+static __inline uintmax_t strtoumax(const char *__text, char **__end, int __base) {
+    return strtoull(__text, __end, __base);
+}
 
 #ifdef __cplusplus
 }

@@ -1,5 +1,6 @@
-/* What is exact, or rounded to nearest as IEEE 754 has it, and nothing else: sin, exp, pow, log and their kin aren't declared, so that a
-   program may bring its own. errno and flags are left alone; what has no answer is the quiet NaN. */
+/* What is exact, or rounded to nearest as IEEE 754 has it, and nothing else: sin, exp, pow, log and their kin aren't
+   declared, so that a program may bring its own. errno and flags are left alone; what has no answer is the quiet
+   NaN. */
 #ifndef GEYSERPAN_MATH_H
 #define GEYSERPAN_MATH_H
 

@@ -1,5 +1,5 @@
-/* No signal ever reaches a program here. What a program needs of this file to be compiled is there: the type, and the names. A call of
-   signal or raise is refused by the compiler. */
+/* No signal ever reaches a program here. What a program needs of this file to be compiled is there: the type, and the
+   names. A call of signal or raise is refused by the compiler. */
 #ifndef GEYSERPAN_SIGNAL_H
 #define GEYSERPAN_SIGNAL_H
 

@@ -1,5 +1,6 @@
-/* The standard's, but what asks for an operating system or for characters of several bytes: there is no system, and no mblen and kin.
-   The heap is an array of GEYSERPAN_ARENA bytes, 65,536 where the library is compiled without another number. */
+/* The standard's, but what asks for an operating system or for characters of several bytes: there is no system, and
+   no mblen and kin. The heap is an array of GEYSERPAN_ARENA bytes, 65,536 where the library is compiled without
+   another number. */
 #ifndef GEYSERPAN_STDLIB_H
 #define GEYSERPAN_STDLIB_H
 
@@ -18,15 +19,15 @@ typedef struct { int quot, rem; } div_t;
 typedef struct { long quot, rem; } ldiv_t;
 typedef struct { long long quot, rem; } lldiv_t;
 
-/* A size of 0 gives a block, too. Where there is no room they return NULL, and errno is ENOMEM. Each block lies at a multiple of 8.
-   What free or realloc is given that isn't a block in use ends the run as abort does. */
+/* A size of 0 gives a block, too. Where there is no room they return NULL, and errno is ENOMEM. Each block lies at a
+   multiple of 8. What free or realloc is given that isn't a block in use ends the run as abort does. */
 void *malloc(size_t) __attribute__((__malloc__));
 void *calloc(size_t, size_t) __attribute__((__malloc__));
 void *realloc(void *, size_t);
 void free(void *);
 
-/* The exit word is the status; what atexit has been told of runs before, the last one first. A program that returns from main without
-   a call of exit runs it only where its start calls exit(main()). */
+/* The exit word is the status; what atexit has been told of runs before, the last one first. A program that returns
+   from main without a call of exit runs it only where its start calls exit(main()). */
 void exit(int) __attribute__((__noreturn__));
 void _Exit(int) __attribute__((__noreturn__));
 /* The exit word is 00060000. */

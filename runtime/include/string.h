@@ -1,10 +1,12 @@
-/* The standard's, and of POSIX and BSD what programs use most. strcoll and strxfrm go by bytes, as the C locale has it. */
+/* The standard's, and of POSIX and BSD what programs use most. strcoll and strxfrm go by bytes, as the C locale has
+   it. */
 #ifndef GEYSERPAN_STRING_H
 #define GEYSERPAN_STRING_H
 
 #include <stddef.h>
 
-/* plug.h has some of these names as macros of its own; where both are included, in whatever order, the functions here are meant. */
+/* plug.h has some of these names as macros of its own; where both are included, in whatever order, the functions here
+   are meant. */
 #undef memcpy
 #undef memmove
 #undef memset

@@ -1,5 +1,5 @@
-/* The decimal digits of a double, exactly: its whole part by divisions by 10,000, its fraction by products with 10^9, both of as many
-   words as the number has. */
+/* The decimal digits of a double, exactly: its whole part by divisions by 10,000, its fraction by products with 10^9,
+   both of as many words as the number has. */
 #include <limits.h>
 #include <stdint.h>
 #include "../soft/soft.h"
@@ -8,7 +8,8 @@
 /* 2^1024 has 32 words; the least double is 2^-1074, 34 words behind the point. */
 #define WORDS 34
 
-/* A number of words, the most significant first; those outside of first up to end are 0. A fraction's point stands before word 0. */
+/* A number of words, the most significant first; those outside of first up to end are 0. A fraction's point stands
+   before word 0. */
 struct words {
     int first, end;
     uint32_t word[WORDS];
@@ -150,5 +151,9 @@ static void decimal_of(struct decimal *decimal, double number, int places, int d
     if (decimal->count == 0) decimal->point = 0;
 }
 
-void __decimal_to_places(struct decimal *decimal, double number, int places) { decimal_of(decimal, number, places, INT_MAX); }
-void __decimal_to_digits(struct decimal *decimal, double number, int digits) { decimal_of(decimal, number, INT_MAX, digits); }
+void __decimal_to_places(struct decimal *decimal, double number, int places) {
+    decimal_of(decimal, number, places, INT_MAX);
+}
+void __decimal_to_digits(struct decimal *decimal, double number, int digits) {
+    decimal_of(decimal, number, INT_MAX, digits);
+}

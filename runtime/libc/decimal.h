@@ -11,8 +11,8 @@ struct decimal {
     char digits[DECIMAL_DIGITS]; /* '0' to '9' */
 };
 
-/* Of a finite number that isn't below 0: digits up to so many places behind the point, or so many digits in all. Digits that would all be
-   0 from some place on may be left out. */
+/* Of a finite number that isn't below 0: digits up to so many places behind the point, or so many digits in all.
+   Digits that would all be 0 from some place on may be left out. */
 void __decimal_to_places(struct decimal *decimal, double number, int places);
 void __decimal_to_digits(struct decimal *decimal, double number, int digits);
 

@@ -1,4 +1,5 @@
-/* Files, of which there are none: what fails as the standard has it where a file isn't there, or a stream can't be moved about. */
+/* Files, of which there are none: what fails as the standard has it where a file isn't there, or a stream can't be
+   moved about. */
 #include "stream.h"
 
 FILE *fopen(const char *name, const char *mode) {

@@ -31,7 +31,8 @@ static size_t fill_of(const struct conversion *asked, size_t size) {
     return (size_t)asked->width > size ? (size_t)asked->width - size : 0;
 }
 
-void __print_head(struct sink *sink, const struct conversion *asked, struct prefix prefix, size_t zeros, size_t size) {
+void __print_head(struct sink *sink, const struct conversion *asked, struct prefix prefix, size_t zeros,
+                  size_t size) {
     if (asked->width && !(asked->flags & LEFT)) {
         size_t fill = fill_of(asked, prefix.size + zeros + size);
         if (asked->flags & ZEROS) zeros += fill;

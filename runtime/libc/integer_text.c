@@ -10,9 +10,13 @@ static unsigned value_of(char c) {
     return isalpha((unsigned char)c) ? ((unsigned char)c | 32) - 'a' + 10 : 99;
 }
 
-struct number { unsigned long long magnitude; int minus, beyond; };
+struct number {
+    unsigned long long magnitude;
+    int minus, beyond;
+};
 
-/* number * base + digit, by halves, since there is a product of 32 bits alone; beyond tells that it has more than 64. */
+/* number * base + digit, by halves, since there is a product of 32 bits alone; beyond tells that it has more than
+   64. */
 static void append(struct number *number, unsigned base, unsigned digit) {
     unsigned long long low = (number->magnitude & 0xFFFFFFFF) * base + digit;
     unsigned long long high = (number->magnitude >> 32) * base + (low >> 32);
@@ -30,7 +34,8 @@ static const char *begin_of(const char *at, int *base, int *minus) {
     return *base == 16 && is_hex ? at + 2 : at;
 }
 
-/* The number at the begin of a text, as strtol has it; the end, where it is asked for, is the text's begin where there is no number. */
+/* The number at the begin of a text, as strtol has it; the end, where it is asked for, is the text's begin where
+   there is no number. */
 static struct number number_of(const char *text, char **end, int base) {
     struct number number = {0, 0, 0};
     if (end) *end = (char *)text;

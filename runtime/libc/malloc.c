@@ -1,6 +1,6 @@
-/* The heap: one array of units of 8 bytes, which the blocks fill without a gap. Before each block stands its head, a word: how many units
-   it takes with its head, and whether it is used. Free neighbours become one when a search passes them. A search begins where the last
-   one ended ("next fit"), so that it is short while there is room. */
+/* The heap: one array of units of 8 bytes, which the blocks fill without a gap. Before each block stands its head, a
+   word: how many units it takes with its head, and whether it is used. Free neighbours become one when a search
+   passes them. A search begins where the last one ended ("next fit"), so that it is short while there is room. */
 #include <errno.h>
 #include <stdint.h>
 #include <stdlib.h>
@@ -11,12 +11,14 @@
 #endif
 
 #define UNIT 8
-/* A head lies at 4 bytes behind a multiple of 8, so that its block lies at one: the first word of the arena, and the last, are no block's. */
+/* A head lies at 4 bytes behind a multiple of 8, so that its block lies at one: the first word of the arena, and the
+   last, are no block's. */
 #define HEAD (sizeof(unsigned))
 #define UNITS ((GEYSERPAN_ARENA) / UNIT - 1)
 #define USED 1U
 
-_Static_assert((GEYSERPAN_ARENA) % UNIT == 0 && (GEYSERPAN_ARENA) >= 4 * UNIT, "GEYSERPAN_ARENA is a multiple of 8, and at least 32");
+_Static_assert((GEYSERPAN_ARENA) % UNIT == 0 && (GEYSERPAN_ARENA) >= 4 * UNIT,
+               "GEYSERPAN_ARENA is a multiple of 8, and at least 32");
 _Static_assert(sizeof(unsigned) == 4, "heads are words of 4 bytes");
 
 /* (a block holds any type, and its head lies among them) */
@@ -119,7 +121,8 @@ static unsigned grown(unsigned unit) {
 
 void *realloc(void *block, size_t size) {
     if (!block) return malloc(size);
-    unsigned unit = unit_of(block), has = size_at(unit), wanted = size <= GEYSERPAN_ARENA ? units_for(size) : UNITS + 1;
+    unsigned unit = unit_of(block), has = size_at(unit),
+             wanted = size <= GEYSERPAN_ARENA ? units_for(size) : UNITS + 1;
     if (wanted > has) {
         unsigned room = grown(unit);
         take(unit, room, wanted <= room ? wanted : has);

@@ -3,7 +3,9 @@
 #include "../soft/soft.h"
 
 float fabsf(float x) { return float_of(float_magnitude_of(float_bits_of(x))); }
-float copysignf(float x, float sign) { return float_of(float_magnitude_of(float_bits_of(x)) | (float_bits_of(sign) & FLOAT_SIGN)); }
+float copysignf(float x, float sign) {
+    return float_of(float_magnitude_of(float_bits_of(x)) | (float_bits_of(sign) & FLOAT_SIGN));
+}
 
 float nanf(const char *text) {
     (void)text;

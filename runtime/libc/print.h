@@ -1,4 +1,5 @@
-/* printf's parts: where the text goes, what is asked of a conversion, and the state between two conversions of doubles. */
+/* printf's parts: where the text goes, what is asked of a conversion, and the state between two conversions of
+   doubles. */
 #ifndef GEYSERPAN_PRINT_H
 #define GEYSERPAN_PRINT_H
 
@@ -6,7 +7,8 @@
 #include <stddef.h>
 #include "stream.h"
 
-/* To a stream, or where that is none to memory: room bytes may be written there. All that would have been put out are counted. */
+/* To a stream, or where that is none to memory: room bytes may be written there. All that would have been put out are
+   counted. */
 struct sink {
     FILE *stream;
     char *to;
@@ -32,14 +34,18 @@ struct print {
 };
 
 /* What stands before the digits of a number: a sign, 0x, both, or nothing. */
-struct prefix { const char *text; size_t size; };
+struct prefix {
+    const char *text;
+    size_t size;
+};
 
-/* Goes through the format up to its end, and returns 0; or up to a conversion of a double, which is in asked then, and returns 1. So the
-   functions that print no doubles have no reference to the ones that do. */
+/* Goes through the format up to its end, and returns 0; or up to a conversion of a double, which is in asked then,
+   and returns 1. So the functions that print no doubles have no reference to the ones that do. */
 int __print_on(struct print *print);
 /* Prints a double by what is asked. */
 void __print_double(struct sink *sink, const struct conversion *asked, double number);
-/* What stands before the so many bytes of a number, and behind them, so that all has the width: blanks, prefix, and zeros. */
+/* What stands before the so many bytes of a number, and behind them, so that all has the width: blanks, prefix, and
+   zeros. */
 void __print_head(struct sink *sink, const struct conversion *asked, struct prefix prefix, size_t zeros, size_t size);
 void __print_tail(struct sink *sink, const struct conversion *asked, struct prefix prefix, size_t size);
 /* The sign, or what the flags ask for in its place. */

@@ -32,7 +32,8 @@ static void print_digits(struct sink *sink, const struct decimal *decimal, int f
 /* A point where digits follow, or # asks for it. */
 static int has_point(const struct conversion *asked, int places) { return places > 0 || (asked->flags & OTHER) != 0; }
 
-static void print_fixed(struct sink *sink, const struct conversion *asked, struct prefix prefix, const struct decimal *decimal, int places) {
+static void print_fixed(struct sink *sink, const struct conversion *asked, struct prefix prefix,
+                        const struct decimal *decimal, int places) {
     int whole = decimal->point > 0 ? decimal->point : 1, point = has_point(asked, places);
     size_t size = (size_t)whole + (size_t)point + (size_t)places;
     __print_head(sink, asked, prefix, 0, size);
@@ -55,10 +56,11 @@ static size_t exponent_text(char *text, char letter, int exponent, int least) {
     return size;
 }
 
-static void print_scientific(struct sink *sink, const struct conversion *asked, struct prefix prefix, const struct decimal *decimal,
-                             int places) {
+static void print_scientific(struct sink *sink, const struct conversion *asked, struct prefix prefix,
+                             const struct decimal *decimal, int places) {
     char exponent[8];
-    size_t exponent_size = exponent_text(exponent, is_upper(asked) ? 'E' : 'e', decimal->count ? decimal->point - 1 : 0, 2);
+    size_t exponent_size = exponent_text(exponent, is_upper(asked) ? 'E' : 'e',
+                                         decimal->count ? decimal->point - 1 : 0, 2);
     int point = has_point(asked, places);
     size_t size = 1 + (size_t)point + (size_t)places + exponent_size;
     __print_head(sink, asked, prefix, 0, size);
@@ -70,7 +72,8 @@ static void print_scientific(struct sink *sink, const struct conversion *asked, 
 }
 
 /* %g: the shorter of both, without the 0s at the end unless # asks for them. */
-static void print_general(struct sink *sink, const struct conversion *asked, struct prefix prefix, struct decimal *decimal, int digits) {
+static void print_general(struct sink *sink, const struct conversion *asked, struct prefix prefix,
+                          struct decimal *decimal, int digits) {
     int exponent = decimal->count ? decimal->point - 1 : 0, is_scientific = exponent < -4 || exponent >= digits;
     int kept = digits;
     if (!(asked->flags & OTHER)) {
@@ -84,7 +87,10 @@ static void print_general(struct sink *sink, const struct conversion *asked, str
 }
 
 /* %a: a digit to the base 2, up to 13 to the base 16, and the power of 2. */
-struct hex { uint64_t significand; int exponent, places; };
+struct hex {
+    uint64_t significand;
+    int exponent, places;
+};
 
 /* Rounds to so many places, ties to even; a carry makes the first digit 2. */
 static void round_hex(struct hex *hex, int places) {
@@ -108,7 +114,8 @@ static struct hex hex_of(uint64_t bits, int precision) {
 static void print_hex(struct sink *sink, const struct conversion *asked, uint64_t bits) {
     struct hex hex = hex_of(bits, asked->precision);
     struct prefix sign = __sign_of(asked, sign_of(bits) != 0);
-    char text[3] = {*sign.text, '0', is_upper(asked) ? 'X' : 'x'}, letter_a = is_upper(asked) ? 'A' : 'a', exponent[8];
+    char text[3] = {*sign.text, '0', is_upper(asked) ? 'X' : 'x'}, letter_a = is_upper(asked) ? 'A' : 'a',
+         exponent[8];
     struct prefix prefix = {sign.size ? text : text + 1, sign.size + 2};
     size_t exponent_size = exponent_text(exponent, is_upper(asked) ? 'P' : 'p', hex.exponent, 1);
     int places = asked->precision >= 0 ? asked->precision : hex.places, point = has_point(asked, places);

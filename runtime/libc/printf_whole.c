@@ -42,7 +42,9 @@ int __snprintf_whole(char *to, size_t size, const char *format, ...) {
     return count;
 }
 
-int __vsprintf_whole(char *to, const char *format, va_list arguments) { return __vsnprintf_whole(to, (size_t)-1, format, arguments); }
+int __vsprintf_whole(char *to, const char *format, va_list arguments) {
+    return __vsnprintf_whole(to, (size_t)-1, format, arguments);
+}
 
 int __sprintf_whole(char *to, const char *format, ...) {
     va_list arguments;

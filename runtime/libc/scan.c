@@ -13,7 +13,10 @@ static void skip_blanks(struct scan *scan) {
 }
 
 /* A number's digits: bits is its value modulo 2^64, and beyond tells that it has more. */
-struct number { uint64_t bits; int is_number, is_beyond; };
+struct number {
+    uint64_t bits;
+    int is_number, is_beyond;
+};
 
 static unsigned value_of(int c) {
     if (isdigit(c)) return (unsigned)c - '0';
@@ -23,7 +26,8 @@ static unsigned value_of(int c) {
 /* Reads digits from c on; gives what follows them back. */
 static void read_digits(struct scan *scan, struct number *number, unsigned base, int c) {
     for (; value_of(c) < base; c = take_of_field(scan)) {
-        uint64_t low = (number->bits & 0xFFFFFFFF) * base + value_of(c), high = (number->bits >> 32) * base + (low >> 32);
+        uint64_t low = (number->bits & 0xFFFFFFFF) * base + value_of(c),
+                 high = (number->bits >> 32) * base + (low >> 32);
         if (high >> 32) number->is_beyond = 1;
         number->bits = high << 32 | (low & 0xFFFFFFFF);
         number->is_number = 1;
@@ -64,7 +68,8 @@ static void store_number(struct scan *scan, uint64_t bits) {
 
 /* A number that its type can't hold becomes the greatest or the least of long, or of long long. */
 static uint64_t held(struct scan *scan, struct number number, int minus) {
-    int is_long_long = scan->length == 'q' || scan->length == 'j', is_signed = scan->letter == 'd' || scan->letter == 'i';
+    int is_long_long = scan->length == 'q' || scan->length == 'j',
+        is_signed = scan->letter == 'd' || scan->letter == 'i';
     uint64_t most = is_long_long ? UINT64_MAX : ULONG_MAX;
     if (is_signed) most = (most >> 1) + (unsigned)minus;
     if (number.is_beyond || number.bits > most) number.bits = is_signed || !minus ? most : -most;
@@ -98,7 +103,9 @@ static enum outcome scan_bytes(struct scan *scan, int width) {
 }
 
 /* The bytes of a set, a bit each. */
-struct set { unsigned bits[8]; };
+struct set {
+    unsigned bits[8];
+};
 
 static int is_in(const struct set *set, int c) { return set->bits[c >> 5 & 7] >> (c & 31) & 1; }
 

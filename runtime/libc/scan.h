@@ -14,7 +14,7 @@ struct scan {
     va_list arguments;
     int assigned;
     /* of the conversion at hand */
-    int is_kept, left; /* is it assigned; how many bytes more it may have */
+    int is_kept, left;   /* is it assigned; how many bytes more it may have */
     char length, letter; /* 'H' is hh, and 'q' is ll */
 };
 

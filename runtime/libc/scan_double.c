@@ -7,7 +7,10 @@
 #define MOST 1200
 
 /* The bytes so far, and the next one, or EOF. */
-struct item { char text[MOST + 1]; int size, next; };
+struct item {
+    char text[MOST + 1];
+    int size, next;
+};
 
 static void keep(struct scan *scan, struct item *item) {
     if (item->size == MOST) abort();
@@ -44,7 +47,8 @@ static int keep_number(struct scan *scan, struct item *item) {
     if (item->next == '-' || item->next == '+') keep(scan, item);
     if (item->next == 'n' || item->next == 'N') return keep_word(scan, item, "nan");
     if (item->next == 'i' || item->next == 'I')
-        return keep_word(scan, item, "inf") && ((item->next != 'i' && item->next != 'I') || keep_word(scan, item, "inity"));
+        return keep_word(scan, item, "inf") &&
+               ((item->next != 'i' && item->next != 'I') || keep_word(scan, item, "inity"));
     if (item->next == '0') {
         count = 1;
         keep(scan, item);

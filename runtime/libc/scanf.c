@@ -5,14 +5,19 @@
 int __scan_any(FILE *stream, const char *text, const char *format, va_list arguments) {
     struct scan scan = {.stream = stream, .text = text, .at = format};
     va_copy(scan.arguments, arguments);
-    while (__scan_on(&scan) && __scan_settle(&scan, __scan_double(&scan))) {}
+    while (__scan_on(&scan) && __scan_settle(&scan, __scan_double(&scan))) {
+    }
     va_end(scan.arguments);
     return scan.assigned;
 }
 
-int vfscanf(FILE *stream, const char *format, va_list arguments) { return __scan_any(stream, NULL, format, arguments); }
+int vfscanf(FILE *stream, const char *format, va_list arguments) {
+    return __scan_any(stream, NULL, format, arguments);
+}
 int vscanf(const char *format, va_list arguments) { return __scan_any(stdin, NULL, format, arguments); }
-int vsscanf(const char *text, const char *format, va_list arguments) { return __scan_any(NULL, text, format, arguments); }
+int vsscanf(const char *text, const char *format, va_list arguments) {
+    return __scan_any(NULL, text, format, arguments);
+}
 
 int scanf(const char *format, ...) {
     va_list arguments;

@@ -2,9 +2,13 @@
 #define GEYSERPAN_LIBRARY
 #include "scan.h"
 
-int __vfscanf_whole(FILE *stream, const char *format, va_list arguments) { return __scan_whole(stream, NULL, format, arguments); }
+int __vfscanf_whole(FILE *stream, const char *format, va_list arguments) {
+    return __scan_whole(stream, NULL, format, arguments);
+}
 int __vscanf_whole(const char *format, va_list arguments) { return __scan_whole(stdin, NULL, format, arguments); }
-int __vsscanf_whole(const char *text, const char *format, va_list arguments) { return __scan_whole(NULL, text, format, arguments); }
+int __vsscanf_whole(const char *text, const char *format, va_list arguments) {
+    return __scan_whole(NULL, text, format, arguments);
+}
 
 int __scanf_whole(const char *format, ...) {
     va_list arguments;

@@ -21,7 +21,12 @@ static void exchange_bytes(char *a, char *b, size_t size) {
     }
 }
 
-struct heap { char *array; size_t size; int by_words; int (*compare)(const void *, const void *); };
+struct heap {
+    char *array;
+    size_t size;
+    int by_words;
+    int (*compare)(const void *, const void *);
+};
 
 static void exchange(const struct heap *heap, char *a, char *b) {
     if (heap->by_words) exchange_words(a, b, heap->size);
@@ -50,7 +55,8 @@ void qsort(void *array, size_t count, size_t size, int (*compare)(const void *, 
     }
 }
 
-void *bsearch(const void *key, const void *array, size_t count, size_t size, int (*compare)(const void *, const void *)) {
+void *bsearch(const void *key, const void *array, size_t count, size_t size,
+              int (*compare)(const void *, const void *)) {
     const char *from = array;
     while (count > 0) {
         const char *middle = from + count / 2 * size;

@@ -2,7 +2,10 @@
 #include <errno.h>
 #include <string.h>
 
-static const struct { short number; const char *text; } known[] = {
+static const struct {
+    short number;
+    const char *text;
+} known[] = {
     {0, "Success"},
     {EPERM, "Operation not permitted"},
     {ENOENT, "No such file or directory"},

@@ -1,5 +1,6 @@
-/* string.h and strings.h, but memcpy, memmove, memset and memcmp, which compilers call of themselves: runtime/plug.c has these. Bytes are
-   taken one by one: a word that is read beyond the end of a text would be outside of its object. */
+/* string.h and strings.h, but memcpy, memmove, memset and memcmp, which compilers call of themselves: runtime/plug.c
+   has these. Bytes are taken one by one: a word that is read beyond the end of a text would be outside of its
+   object. */
 #include <ctype.h>
 #include <stdlib.h>
 #include <string.h>

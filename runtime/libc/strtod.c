@@ -1,5 +1,6 @@
-/* strtod, strtof and atof: rounded to nearest, ties to even, for any number of digits. The whole part becomes a number of words, the
-   fraction is multiplied by 2^16 again and again; 64 bits of both, and whether anything follows, are all that rounding has to know. */
+/* strtod, strtof and atof: rounded to nearest, ties to even, for any number of digits. The whole part becomes a
+   number of words, the fraction is multiplied by 2^16 again and again; 64 bits of both, and whether anything follows,
+   are all that rounding has to know. */
 #include <ctype.h>
 #include <errno.h>
 #include <stdint.h>
@@ -7,7 +8,8 @@
 #include <strings.h>
 #include "../soft/soft.h"
 
-/* Digits that are kept: two doubles and the middle between them differ in the first 768. A last one tells of all that follow. */
+/* Digits that are kept: two doubles and the middle between them differ in the first 768. A last one tells of all that
+   follow. */
 #define MOST_DIGITS 800
 /* From 10^310 on a number is infinite, and below 10^-343 it is 0. */
 #define MOST_POINT 310
@@ -92,7 +94,8 @@ static void read_whole(struct whole *whole, const struct digits *digits) {
     whole->count = 0;
     for (int place = 0; place < digits->point;) {
         uint32_t group = 0, by = 1;
-        for (; place < digits->point && by < 1000000000; place++, by *= 10) group = group * 10 + digit_at(digits, place);
+        for (; place < digits->point && by < 1000000000; place++, by *= 10)
+            group = group * 10 + digit_at(digits, place);
         multiply(whole, by, group);
     }
 }
@@ -126,7 +129,8 @@ static uint32_t next_bits(struct fraction *fraction) {
         fraction->four[i] = (uint16_t)(product - carry * 10000);
     }
     while (fraction->end > fraction->first && fraction->four[fraction->end - 1] == 0) fraction->end--;
-    for (; carry && fraction->first > 0; carry /= 10000) fraction->four[--fraction->first] = (uint16_t)(carry % 10000);
+    for (; carry && fraction->first > 0; carry /= 10000)
+        fraction->four[--fraction->first] = (uint16_t)(carry % 10000);
     return carry;
 }
 
@@ -264,7 +268,8 @@ static void settle(struct text_number *number) {
 /* Up to 15 digits and a power of 10 up to 10^22 are doubles, and one product or quotient of them is rounded once. */
 static int is_short(const struct text_number *number) {
     int exponent = number->digits.point - number->digits.count;
-    return number->kind == DECIMAL_KIND && number->digits.count > 0 && number->digits.count <= 15 && exponent >= -22 && exponent <= 22;
+    return number->kind == DECIMAL_KIND && number->digits.count > 0 && number->digits.count <= 15 &&
+           exponent >= -22 && exponent <= 22;
 }
 
 static double short_number(const struct digits *digits) {
@@ -276,7 +281,8 @@ static double short_number(const struct digits *digits) {
     return exponent < 0 ? (double)whole / powers[-exponent] : (double)whole * powers[exponent];
 }
 
-/* Below the least normal number, but for what would be rounded up to it with as many bits as that has; and bits are lost. */
+/* Below the least normal number, but for what would be rounded up to it with as many bits as that has; and bits are
+   lost. */
 static int is_underflow(int exponent, uint64_t significand, int beyond) {
     uint64_t half = 1ULL << (beyond - 1);
     if (exponent > 0 || (exponent == 0 && (significand + half) >> 63)) return 0;
@@ -305,8 +311,11 @@ static float float_from(const struct text_number *number) {
     if (number->scaled.top == 0) return float_of(sign);
     uint64_t significand = number->scaled.top >> 1 | (number->scaled.top & 1) | (number->scaled.is_more != 0);
     int exponent = number->scaled.exponent + 63 + 127;
-    float rounded_number = float_rounded(sign, exponent, (uint32_t)(significand >> 32) | ((uint32_t)significand != 0));
-    if (float_magnitude_of(float_bits_of(rounded_number)) == FLOAT_INFINITE || is_underflow(exponent, significand, 39)) errno = ERANGE;
+    float rounded_number = float_rounded(sign, exponent,
+                                         (uint32_t)(significand >> 32) | ((uint32_t)significand != 0));
+    if (float_magnitude_of(float_bits_of(rounded_number)) == FLOAT_INFINITE ||
+        is_underflow(exponent, significand, 39))
+        errno = ERANGE;
     return rounded_number;
 }
 

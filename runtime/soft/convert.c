@@ -1,5 +1,6 @@
-/* What a compiler calls for conversions between float, double and whole numbers where there is no floating point unit. A number that a
-   whole type can't hold becomes the nearest that it can, and what is no number 0; C leaves both open. */
+/* What a compiler calls for conversions between float, double and whole numbers where there is no floating point
+   unit. A number that a whole type can't hold becomes the nearest that it can, and what is no number 0; C leaves both
+   open. */
 #include "soft.h"
 
 double __extendsfdf2(float number) {
@@ -20,7 +21,8 @@ float __truncdfsf2(double number) {
     if (magnitude_of(bits) == INFINITE) return float_of(sign | FLOAT_INFINITE);
     if (exponent_of(bits) == 0) return float_of(sign); /* below half of the least float */
     u64 significand = fraction_of(bits) | HIDDEN;
-    return float_rounded(sign, exponent_of(bits) - 1023 + 127, (u32)(significand >> 22) | ((u32)significand << 10 != 0));
+    return float_rounded(sign, exponent_of(bits) - 1023 + 127,
+                         (u32)(significand >> 22) | ((u32)significand << 10 != 0));
 }
 
 /* From a magnitude that isn't 0. */

@@ -1,4 +1,5 @@
-/* What a compiler calls for double where there is no floating point unit (-msoft-float): the four operations, the sign, comparisons. */
+/* What a compiler calls for double where there is no floating point unit (-msoft-float): the four operations, the
+   sign, comparisons. */
 #include "soft.h"
 
 /* Where one of two numbers is infinite or none: their sum; a's magnitude isn't the lesser. */
@@ -97,8 +98,9 @@ static double special_quotient(u64 a, u64 b) {
     return double_of(sign);
 }
 
-/* floor(rest * 2^14 / divisor), or up to rest / divisor / 2 + 1 less; the rest is taken down by it. The divisor is from 2^60 to 2^61,
-   the rest below four of it; estimate is the divisor's upper 16 bits and 1, so that a digit is never too great. */
+/* floor(rest * 2^14 / divisor), or up to rest / divisor / 2 + 1 less; the rest is taken down by it. The divisor is
+   from 2^60 to 2^61, the rest below four of it; estimate is the divisor's upper 16 bits and 1, so that a digit is
+   never too great. */
 static inline u32 next_digit(u64 *rest, u64 divisor, u32 estimate) {
     u32 digit = (u32)(*rest >> 31) / estimate;
     u64 low = (u64)digit * (u32)divisor;
@@ -107,8 +109,9 @@ static inline u32 next_digit(u64 *rest, u64 divisor, u32 estimate) {
     return digit;
 }
 
-/* floor(rest * 2^56 / divisor), its lowest bit but one set where that isn't exact; the rest is from half the divisor up to it. A rest of r
-   divisors leaves one of r / 2 + 1 and a little: from below 1, four digits leave less than 2. */
+/* floor(rest * 2^56 / divisor), its lowest bit but one set where that isn't exact; the rest is from half the divisor
+   up to it. A rest of r divisors leaves one of r / 2 + 1 and a little: from below 1, four digits leave less than
+   2. */
 static u64 digits_of_quotient(u64 rest, u64 divisor) {
     u32 estimate = (u32)(divisor >> 45) + 1;
     u32 first = next_digit(&rest, divisor, estimate), second = next_digit(&rest, divisor, estimate);
@@ -134,7 +137,8 @@ double __divdf3(double x, double y) {
     return rounded(sign_of(a ^ b), exponent, digits_of_quotient(rest, divisor));
 }
 
-/* -1, 0 or 1: less, equal, greater; and what the caller says where one is no number. Numbers of one sign are ordered as their bits. */
+/* -1, 0 or 1: less, equal, greater; and what the caller says where one is no number. Numbers of one sign are ordered
+   as their bits. */
 static inline int compared(u64 a, u64 b, int unordered) {
     if (is_nan(a) || is_nan(b)) return unordered;
     if (magnitude_of(a | b) == 0) return 0;

@@ -1,4 +1,5 @@
-/* What a compiler calls for float where there is no floating point unit (-msoft-float): the four operations, the sign, comparisons. */
+/* What a compiler calls for float where there is no floating point unit (-msoft-float): the four operations, the
+   sign, comparisons. */
 #include "soft.h"
 
 static float special_sum(u32 a, u32 b) {

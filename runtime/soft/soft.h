@@ -1,5 +1,5 @@
-/* The bits of IEEE 754's binary64 and binary32, for arithmetic by whole numbers. Rounding is to nearest, ties to even; there are no
-   traps and no flags; a result that is no number is the quiet NaN of positive sign. */
+/* The bits of IEEE 754's binary64 and binary32, for arithmetic by whole numbers. Rounding is to nearest, ties to
+   even; there are no traps and no flags; a result that is no number is the quiet NaN of positive sign. */
 #ifndef GEYSERPAN_SOFT_H
 #define GEYSERPAN_SOFT_H
 
@@ -19,22 +19,34 @@ typedef int s32;
 #define FLOAT_HIDDEN 0x00800000U
 
 static inline u64 bits_of(double number) {
-    union { double number; u64 bits; } both = {number};
+    union {
+        double number;
+        u64 bits;
+    } both = {number};
     return both.bits;
 }
 
 static inline double double_of(u64 bits) {
-    union { u64 bits; double number; } both = {bits};
+    union {
+        u64 bits;
+        double number;
+    } both = {bits};
     return both.number;
 }
 
 static inline u32 float_bits_of(float number) {
-    union { float number; u32 bits; } both = {number};
+    union {
+        float number;
+        u32 bits;
+    } both = {number};
     return both.bits;
 }
 
 static inline float float_of(u32 bits) {
-    union { u32 bits; float number; } both = {bits};
+    union {
+        u32 bits;
+        float number;
+    } both = {bits};
     return both.number;
 }
 
@@ -63,7 +75,8 @@ static inline int zeros_above_64(u64 number) {
     return high ? zeros_above(high) : 32 + zeros_above((u32)number);
 }
 
-/* A shift to the right by 1 or more whose lowest bit tells whether a bit that isn't 0 was lost ("sticky"): rounding needs no more. */
+/* A shift to the right by 1 or more whose lowest bit tells whether a bit that isn't 0 was lost ("sticky"): rounding
+   needs no more. */
 static inline u64 shifted(u64 number, int by) {
     if (by > 63) return number != 0;
     return number >> by | (number << (64 - by) != 0);
@@ -74,9 +87,9 @@ static inline u32 float_shifted(u32 number, int by) {
     return number >> by | (number << (32 - by) != 0);
 }
 
-/* The double nearest to significand * 2^(exponent - 1023 - 62). Bit 62 is the significand's highest, or the exponent is 1 and it is
-   smaller (a subnormal number); its lowest 10 bits are beyond the result's. The hidden bit carries 1 into the exponent, as does a
-   significand that is rounded up to the next power of two. */
+/* The double nearest to significand * 2^(exponent - 1023 - 62). Bit 62 is the significand's highest, or the exponent
+   is 1 and it is smaller (a subnormal number); its lowest 10 bits are beyond the result's. The hidden bit carries 1
+   into the exponent, as does a significand that is rounded up to the next power of two. */
 static inline double rounded(u64 sign, int exponent, u64 significand) {
     if (exponent >= 2047) return double_of(sign | INFINITE);
     if (exponent < 1) {
@@ -87,7 +100,8 @@ static inline double rounded(u64 sign, int exponent, u64 significand) {
     return double_of(sign | (((u64)(u32)(exponent - 1) << 52) + (significand >> 10)));
 }
 
-/* The float nearest to significand * 2^(exponent - 127 - 30), likewise: bit 30 is its highest, the lowest 7 are beyond the result's. */
+/* The float nearest to significand * 2^(exponent - 127 - 30), likewise: bit 30 is its highest, the lowest 7 are
+   beyond the result's. */
 static inline float float_rounded(u32 sign, int exponent, u32 significand) {
     if (exponent >= 255) return float_of(sign | FLOAT_INFINITE);
     if (exponent < 1) {
@@ -98,7 +112,8 @@ static inline float float_rounded(u32 sign, int exponent, u32 significand) {
     return float_of(sign | (((u32)(exponent - 1) << 23) + (significand >> 7)));
 }
 
-/* The significand of a finite number that isn't 0, with its hidden bit set, a subnormal one shifted up; and the exponent for it. */
+/* The significand of a finite number that isn't 0, with its hidden bit set, a subnormal one shifted up; and the
+   exponent for it. */
 static inline u64 normalized(u64 bits, int *exponent) {
     u64 significand = fraction_of(bits);
     *exponent = exponent_of(bits);

@@ -29,7 +29,8 @@ static void show_number(uint64_t number, unsigned base) {
 void note(uint64_t result) {
     digest = (digest ^ result) * 0x9E3779B97F4A7C15ULL + (digest >> 29);
 #ifdef EACH
-    show(current->name), show(" case "), show_number((uint64_t)case_number, 10), show(" "), show_number(result, 16), show("\n");
+    show(current->name), show(" case "), show_number((uint64_t)case_number, 10), show(" "), show_number(result, 16),
+        show("\n");
 #endif
 }
 
@@ -102,34 +103,69 @@ char *random_text(unsigned most) {
 
 /* (no number has many kinds of bits: they are one) */
 uint64_t bits(double x) {
-    union { double number; uint64_t bits; } both = {x};
+    union {
+        double number;
+        uint64_t bits;
+    } both = {x};
     return (both.bits << 1) > 0xFFE0000000000000ULL ? 0x7FF8000000000000ULL : both.bits;
 }
 
 uint64_t float_bits(float x) {
-    union { float number; uint32_t bits; } both = {x};
+    union {
+        float number;
+        uint32_t bits;
+    } both = {x};
     return (both.bits << 1) > 0xFF000000U ? 0x7FC00000U : both.bits;
 }
 
 static double from_bits(uint64_t number) {
-    union { uint64_t bits; double number; } both = {number};
+    union {
+        uint64_t bits;
+        double number;
+    } both = {number};
     return both.number;
 }
 
 static float from_float_bits(uint32_t number) {
-    union { uint32_t bits; float number; } both = {number};
+    union {
+        uint32_t bits;
+        float number;
+    } both = {number};
     return both.number;
 }
 
-/* Both zeros, the least and the greatest subnormal and normal numbers, of float too, 1 and its neighbours, 2^k and 2^k - 1, infinite, and
-   no number; each of both signs. */
+/* Both zeros, the least and the greatest subnormal and normal numbers, of float too, 1 and its neighbours, 2^k and
+   2^k - 1, infinite, and no number; each of both signs. */
 double edge(unsigned which) {
     static const uint64_t edges[EDGES / 2] = {
-        0, 1, 2, 0x000FFFFFFFFFFFFFULL, 0x0010000000000000ULL, 0x0010000000000001ULL, 0x0008000000000000ULL, 0x001FFFFFFFFFFFFFULL,
-        0x3FF0000000000000ULL, 0x3FF0000000000001ULL, 0x3FEFFFFFFFFFFFFFULL, 0x3FE0000000000000ULL, 0x3FF8000000000000ULL,
-        0x4000000000000000ULL, 0x4330000000000000ULL, 0x4330000000000001ULL, 0x433FFFFFFFFFFFFFULL, 0x41DFFFFFFFC00000ULL,
-        0x41E0000000000000ULL, 0x43E0000000000000ULL, 0x43EFFFFFFFFFFFFFULL, 0x47EFFFFFE0000000ULL, 0x47EFFFFFF0000000ULL,
-        0x3810000000000000ULL, 0x36A0000000000000ULL, 0x3690000000000001ULL, 0x7FEFFFFFFFFFFFFFULL, 0x7FF0000000000000ULL,
+        0,
+        1,
+        2,
+        0x000FFFFFFFFFFFFFULL,
+        0x0010000000000000ULL,
+        0x0010000000000001ULL,
+        0x0008000000000000ULL,
+        0x001FFFFFFFFFFFFFULL,
+        0x3FF0000000000000ULL,
+        0x3FF0000000000001ULL,
+        0x3FEFFFFFFFFFFFFFULL,
+        0x3FE0000000000000ULL,
+        0x3FF8000000000000ULL,
+        0x4000000000000000ULL,
+        0x4330000000000000ULL,
+        0x4330000000000001ULL,
+        0x433FFFFFFFFFFFFFULL,
+        0x41DFFFFFFFC00000ULL,
+        0x41E0000000000000ULL,
+        0x43E0000000000000ULL,
+        0x43EFFFFFFFFFFFFFULL,
+        0x47EFFFFFE0000000ULL,
+        0x47EFFFFFF0000000ULL,
+        0x3810000000000000ULL,
+        0x36A0000000000000ULL,
+        0x3690000000000001ULL,
+        0x7FEFFFFFFFFFFFFFULL,
+        0x7FF0000000000000ULL,
         0x7FF8000000000000ULL,
     };
     return from_bits(edges[which / 2] | (uint64_t)(which % 2) << 63);
@@ -217,8 +253,8 @@ static int run(const struct test *test) {
 }
 
 int main(void) {
-    static const struct test *const all[] = {text_tests, number_tests, memory_tests, print_tests, double_text_tests, scan_tests, soft_tests,
-                                             math_tests};
+    static const struct test *const all[] = {text_tests,        number_tests, memory_tests, print_tests,
+                                             double_text_tests, scan_tests,   soft_tests,   math_tests};
     int failed = 0;
     for (size_t i = 0; i < sizeof all / sizeof all[0]; i++)
         for (const struct test *test = all[i]; test->name; test++)

@@ -1,8 +1,10 @@
-/* Cases that compute one thing twice: by the library under test, whose names begin with gp_, and by another one that is believed.
+/* Cases that compute one thing twice: by the library under test, whose names begin with gp_, and by another one that
+   is believed.
 
-   Compiled natively, both are in one program, and each case compares. What can't stand in one program with another library, since it is
-   another machine's, is compiled with OURS, and the other library alone with THEIRS: each prints a digest of its results, and these are
-   compared. The cases are the same, since they come from a generator of their own. */
+   Compiled natively, both are in one program, and each case compares. What can't stand in one program with another
+   library, since it is another machine's, is compiled with OURS, and the other library alone with THEIRS: each prints
+   a digest of its results, and these are compared. The cases are the same, since they come from a generator of their
+   own. */
 #ifndef BESIDE_H
 #define BESIDE_H
 
@@ -54,8 +56,8 @@ void judge(uint64_t ours, uint64_t theirs, const char *file, int line);
 void note(uint64_t result);
 uint64_t hash(const void *from, size_t size);
 
-/* Random: 64 bits, a number below another one, and a number of 64 bits that begins with up to so many zeros. (No two of these calls may
-   stand in one expression or in one call's arguments, whose order C leaves open.) */
+/* Random: 64 bits, a number below another one, and a number of 64 bits that begins with up to so many zeros. (No two
+   of these calls may stand in one expression or in one call's arguments, whose order C leaves open.) */
 uint64_t random_bits(void);
 unsigned below(unsigned end);
 uint64_t some_bits(unsigned zeros);
@@ -82,7 +84,7 @@ extern unsigned char output[];
 /* Runs a function that calls quit; the word. */
 int quit_word(void (*function)(void));
 
-extern const struct test text_tests[], number_tests[], memory_tests[], print_tests[], double_text_tests[], scan_tests[], soft_tests[],
-    math_tests[];
+extern const struct test text_tests[], number_tests[], memory_tests[], print_tests[], double_text_tests[],
+    scan_tests[], soft_tests[], math_tests[];
 
 #endif

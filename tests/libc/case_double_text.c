@@ -14,8 +14,8 @@
 static char text[ROOM];
 
 #ifndef OURS
-/* The other library's strtod rounds some subnormal numbers to the base 16 wrongly. A long double holds them exactly, and the machine rounds
-   it; what is lost below the least normal number isn't told then. */
+/* The other library's strtod rounds some subnormal numbers to the base 16 wrongly. A long double holds them exactly,
+   and the machine rounds it; what is lost below the least normal number isn't told then. */
 static int is_hex(const char *from) { return strpbrk(from, "xX") != NULL; }
 
 static double their_double(char **end) {
@@ -105,7 +105,8 @@ static void anything(void) {
 }
 
 #ifndef OURS
-/* What a double prints as, with any number of digits; and the middle between two doubles, exactly, and a little more and less. */
+/* What a double prints as, with any number of digits; and the middle between two doubles, exactly, and a little more
+   and less. */
 static void printed(void) {
     double number = random_double();
     if (number != number) return;
@@ -138,12 +139,46 @@ static void middles(void) {
 
 static void edges(void) {
     static const char *const all[] = {
-        "1e400", "-1e400", "1e-400", "0x", "0x.p1", "0x1p", "0x1p+", "1e", "1e+", "infinit", "INFINITY", "-inf", "nan(", "nan(ab_1)x",
-        "nan(a b)", "+.5", "-.", ".", "", "  12", "2.2250738585072011e-308", "2.2250738585072012e-308", "2.2250738585072014e-308",
-        "4.9e-324", "2.4703282292062327e-324", "2.4703282292062328e-324", "1.7976931348623157e308", "1.7976931348623158e308",
-        "1.7976931348623159e308", "0e999999999", "00000000000000000000000000000000000000000001", "1e-99999999999999",
-        "1e0000000000000000000000000000000000000000000001", "1e99999999999999999999", "9007199254740993", "3.4028235677973366e38",
-        "9007199254740992.99999999999999999999999999999", "1.1754943508222875e-38", "7.0064923216240854e-46", "3.4028235677973362e38",
+        "1e400",
+        "-1e400",
+        "1e-400",
+        "0x",
+        "0x.p1",
+        "0x1p",
+        "0x1p+",
+        "1e",
+        "1e+",
+        "infinit",
+        "INFINITY",
+        "-inf",
+        "nan(",
+        "nan(ab_1)x",
+        "nan(a b)",
+        "+.5",
+        "-.",
+        ".",
+        "",
+        "  12",
+        "2.2250738585072011e-308",
+        "2.2250738585072012e-308",
+        "2.2250738585072014e-308",
+        "4.9e-324",
+        "2.4703282292062327e-324",
+        "2.4703282292062328e-324",
+        "1.7976931348623157e308",
+        "1.7976931348623158e308",
+        "1.7976931348623159e308",
+        "0e999999999",
+        "00000000000000000000000000000000000000000001",
+        "1e-99999999999999",
+        "1e0000000000000000000000000000000000000000000001",
+        "1e99999999999999999999",
+        "9007199254740993",
+        "3.4028235677973366e38",
+        "9007199254740992.99999999999999999999999999999",
+        "1.1754943508222875e-38",
+        "7.0064923216240854e-46",
+        "3.4028235677973362e38",
     };
     long count = (long)(sizeof all / sizeof all[0]);
     int size = 0;
@@ -152,8 +187,10 @@ static void edges(void) {
     } else {
         /* 2,000 nines, or a 1 and 3,000 zeros, with an exponent that takes them back, or without */
         long which = case_number - count;
-        if (which % 2) for (; size < 2000; size++) text[size] = '9';
-        else for (text[size++] = '1'; size < 3000; size++) text[size] = '0';
+        if (which % 2)
+            for (; size < 2000; size++) text[size] = '9';
+        else
+            for (text[size++] = '1'; size < 3000; size++) text[size] = '0';
         if (which % 4 > 1) size = append_exponent(size, 'e', which % 2 ? -1700 : -2900);
         if (which > 3) text[0] = '.';
         if (which > 5) size = append_exponent(size, 'e', 2900);
@@ -163,11 +200,15 @@ static void edges(void) {
 }
 
 const struct test double_text_tests[] = {
-    {"strtod of digits", digits, CASES * 5L}, {"strtod to the base 16", hexadecimal, CASES}, {"strtod of anything", anything, CASES * 2L},
+    {"strtod of digits", digits, CASES * 5L},
+    {"strtod to the base 16", hexadecimal, CASES},
+    {"strtod of anything", anything, CASES * 2L},
 #ifndef OURS
 #ifndef THEIRS
-    {"strtod of what printf prints", printed, CASES * 20L}, {"strtod of middles", middles, CASES},
+    {"strtod of what printf prints", printed, CASES * 20L},
+    {"strtod of middles", middles, CASES},
 #endif
 #endif
-    {"strtod of edges", edges, 48}, {NULL, NULL, 0},
+    {"strtod of edges", edges, 48},
+    {NULL, NULL, 0},
 };

@@ -73,7 +73,8 @@ static int are_zeros(double x, double y) { return x == 0 && y == 0; }
 static void of_two(double x, double y) {
     SAME(bits(gp_copysign(x, y)), bits(copysign(x, y)));
     SAME(bits(gp_fmod(x, y)), bits(fmod(x, y)));
-    /* (the other library's own remainder takes the wrong one of two for some subnormal numbers; the machine's is right) */
+    /* (the other library's own remainder takes the wrong one of two for some subnormal numbers; the machine's is
+       right) */
     SAME(bits(gp_remainder(x, y)), bits((double)remainderl(x, y)));
     SAME(bits(gp_nextafter(x, y)), bits(nextafter(x, y)));
     SAME(bits(gp_fdim(x, y)), bits(fdim(x, y)));
@@ -152,6 +153,9 @@ static void pairs(void) {
 }
 
 const struct test math_tests[] = {
-    {"floor,round,rint..", all_directions, CASES * 5L}, {"frexp,ldexp,modf..", all_parts, CASES * 5L},
-    {"fmod,fmin,nextafter..", all_of_two, CASES}, {"math.h of edges", pairs, EDGES * EDGES}, {NULL, NULL, 0},
+    {"floor,round,rint..", all_directions, CASES * 5L},
+    {"frexp,ldexp,modf..", all_parts, CASES * 5L},
+    {"fmod,fmin,nextafter..", all_of_two, CASES},
+    {"math.h of edges", pairs, EDGES * EDGES},
+    {NULL, NULL, 0},
 };

@@ -10,7 +10,11 @@
 #define ARENA 4096
 #define BLOCKS 64
 
-static struct { unsigned char *memory; size_t size; unsigned char mark; } blocks[BLOCKS];
+static struct {
+    unsigned char *memory;
+    size_t size;
+    unsigned char mark;
+} blocks[BLOCKS];
 
 static int is_whole(int i) {
     for (size_t at = 0; at < blocks[i].size; at++)
@@ -82,7 +86,8 @@ static void free_all(void) {
     gp_free(NULL);
 }
 
-/* What has been freed in whatever order is one block again: nearly all of the arena can be had at once, and not more. */
+/* What has been freed in whatever order is one block again: nearly all of the arena can be had at once, and not
+   more. */
 static void coalesce(void) {
     free_all();
     unsigned char *all = gp_malloc(ARENA - 16);
@@ -96,7 +101,8 @@ static void coalesce(void) {
     SAME(gp_calloc((size_t)-1 / 2, 3) == NULL, 1);
     /* as many small blocks as there is room for, and every second one freed: no larger one fits */
     int count = 0;
-    while (count < BLOCKS && (blocks[count].memory = gp_malloc(ARENA / 80))) mark(count, blocks[count].memory, ARENA / 80), count++;
+    while (count < BLOCKS && (blocks[count].memory = gp_malloc(ARENA / 80)))
+        mark(count, blocks[count].memory, ARENA / 80), count++;
     for (int i = 0; i < count; i += 2) {
         gp_free(blocks[i].memory);
         blocks[i].memory = NULL;
@@ -179,7 +185,9 @@ static void sort(void) {
 }
 
 const struct test memory_tests[] = {
-    {"qsort,bsearch", sort, CASES / 2}, {"malloc at random", heap, CASES * 20L}, {"malloc, full", coalesce, CASES / 100},
+    {"qsort,bsearch", sort, CASES / 2},
+    {"malloc at random", heap, CASES * 20L},
+    {"malloc, full", coalesce, CASES / 100},
 #ifndef OURS
 #ifndef THEIRS
     {"abort,exit,assert", ends, 1},

@@ -7,11 +7,27 @@
 #include <string.h>
 #endif
 
-/* A number's text: blanks, a sign, 0x, digits of some base, and something behind; near the ends of the types now and then. */
+/* A number's text: blanks, a sign, 0x, digits of some base, and something behind; near the ends of the types now and
+   then. */
 static char *number_text(int base) {
-    static const char blanks[] = " \t\n\v\f\r", *const ends[] = {"2147483647", "2147483648", "2147483649", "4294967295", "4294967296",
-        "9223372036854775807", "9223372036854775808", "9223372036854775809", "18446744073709551615", "18446744073709551616",
-        "7fffffff", "80000000", "ffffffff", "100000000", "7fffffffffffffff", "8000000000000000", "ffffffffffffffff", "10000000000000000"};
+    static const char blanks[] = " \t\n\v\f\r", *const ends[] = {"2147483647",
+                                                                 "2147483648",
+                                                                 "2147483649",
+                                                                 "4294967295",
+                                                                 "4294967296",
+                                                                 "9223372036854775807",
+                                                                 "9223372036854775808",
+                                                                 "9223372036854775809",
+                                                                 "18446744073709551615",
+                                                                 "18446744073709551616",
+                                                                 "7fffffff",
+                                                                 "80000000",
+                                                                 "ffffffff",
+                                                                 "100000000",
+                                                                 "7fffffffffffffff",
+                                                                 "8000000000000000",
+                                                                 "ffffffffffffffff",
+                                                                 "10000000000000000"};
     char *text = fresh(64);
     int size = 0, digits = (int)below(below(3) ? 12 : 26), span = base ? base : 16;
     while (below(4) == 0 && size < 6) text[size++] = blanks[below(6)];
@@ -40,7 +56,8 @@ static long long held(long long number, long long least, long long most) {
 }
 
 static unsigned long long unsigned_32(const char *text, char **end, int base) {
-    unsigned long long number = strtoull(text, end, base), magnitude = *end && memchr(text, '-', (size_t)(*end - text)) ? -number : number;
+    unsigned long long number = strtoull(text, end, base),
+                       magnitude = *end && memchr(text, '-', (size_t)(*end - text)) ? -number : number;
     if (errno == ERANGE || magnitude > 0xFFFFFFFF) {
         errno = ERANGE;
         return 0xFFFFFFFF;
@@ -73,7 +90,8 @@ static void text_to_number(void) {
          is_long_64 ? strtol(text, &theirs, base) : held(strtoll(text, &theirs, base), -2147483648LL, 2147483647LL));
     SAME(gp_errno, errno);
     BOTH(gp_errno = 0, errno = 0);
-    SAME((unsigned long long)gp_strtoul(text, &ours, base), is_long_64 ? strtoul(text, &theirs, base) : unsigned_32(text, &theirs, base));
+    SAME((unsigned long long)gp_strtoul(text, &ours, base),
+         is_long_64 ? strtoul(text, &theirs, base) : unsigned_32(text, &theirs, base));
     SAME(gp_errno, errno);
     if (is_base) SAME(ours - text, theirs - text);
     SAME(gp_atoll(text), atoll(text));
@@ -159,7 +177,12 @@ static void arithmetic(void) {
 }
 
 const struct test number_tests[] = {
-    {"strtol,strtoull..", text_to_number, CASES}, {"atoi,atol", small_text, CASES}, {"abs,labs,llabs", magnitudes, CASES},
-    {"rand", random_numbers, CASES}, {"64-bit shifts", shifts, CASES}, {"bits' counts", counts, CASES},
-    {"64-bit arithmetic", arithmetic, CASES}, {NULL, NULL, 0},
+    {"strtol,strtoull..", text_to_number, CASES},
+    {"atoi,atol", small_text, CASES},
+    {"abs,labs,llabs", magnitudes, CASES},
+    {"rand", random_numbers, CASES},
+    {"64-bit shifts", shifts, CASES},
+    {"bits' counts", counts, CASES},
+    {"64-bit arithmetic", arithmetic, CASES},
+    {NULL, NULL, 0},
 };

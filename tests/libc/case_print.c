@@ -12,7 +12,8 @@ static char ours[ROOM], theirs[ROOM];
 
 static size_t kept(int count, size_t room) { return room == 0 ? 0 : (size_t)count < room ? (size_t)count + 1 : room; }
 
-/* Prints into so much room, and compares what came of it. (Each argument is worked out twice: nothing random stands there.) */
+/* Prints into so much room, and compares what came of it. (Each argument is worked out twice: nothing random stands
+   there.) */
 #define PRINT(room, ...) \
     do { \
         int our_count = 0, their_count = 0; \
@@ -106,7 +107,8 @@ static void doubles(void) {
 
 /* All digits that there are, and halves. */
 static void long_doubles(void) {
-    double number = random_double(), sixteenths = below(2000) / 16.0, halves = below(2000) / 2.0, tens = below(100) * 5.0;
+    double number = random_double(), sixteenths = below(2000) / 16.0, halves = below(2000) / 2.0,
+           tens = below(100) * 5.0;
     if (number != number) return;
     PRINT(ROOM, "%.1100f", number);
     PRINT(ROOM, "%.1100e", number);
@@ -117,8 +119,10 @@ static void long_doubles(void) {
 }
 
 static void edges(void) {
-    static const char *const formats[] = {"%e", "%f", "%g", "%a", "%.0e", "%.0f", "%.0g", "%.0a", "%#.0e", "%#.0f", "%#.0g", "%#.0a", "%.17g",
-                                          "%.16e", "%.3f", "%020.3f", "%-20.3g|", "%+.1e", "% .12a", "%.30f", "%#g", "%#.10g", "%.1a", "%25.13a"};
+    static const char *const formats[] = {"%e",     "%f",    "%g",    "%a",      "%.0e",     "%.0f",
+                                          "%.0g",   "%.0a",  "%#.0e", "%#.0f",   "%#.0g",    "%#.0a",
+                                          "%.17g",  "%.16e", "%.3f",  "%020.3f", "%-20.3g|", "%+.1e",
+                                          "% .12a", "%.30f", "%#g",   "%#.10g",  "%.1a",     "%25.13a"};
     PRINT(ROOM, formats[case_number / EDGES], edge((unsigned)(case_number % EDGES)));
 }
 
@@ -147,7 +151,12 @@ static void together(void) {
 }
 
 const struct test print_tests[] = {
-    {"printf of whole", whole, CASES * 5L}, {"printf by arguments", by_arguments, CASES}, {"printf of text", characters, CASES},
-    {"printf of doubles", doubles, CASES * 20L}, {"printf, all digits", long_doubles, CASES / 10}, {"printf of edges", edges, EDGES * 24},
-    {"printf, the rest", together, CASES / 2}, {NULL, NULL, 0},
+    {"printf of whole", whole, CASES * 5L},
+    {"printf by arguments", by_arguments, CASES},
+    {"printf of text", characters, CASES},
+    {"printf of doubles", doubles, CASES * 20L},
+    {"printf, all digits", long_doubles, CASES / 10},
+    {"printf of edges", edges, EDGES * 24},
+    {"printf, the rest", together, CASES / 2},
+    {NULL, NULL, 0},
 };

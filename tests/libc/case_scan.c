@@ -9,19 +9,34 @@
 #define SLOTS 4
 #define ROOM 128
 
-/* What a conversion stores into: H is char, h short, l long, q long long, f float, d double, s text, and - nothing. */
-struct conversion { const char *text; char kind; };
+/* What a conversion stores into: H is char, h short, l long, q long long, f float, d double, s text, and -
+   nothing. */
+struct conversion {
+    const char *text;
+    char kind;
+};
 
 static const struct conversion conversions[] = {
-    {"%d", 'i'}, {"%3d", 'i'}, {"%i", 'i'}, {"%5i", 'i'}, {"%u", 'i'}, {"%x", 'i'}, {"%X", 'i'}, {"%o", 'i'}, {"%4x", 'i'}, {"%hhd", 'H'},
-    {"%hd", 'h'}, {"%hu", 'h'}, {"%ld", 'l'}, {"%lu", 'l'}, {"%lld", 'q'}, {"%llx", 'q'}, {"%jd", 'q'}, {"%s", 's'}, {"%3s", 's'},
-    {"%c", 's'}, {"%4c", 's'}, {"%[abc]", 's'}, {"%[^ ,]", 's'}, {"%5[0-9]", 's'}, {"%[]x]", 's'}, {"%[^]x]", 's'}, {"%[a-]", 's'},
-    {"%*d", '-'}, {"%*s", '-'}, {"%*c", '-'}, {"%*[a-c]", '-'}, {"%f", 'f'}, {"%lf", 'd'}, {"%le", 'd'}, {"%6lg", 'd'}, {"%*f", '-'},
-    {"%n", 'i'}, {"%hhn", 'H'}, {"%%", '-'}, {" ", '-'}, {",", '-'}, {"a", '-'}, {"\n", '-'},
+    {"%d", 'i'},      {"%3d", 'i'},    {"%i", 'i'},    {"%5i", 'i'},    {"%u", 'i'},     {"%x", 'i'},
+    {"%X", 'i'},      {"%o", 'i'},     {"%4x", 'i'},   {"%hhd", 'H'},   {"%hd", 'h'},    {"%hu", 'h'},
+    {"%ld", 'l'},     {"%lu", 'l'},    {"%lld", 'q'},  {"%llx", 'q'},   {"%jd", 'q'},    {"%s", 's'},
+    {"%3s", 's'},     {"%c", 's'},     {"%4c", 's'},   {"%[abc]", 's'}, {"%[^ ,]", 's'}, {"%5[0-9]", 's'},
+    {"%[]x]", 's'},   {"%[^]x]", 's'}, {"%[a-]", 's'}, {"%*d", '-'},    {"%*s", '-'},    {"%*c", '-'},
+    {"%*[a-c]", '-'}, {"%f", 'f'},     {"%lf", 'd'},   {"%le", 'd'},    {"%6lg", 'd'},   {"%*f", '-'},
+    {"%n", 'i'},      {"%hhn", 'H'},   {"%%", '-'},    {" ", '-'},      {",", '-'},      {"a", '-'},
+    {"\n", '-'},
 };
 #define CONVERSIONS (sizeof conversions / sizeof conversions[0])
 
-union slot { char bytes[ROOM]; short h; int i; long l; long long q; float f; double d; };
+union slot {
+    char bytes[ROOM];
+    short h;
+    int i;
+    long l;
+    long long q;
+    float f;
+    double d;
+};
 
 static union slot ours[SLOTS], theirs[SLOTS];
 
@@ -43,11 +58,13 @@ static uint64_t value(const union slot *slot, char kind) {
     }
 }
 
-/* A text of what the conversions may like; numbers that fit in an int, and no 0x without a digit, which libraries read differently. */
+/* A text of what the conversions may like; numbers that fit in an int, and no 0x without a digit, which libraries
+   read differently. */
 static char *scanned_text(void) {
-    static const char *const parts[] = {"12", "-7", "+99", "0", "017", "0x1f", "abc", "ab,c", "x]", " ", "  ", "\t", "\n", ",", "%", "1.5",
-                                        "-0.25e3", "1e-5", ".5", "7.", "0x1.8p2", "inf", "NaN", "infinity", "123456", "cafe", "9,8", "-",
-                                        "12345678901", "a-b", "bcb", "é"};
+    static const char *const parts[] = {"12",      "-7",   "+99", "0",  "017",         "0x1f", "abc", "ab,c",
+                                        "x]",      " ",    "  ",  "\t", "\n",          ",",    "%",   "1.5",
+                                        "-0.25e3", "1e-5", ".5",  "7.", "0x1.8p2",     "inf",  "NaN", "infinity",
+                                        "123456",  "cafe", "9,8", "-",  "12345678901", "a-b",  "bcb", "é"};
     char *text = fresh(ROOM);
     int size = 0;
     for (unsigned i = below(7); i > 0; i--)
@@ -56,8 +73,8 @@ static char *scanned_text(void) {
     return text;
 }
 
-/* What libraries, or the standard and they, see differently is left out: 0x without a digit behind, an exponent without one, and numbers
-   that their type can't hold. */
+/* What libraries, or the standard and they, see differently is left out: 0x without a digit behind, an exponent
+   without one, and numbers that their type can't hold. */
 static int is_clear(const char *text) {
     int digits = 0;
     for (; *text; text++) {
@@ -107,22 +124,27 @@ static void formats(void) {
 
 /* One number of any kind, alone. */
 static void numbers(void) {
-    static const char *const alone[] = {"0x", "0x1.8p2", "inf", "NaN", "infinity", "-Infinity", "1e5", "1.5e-3x", "+.5e+10", "0x1F", "0xg0",
-                                        "2147483647", "-2147483648", "1e400", "4.9e-324", "  12", "", "   ", "x", "+", "-x", "00012", "08"};
+    static const char *const alone[] = {"0x",          "0x1.8p2", "inf",      "NaN",   "infinity", "-Infinity",
+                                        "1e5",         "1.5e-3x", "+.5e+10",  "0x1F",  "0xg0",     "2147483647",
+                                        "-2147483648", "1e400",   "4.9e-324", "  12",  "",         "   ",
+                                        "x",           "+",       "-x",       "00012", "08"};
     static const char *const kinds[] = {"%lf", "%le", "%lg"};
     unsigned which = below(23);
     double our_number = 1, their_number = 1;
     int our_count = 0, their_count = 0;
     if (which == 0 || which == 10) return;
     const char *format = kinds[below(3)];
-    BOTH(our_count = gp_sscanf(alone[which], format, &our_number), their_count = sscanf(alone[which], format, &their_number));
+    BOTH(our_count = gp_sscanf(alone[which], format, &our_number),
+         their_count = sscanf(alone[which], format, &their_number));
     SAME(our_count, their_count);
     SAME(bits(our_number), bits(their_number));
     int our_word = 1, their_word = 1;
     if (which > 12 && which < 15) return;
-    BOTH(our_count = gp___sscanf_whole(alone[which], "%i", &our_word), their_count = sscanf(alone[which], "%i", &their_word));
+    BOTH(our_count = gp___sscanf_whole(alone[which], "%i", &our_word),
+         their_count = sscanf(alone[which], "%i", &their_word));
     SAME(our_count, their_count);
     SAME(our_word, their_word);
 }
 
-const struct test scan_tests[] = {{"scanf", formats, CASES * 5L}, {"scanf of numbers", numbers, CASES}, {NULL, NULL, 0}};
+const struct test scan_tests[] = {
+    {"scanf", formats, CASES * 5L}, {"scanf of numbers", numbers, CASES}, {NULL, NULL, 0}};

@@ -66,7 +66,10 @@ static void from_whole(uint64_t number) {
 
 /* A neighbour of a number, so that much is cancelled. */
 static double near(double a) {
-    union { double number; uint64_t bits; } both = {a};
+    union {
+        double number;
+        uint64_t bits;
+    } both = {a};
     both.bits += below(9) - 4;
     if (below(2)) both.bits ^= 1ULL << 63;
     return both.number;
@@ -84,7 +87,8 @@ static void float_operations(void) {
 static void conversions(void) { convert(random_double()); }
 static void float_conversions(void) { convert_float(random_float()); }
 
-/* The squares of doubles with few bits, and their neighbours: where a root is nearly exact, or nearly in the middle. */
+/* The squares of doubles with few bits, and their neighbours: where a root is nearly exact, or nearly in the
+   middle. */
 static void roots(void) {
     double a = (double)(some_bits(30) >> 11), square = a * a;
     SAME(bits(gp_sqrt(square)), bits(sqrt(square)));
@@ -133,9 +137,14 @@ static void powers(void) {
 }
 
 const struct test soft_tests[] = {
-    {"double operations", operations, CASES * 20L}, {"float operations", float_operations, CASES * 20L},
-    {"double conversions, sqrt", conversions, CASES * 20L}, {"float conversions, sqrtf", float_conversions, CASES * 20L},
-    {"whole to double, float", whole_numbers, CASES * 20L}, {"roots nearly exact", roots, CASES * 10L},
-    {"quotients nearly exact", quotients, CASES * 10L}, {"edges, by pairs", pairs, EDGES * EDGES}, {"powers", powers, CASES},
+    {"double operations", operations, CASES * 20L},
+    {"float operations", float_operations, CASES * 20L},
+    {"double conversions, sqrt", conversions, CASES * 20L},
+    {"float conversions, sqrtf", float_conversions, CASES * 20L},
+    {"whole to double, float", whole_numbers, CASES * 20L},
+    {"roots nearly exact", roots, CASES * 10L},
+    {"quotients nearly exact", quotients, CASES * 10L},
+    {"edges, by pairs", pairs, EDGES * EDGES},
+    {"powers", powers, CASES},
     {NULL, NULL, 0},
 };

@@ -8,11 +8,15 @@
 #include <strings.h>
 #endif
 
-static long at(const void *place, const void *from) { return place ? (long)((const char *)place - (const char *)from) : -1; }
+static long at(const void *place, const void *from) {
+    return place ? (long)((const char *)place - (const char *)from) : -1;
+}
 static int sign(int order) { return (order > 0) - (order < 0); }
 
 /* A byte of a text, or any. */
-static int some_byte(const char *text, size_t size) { return size && below(4) ? text[below((unsigned)size)] : (int)below(256); }
+static int some_byte(const char *text, size_t size) {
+    return size && below(4) ? text[below((unsigned)size)] : (int)below(256);
+}
 
 static size_t size_of(const char *text) {
     size_t size = 0;
@@ -80,7 +84,10 @@ static void compare(void) {
 }
 
 /* Two rooms with the same in them, and what becomes of them. */
-struct rooms { char *ours, *theirs; size_t size; };
+struct rooms {
+    char *ours, *theirs;
+    size_t size;
+};
 
 static struct rooms rooms_of(size_t size) {
     struct rooms rooms = {fresh(size), fresh(size), size};
@@ -88,7 +95,9 @@ static struct rooms rooms_of(size_t size) {
     return rooms;
 }
 
-static void same_rooms(const struct rooms *rooms) { SAME(hash(rooms->ours, rooms->size), hash(rooms->theirs, rooms->size)); }
+static void same_rooms(const struct rooms *rooms) {
+    SAME(hash(rooms->ours, rooms->size), hash(rooms->theirs, rooms->size));
+}
 
 static void copy(void) {
     char *from = random_text(40);
@@ -135,8 +144,10 @@ static void memory(void) {
          at(memmove(rooms.theirs + to, rooms.theirs + begin, part), rooms.theirs));
     same_rooms(&rooms);
     SAME(at(gp_memset(rooms.ours + to, c, part), rooms.ours), at(memset(rooms.theirs + to, c, part), rooms.theirs));
-    SAME(at(gp_memccpy(rooms.ours, from, c, size), rooms.ours), at(memccpy(rooms.theirs, from, c, size), rooms.theirs));
-    SAME(at(gp_mempcpy(rooms.ours + to, from, part), rooms.ours), at(mempcpy(rooms.theirs + to, from, part), rooms.theirs));
+    SAME(at(gp_memccpy(rooms.ours, from, c, size), rooms.ours),
+         at(memccpy(rooms.theirs, from, c, size), rooms.theirs));
+    SAME(at(gp_mempcpy(rooms.ours + to, from, part), rooms.ours),
+         at(mempcpy(rooms.theirs + to, from, part), rooms.theirs));
     same_rooms(&rooms);
     BOTH(gp_bcopy(rooms.ours + begin, rooms.ours + to, part), bcopy(rooms.theirs + begin, rooms.theirs + to, part));
     BOTH(gp_bzero(rooms.ours + begin, part), bzero(rooms.theirs + begin, part));
@@ -152,13 +163,16 @@ static void split(void) {
     BOTH(gp_strcpy(again.ours, text), strcpy(again.theirs, text));
     BOTH(gp_strcpy(once.ours, text), strcpy(once.theirs, text));
     our_rest = again.ours, their_rest = again.theirs;
-    for (int i = 0; i < 8; i++) SAME(at(gp_strsep(&our_rest, set), again.ours), at(strsep(&their_rest, set), again.theirs));
+    for (int i = 0; i < 8; i++)
+        SAME(at(gp_strsep(&our_rest, set), again.ours), at(strsep(&their_rest, set), again.theirs));
     same_rooms(&again);
     for (int i = 0; i < 8; i++)
-        SAME(at(gp_strtok_r(i ? NULL : rooms.ours, set, &ours), rooms.ours), at(strtok_r(i ? NULL : rooms.theirs, set, &theirs), rooms.theirs));
+        SAME(at(gp_strtok_r(i ? NULL : rooms.ours, set, &ours), rooms.ours),
+             at(strtok_r(i ? NULL : rooms.theirs, set, &theirs), rooms.theirs));
     same_rooms(&rooms);
     for (int i = 0; i < 8; i++)
-        SAME(at(gp_strtok(i ? NULL : once.ours, set), once.ours), at(strtok(i ? NULL : once.theirs, set), once.theirs));
+        SAME(at(gp_strtok(i ? NULL : once.ours, set), once.ours),
+             at(strtok(i ? NULL : once.theirs, set), once.theirs));
     same_rooms(&once);
     (void)ours, (void)theirs, (void)our_rest, (void)their_rest;
 }
@@ -178,15 +192,17 @@ static void duplicate(void) {
 static void classes(void) {
     int c = (int)(case_number % 257) - 1, which = (int)(case_number / 257 % 14);
 #ifndef OURS
-    int (*const functions[])(int) = {isalnum, isalpha, isblank, iscntrl, isdigit, isgraph, islower,
+    int (*const functions[])(int) = {isalnum, isalpha, isblank, iscntrl, isdigit,  isgraph, islower,
                                      isprint, ispunct, isspace, isupper, isxdigit, tolower, toupper};
 #endif
     SAME(gp_wrapped_ctype(which, c), which < 12 ? functions[which](c) != 0 : functions[which](c));
 }
 
 static void errors(void) {
-    static const int numbers[] = {0, 1, 2, 4, 5, 6, 7, 9, 11, 12, 13, 14, 16, 17, 19, 20, 21, 22, 23, 24, 27, 28, 29, 30, 32, 33, 34, 36, 38,
-                                  71, 74, 75, 84, 95, 105, 110, 9999, -1, -2147483647 - 1, 2147483647};
+    static const int numbers[] = {0,         1,  2,  4,  5,  6,  7,  9,  11,  12,  13,   14, 16,
+                                  17,        19, 20, 21, 22, 23, 24, 27, 28,  29,  30,   32, 33,
+                                  34,        36, 38, 71, 74, 75, 84, 95, 105, 110, 9999, -1, -2147483647 - 1,
+                                  2147483647};
     int number = numbers[case_number % (long)(sizeof numbers / sizeof numbers[0])];
     SAME(hash(gp_strerror(number), gp_strlen(gp_strerror(number))), hash(strerror(number), strlen(strerror(number))));
     int word = (int)some_bits(63);
@@ -195,8 +211,16 @@ static void errors(void) {
 }
 
 const struct test text_tests[] = {
-    {"memchr,strchr..", find_byte, CASES}, {"strstr,strspn..", find_text, CASES}, {"strlen..", size, CASES},
-    {"strcmp,memcmp..", compare, CASES}, {"strcpy..", copy, CASES}, {"strcat..", append, CASES}, {"memcpy,memmove..", memory, CASES},
-    {"strtok,strsep", split, CASES}, {"strdup", duplicate, CASES / 10}, {"ctype", classes, 257 * 14}, {"strerror,ffs", errors, 400},
+    {"memchr,strchr..", find_byte, CASES},
+    {"strstr,strspn..", find_text, CASES},
+    {"strlen..", size, CASES},
+    {"strcmp,memcmp..", compare, CASES},
+    {"strcpy..", copy, CASES},
+    {"strcat..", append, CASES},
+    {"memcpy,memmove..", memory, CASES},
+    {"strtok,strsep", split, CASES},
+    {"strdup", duplicate, CASES / 10},
+    {"ctype", classes, 257 * 14},
+    {"strerror,ffs", errors, 400},
     {NULL, NULL, 0},
 };

@@ -1,11 +1,12 @@
 #!/usr/bin/env python3
-"""Compares the C library and the floating point runtime of runtime/ with the build machine's: one line a part, status 1 where one differs.
+"""Compares the C library and the floating point runtime of runtime/ with the build machine's.
 
 usage: tests/libc/run.py [--cases N] [--seed N] [PART..]
 
-Every function is called on random and edge arguments beside glibc's in one process, N cases each (100,000 unless said otherwise; 20 N for
-soft float, and for the digits of doubles), and again with the sanitizers; the same cases by a library for SPARC, under qemu's user mode; a
-program of streams is compiled with both libraries. Headers, sizes and costs in instructions are checked, too. What isn't installed is told
+One line a part; status 1 where one differs. Every function is called on random and edge arguments beside glibc's in
+one process, N cases each (100,000 unless said otherwise; 20 N for soft float, and for the digits of doubles), and
+again with the sanitizers; the same cases by a library for SPARC, under qemu's user mode; a program of streams is
+compiled with both libraries. Headers, sizes and costs in instructions are checked, too. What isn't installed is told
 and skipped.
 """
 import argparse
@@ -24,14 +25,14 @@ LIBRARY = sorted((RUNTIME / "libc").glob("*.c"))
 # What compilers call of themselves: it isn't compiled by link-time optimization.
 CALLED = sorted((RUNTIME / "soft").glob("*.c")) + [RUNTIME / "integer.c", RUNTIME / "plug.c"]
 CASES = sorted(HERE.glob("case_*.c"))
-FREESTANDING = ["-std=gnu11", "-ffreestanding", "-fno-strict-aliasing", "-fno-tree-loop-distribute-patterns", "-nostdinc", "-isystem",
-                str(HEADERS), "-Wall", "-Wextra"]
+FREESTANDING = ["-std=gnu11", "-ffreestanding", "-fno-strict-aliasing", "-fno-tree-loop-distribute-patterns",
+                "-nostdinc", "-isystem", str(HEADERS), "-Wall", "-Wextra"]
 NATIVE = ["gcc", "-O2", "-g"]
 SPARC = ["sparc64-linux-gnu-gcc", "-O2", "-g", "-m32", "-mcpu=v8", "-msoft-float", "-fno-pic", "-fno-pie", "-fwrapv"]
 QEMU = "qemu-sparc32plus"
 # What ./cc passes on, as far as it changes what is counted.
-AS_CC = ["-mno-app-regs", "-ffixed-o7", "-fno-delayed-branch", "-fno-jump-tables", "-fno-optimize-sibling-calls", "-fno-common",
-         "-fno-ipa-icf", "-fno-ipa-ra", "-fno-stack-protector"]
+AS_CC = ["-mno-app-regs", "-ffixed-o7", "-fno-delayed-branch", "-fno-jump-tables", "-fno-optimize-sibling-calls",
+         "-fno-common", "-fno-ipa-icf", "-fno-ipa-ra", "-fno-stack-protector"]
 # A block of 4,096 bytes is full soon.
 SMALL_ARENA = "-DGEYSERPAN_ARENA=4096"
 REFUSED = ("time unistd fenv complex tgmath threads pthread stdatomic wchar wctype uchar fcntl").split()
@@ -78,7 +79,8 @@ def renamed(prefix, objects, folder, *linker):
     joined, names, made = folder / "joined", folder / "names", folder / "renamed"
     call([f"{prefix}ld", *linker, "-r", "-o", joined, *objects])
     symbols = [line.split()[2] for line in call([f"{prefix}nm", "-g", "--defined-only", joined]).decode().splitlines()]
-    names.write_text("".join(f"{name} gp_{name}\n" for name in symbols if not name.startswith("__asan") and not name.startswith("__odr")))
+    ours = [name for name in symbols if not name.startswith(("__asan", "__odr"))]
+    names.write_text("".join(f"{name} gp_{name}\n" for name in ours))
     call([f"{prefix}objcopy", f"--redefine-syms={names}", joined, made])
     return made, names
 
@@ -91,8 +93,9 @@ def native_library(folder, *flags):
 def beside(folder, cases, seed, library, *flags):
     """The program that runs the cases with glibc in it."""
     made = folder / "beside"
-    call([*NATIVE, "-std=gnu11", "-Wall", "-Wextra", "-Wno-unused", "-D_GNU_SOURCE", "-fno-builtin", "-ffp-contract=off", f"-DCASES={cases}",
-          f"-DSEED={seed}", *flags, "-o", made, HERE / "beside.c", *CASES, f"-Wl,{library}", "-lm"])
+    call([*NATIVE, "-std=gnu11", "-Wall", "-Wextra", "-Wno-unused", "-D_GNU_SOURCE", "-fno-builtin",
+          "-ffp-contract=off", f"-DCASES={cases}", f"-DSEED={seed}", *flags, "-o", made, HERE / "beside.c", *CASES,
+          f"-Wl,{library}", "-lm"])
     return made
 
 
@@ -117,7 +120,8 @@ def run_native(work, cases, seed):
 
 
 def run_sanitized(work, cases, seed):
-    folder, flags = work / "sanitized", ["-fsanitize=address,undefined", "-fno-sanitize-recover=undefined", "-fno-omit-frame-pointer"]
+    folder = work / "sanitized"
+    flags = ["-fsanitize=address,undefined", "-fno-sanitize-recover=undefined", "-fno-omit-frame-pointer"]
     cases = max(cases // 20, 100)
     library, _ = native_library(folder, "-O1", *flags)
     done = subprocess.run([beside(folder, cases, seed, library, *flags)], capture_output=True, check=False)
@@ -134,8 +138,8 @@ def run_cross(work, cases, seed):
     library, _ = renamed("sparc64-linux-gnu-", objects, folder, "-m", "elf32_sparc")
     called = compiled(SPARC, CALLED, folder / "called", "-I", HERE)
     ours = folder / "ours"
-    call([*SPARC, *FREESTANDING, "-Wno-unused", "-I", HERE, "-DOURS", f"-DCASES={cases}", f"-DSEED={seed}", "-nostdlib", "-static", "-o", ours,
-          HERE / "start.c", HERE / "beside.c", *CASES, f"-Wl,{library}", *called])
+    call([*SPARC, *FREESTANDING, "-Wno-unused", "-I", HERE, "-DOURS", f"-DCASES={cases}", f"-DSEED={seed}",
+          "-nostdlib", "-static", "-o", ours, HERE / "start.c", HERE / "beside.c", *CASES, f"-Wl,{library}", *called])
     native, _ = native_library(work / "native")
     theirs = beside(work / "native", cases, seed, native, "-DTHEIRS")
     told, expected = call([QEMU, ours]).decode().splitlines(), call([theirs]).decode().splitlines()
@@ -144,7 +148,8 @@ def run_cross(work, cases, seed):
     wrong = [f"{one} | {other}" for one, other in zip(told, expected) if one != other]
     if wrong:
         raise Differs("\n".join(wrong))
-    return f"{len(told)} tests, {sum(int(line.rsplit(' ', 2)[1]) for line in told):,} cases: qemu's results are the same as glibc's"
+    count = sum(int(line.rsplit(" ", 2)[1]) for line in told)
+    return f"{len(told)} tests, {count:,} cases: qemu's results are the same as glibc's"
 
 
 def stream_inputs(count, seed):
@@ -154,11 +159,13 @@ def stream_inputs(count, seed):
         how = i % 9
         size = chance.choice((0, 1, 5, 30, 200, 3000))
         if how in (5, 7):
-            parts = [b"12", b"-7", b"+9", b" ", b"\n", b"x", b"1.5", b"-2e3", b"0.1", b".", b"123456789", b"  ", b"3.25e-5", b"\t"]
+            parts = [b"12", b"-7", b"+9", b" ", b"\n", b"x", b"1.5", b"-2e3", b"0.1", b".", b"123456789", b"  ",
+                     b"3.25e-5", b"\t"]
         elif how == 6:
             parts = [b"abc", b"12", b"zz", b" ", b"\n", b"Q", b"9", b"longword", b"-4"]
         else:
-            parts = [bytes([byte]) for byte in range(256)] if chance.random() < 0.3 else [b"a", b"bc", b"\n", b",", b"x ", b"\0"]
+            few, all_bytes = [b"a", b"bc", b"\n", b",", b"x ", b"\0"], [bytes([byte]) for byte in range(256)]
+            parts = all_bytes if chance.random() < 0.3 else few
         data = b"".join(chance.choice(parts) for _ in range(size))
         if how == 7:  # (what libraries read differently: an exponent without digits, two points)
             data = re.sub(rb"[eE](?![-+]?\d)|\.(?=[-+.])", b" ", data)
@@ -186,8 +193,8 @@ def run_streams(work, cases, seed):
     if shutil.which(SPARC[0]) and shutil.which(QEMU):
         cross = folder / "cross_streams"
         objects = compiled(SPARC, LIBRARY + CALLED, folder / "streams_library", "-I", HERE)
-        call([*SPARC, *FREESTANDING, "-w", "-I", HERE, "-nostdlib", "-static", "-o", cross, HERE / "start.c", HERE / "services_cross.c",
-              HERE / "streams.c", *objects])
+        call([*SPARC, *FREESTANDING, "-w", "-I", HERE, "-nostdlib", "-static", "-o", cross, HERE / "start.c",
+              HERE / "services_cross.c", HERE / "streams.c", *objects])
         programs.append([QEMU, cross])
     runs = 0
     for data in stream_inputs(max(cases // 100, 45), seed):
@@ -202,21 +209,24 @@ def run_streams(work, cases, seed):
 
 
 def refused_line(words, name):
-    done = subprocess.run([*words, "-x", "c", "-"], input=f"#include <{name}.h>\n".encode(), capture_output=True, check=False)
+    text = f"#include <{name}.h>\n"
+    done = subprocess.run([*words, "-x", "c", "-"], input=text.encode(), capture_output=True, check=False)
     errors = [line for line in done.stderr.decode().splitlines() if ": error: " in line]
     if done.returncode == 0 or len(errors) != 1 or f"<{name}.h> is not here: " not in errors[0]:
         raise Differs(f"{name}.h isn't refused by one line: {done.stderr.decode()[:300]}")
 
 
 def run_headers(work, cases, seed):
-    """Each header by itself and twice, by each compiler that is there, in C and C++; plug.h before and behind; the refused ones."""
-    compilers = [["gcc", "-std=c89", "-O2"], ["gcc", "-std=c99", "-pedantic", "-O2"], ["gcc", "-std=c11", "-O2"], ["g++", "-std=c++17", "-O2"], ["clang", "-std=c11"],
+    """Each header by itself and twice, by each compiler that is there; plug.h before and behind; the refused ones."""
+    compilers = [["gcc", "-std=c89", "-O2"], ["gcc", "-std=c99", "-pedantic", "-O2"], ["gcc", "-std=c11", "-O2"],
+                 ["g++", "-std=c++17", "-O2"], ["clang", "-std=c11"],
                  [SPARC[0], "-m32", "-mcpu=v8", "-msoft-float", "-std=gnu11", "-O2"],
                  ["clang", "--target=sparc-linux-gnu", "-msoft-float", "-std=gnu11", "-O2"]]
     here = [compiler for compiler in compilers if shutil.which(compiler[0])]
-    names = [str(path.relative_to(HEADERS)) for path in sorted(HEADERS.rglob("*.h")) if path.stem not in REFUSED and path.stem != "whole"]
-    common = ["-ffreestanding", "-nostdinc", "-isystem", HEADERS, "-Wall", "-Wextra", "-Werror", "-Wsystem-headers", "-Wno-unused-function",
-              "-fsyntax-only"]
+    paths = [path for path in sorted(HEADERS.rglob("*.h")) if path.stem not in [*REFUSED, "whole"]]
+    names = [str(path.relative_to(HEADERS)) for path in paths]
+    common = ["-ffreestanding", "-nostdinc", "-isystem", HEADERS, "-Wall", "-Wextra", "-Werror", "-Wsystem-headers",
+              "-Wno-unused-function", "-fsyntax-only"]
     count = 0
     for compiler in here:
         language = ["-x", "c++" if compiler[0] == "g++" else "c", "-"]
@@ -225,8 +235,9 @@ def run_headers(work, cases, seed):
         for text in texts:
             call([*compiler, *common, *language], input=text.encode())
             count += 1
-    plug = "int main(void) { char a[4]; memcpy(a, \"abc\", 4); put(a[0]); put((int)strlen(a)); return get(); }\n"
-    for text in ('#include "plug.h"\n#include <string.h>\n', '#include <string.h>\n#include "plug.h"\n', '#include "plug.h"\n'):
+    plug = 'int main(void) { char a[4]; memcpy(a, "abc", 4); put(a[0]); put((int)strlen(a)); return get(); }\n'
+    own, string = '#include "plug.h"\n', "#include <string.h>\n"
+    for text in (own + string, string + own, own):
         if shutil.which(SPARC[0]):
             call([SPARC[0], "-m32", "-mcpu=v8", "-I", RUNTIME, *common, "-x", "c", "-"], input=(text + plug).encode())
             count += 1
@@ -249,8 +260,8 @@ def linked(work, source, name, entry, *flags):
     path.write_text(source)
     call([*as_cc, "-flto", "-c", "-o", folder / f"{name}.o", path])
     made = folder / name
-    call([*as_cc, "-flto", "-flto-partition=one", "-nostdlib", "-static", f"-Wl,-e,{entry}", "-save-temps", "-o", made, folder / f"{name}.o",
-          *sorted(kinds.glob("*.o"))], cwd=folder)
+    call([*as_cc, "-flto", "-flto-partition=one", "-nostdlib", "-static", f"-Wl,-e,{entry}", "-save-temps", "-o", made,
+          folder / f"{name}.o", *sorted(kinds.glob("*.o"))], cwd=folder)
     (assembly,) = folder.glob(f"{name}.ltrans0.ltrans.s")
     return assembly.read_text(), made
 
@@ -266,21 +277,35 @@ def words_of(assembly):
     return len(re.findall(r"^\s+[a-z]", assembly, re.M))
 
 
+WHOLE = [
+    'printf("%d\\n", 5);',
+    'printf("value: %-5d, %s, %c%%, %#llx of %u\\n", 1, "a", 98, 5LL, 7u);',
+    'printf("Hello\\n");',
+    'char t[9]; snprintf(t, 9, "%*.*d", 3, 2, 1); fprintf(stdout, "%s", t);',
+    'int n; scanf("%d %*[^f]", &n); sscanf("1", "%i", &n);',
+]
+DOUBLES = [
+    'printf("%5.2f\\n", 1.5);',
+    'extern const char *f; printf(f, 1.5);',
+    'double x; scanf("%lf", &x);',
+    'printf("%d %Lg", 1, 2.0L);',
+]
+CODE_OF_DOUBLES = {"__print_double", "__scan_double", "__print_any", "__scan_any", "strtod", "decimal_of"}
+
+
 def run_whole(work, cases, seed):
     """A program that prints and reads no doubles has no code for them; one that does has."""
     need(SPARC[0])
-    whole = ['printf("%d\\n", 5);', 'printf("value: %-5d, %s, %c%%, %#llx of %u\\n", 1, "a", 98, 5LL, 7u);', 'printf("Hello\\n");',
-             'char t[9]; snprintf(t, 9, "%*.*d", 3, 2, 1); fprintf(stdout, "%s", t);', 'int n; scanf("%d %*[^f]", &n); sscanf("1", "%i", &n);']
-    doubles = ['printf("%5.2f\\n", 1.5);', 'extern const char *f; printf(f, 1.5);', 'double x; scanf("%lf", &x);', 'printf("%d %Lg", 1, 2.0L);']
-    promised = "#define GEYSERPAN_NO_DOUBLES\n"
+    programs = [("", statement) for statement in WHOLE + DOUBLES] + [("#define GEYSERPAN_NO_DOUBLES\n", DOUBLES[1])]
     for flag in ("-O1", "-O2", "-Os"):
-        for i, (begin, statement) in enumerate([("", statement) for statement in whole + doubles] + [(promised, doubles[1])]):
+        for i, (begin, statement) in enumerate(programs):
             source = begin + HELLO % statement + 'const char *f = "%f";\n'
-            there = functions(linked(work, source, f"whole{i}", "main", flag)[0])
-            has_doubles = bool(there & {"__print_double", "__scan_double", "__print_any", "__scan_any", "strtod", "decimal_of"})
-            if has_doubles != (statement in doubles and not begin):
+            assembly, _ = linked(work, source, f"whole{i}", "main", flag)
+            has_doubles = bool(functions(assembly) & CODE_OF_DOUBLES)
+            if has_doubles != (statement in DOUBLES and not begin):
                 raise Differs(f"{flag}: {begin}{statement} {'has' if has_doubles else 'lacks'} the code of doubles")
-    return f"{3 * len(whole) + 3} programs without doubles have no code for them, {3 * len(doubles)} with doubles have"
+    return (f"{3 * len(WHOLE) + 3} programs without doubles have no code for them, "
+            f"{3 * len(DOUBLES)} with doubles have")
 
 
 COUNTED = """#include <math.h>
@@ -299,10 +324,12 @@ int main(void) { for (volatile int n = 0; n < %d; n++) { %s; } return 0; }
 void _start(void) { quit(main()); }
 """
 STATEMENTS = {
-    'printf("%d\\n")': 'printf("%d\\n", i)', "strlen, 100": "k = (int)strlen(text)", "memcpy, 100": "memcpy(to, text, 100)",
-    "memset, 100": "memset(to, 1, 100)", "add": "z = x + y", "sub": "z = x - y", "mul": "z = x * y", "div": "z = x / y", "sqrt": "z = sqrt(x)",
-    "<": "k = x < y", "int to double": "z = i", "double to int": "k = (int)x", "float add": "h = f + g", "float mul": "h = f * g",
-    "float div": "h = f / g", 'printf("%.3f\\n")': 'printf("%.3f\\n", x)', 'printf("%g\\n")': 'printf("%g\\n", x)',
+    'printf("%d\\n")': 'printf("%d\\n", i)', "strlen, 100": "k = (int)strlen(text)",
+    "memcpy, 100": "memcpy(to, text, 100)", "memset, 100": "memset(to, 1, 100)",
+    "add": "z = x + y", "sub": "z = x - y", "mul": "z = x * y", "div": "z = x / y", "sqrt": "z = sqrt(x)",
+    "<": "k = x < y", "int to double": "z = i", "double to int": "k = (int)x",
+    "float add": "h = f + g", "float mul": "h = f * g", "float div": "h = f / g",
+    'printf("%.3f\\n")': 'printf("%.3f\\n", x)', 'printf("%g\\n")': 'printf("%g\\n", x)',
     'printf("%lld\\n")': 'printf("%lld\\n", l)', 'strtod("3.14159")': 'z = strtod("3.14159", 0)',
 }
 
@@ -311,7 +338,8 @@ def instructions(work, statement):
     """How many instructions a round of a loop with the statement takes, counted by qemu one by one."""
     counts = []
     for rounds in (10, 20):
-        source = COUNTED.replace("%s", "0123456789" * 10, 1).replace("%d", str(rounds), 1).replace("%s;", statement + ";", 1)
+        source = COUNTED.replace("%s", "0123456789" * 10, 1).replace("%d", str(rounds), 1)
+        source = source.replace("%s;", statement + ";", 1)
         _, program = linked(work, source, "counted", "_start", "-O2")
         log = work / "linked" / "log"
         call([QEMU, "-singlestep", "-d", "nochain,exec", "-D", log, program])
@@ -328,11 +356,12 @@ def run_cost(work, cases, seed):
     counts = {name: instructions(work, statement) - empty for name, statement in STATEMENTS.items()}
     if words >= MOST_WORDS or not 0 < counts['printf("%d\\n")'] < MOST_INSTRUCTIONS:
         raise Differs(f"{words} words, {counts} instructions")
-    return f"{words} words for printf of whole numbers; instructions: " + ", ".join(f"{name} {count}" for name, count in counts.items())
+    told = ", ".join(f"{name} {count}" for name, count in counts.items())
+    return f"{words} words for printf of whole numbers; instructions: {told}"
 
 
-PARTS = {"headers": run_headers, "native": run_native, "sanitized": run_sanitized, "cross": run_cross, "streams": run_streams,
-         "whole": run_whole, "cost": run_cost}
+PARTS = {"headers": run_headers, "native": run_native, "sanitized": run_sanitized, "cross": run_cross,
+         "streams": run_streams, "whole": run_whole, "cost": run_cost}
 
 
 def main():

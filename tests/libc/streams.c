@@ -1,5 +1,5 @@
-/* A program that reads and prints in each way that stdio.h has, by what its input says: compiled with each library, and its output
-   compared. */
+/* A program that reads and prints in each way that stdio.h has, by what its input says: compiled with each library,
+   and its output compared. */
 #include <errno.h>
 #include <stdio.h>
 #include <stdlib.h>

@@ -1,14 +1,16 @@
 /* Of stdio.h: a program that prints and reads no doubles has no code for them.
 
-   Each function of printf's and scanf's kind is there twice: under the standard's name, for everything, and as __NAME_whole, without the
-   conversions of doubles (%a, %e, %f, %g). The functions below have the standard's names and become a part of their callers. Where the
-   compiler knows the format, which it does of a string in the call, it finds while it compiles whether a double may be converted, by
-   plain functions of strings that it works out; and what is left is a call of the one or of the other. A format that it doesn't know, or
-   one of more than 16 conversions, is left to the function for everything, as are calls through pointers, and all calls by -O0.
+   Each function of printf's and scanf's kind is there twice: under the standard's name, for everything, and as
+   __NAME_whole, without the conversions of doubles (%a, %e, %f, %g). The functions below have the standard's names
+   and become a part of their callers. Where the compiler knows the format, which it does of a string in the call, it
+   finds while it compiles whether a double may be converted, by plain functions of strings that it works out; and
+   what is left is a call of the one or of the other. A format that it doesn't know, or one of more than 16
+   conversions, is left to the function for everything, as are calls through pointers, and all calls by -O0.
 
-   So the whole is right without this file, and no weak symbol, section or linker has a part in it: what is called decides, in one file, in
-   several that are compiled into one assembly (-flto, -fwhole-program), or where unreached functions are left out later. vprintf and kin
-   have formats that aren't known, as a rule. GEYSERPAN_NO_DOUBLES says that there is none in any: such a conversion ends the run then. */
+   So the whole is right without this file, and no weak symbol, section or linker has a part in it: what is called
+   decides, in one file, in several that are compiled into one assembly (-flto, -fwhole-program), or where unreached
+   functions are left out later. vprintf and kin have formats that aren't known, as a rule. GEYSERPAN_NO_DOUBLES says
+   that there is none in any: such a conversion ends the run then. */
 #ifndef GEYSERPAN_WHOLE_H
 #define GEYSERPAN_WHOLE_H
 
@@ -67,15 +69,18 @@ int __vsscanf_any(const char *, const char *, va_list) __asm__("vsscanf");
 
 #define __INLINE extern __inline __attribute__((__always_inline__, __gnu_inline__, __artificial__))
 
-/* On to the letter of the next conversion, which is of doubles, or may be; and behind it. A long double counts as one. */
+/* On to the letter of the next conversion, which is of doubles, or may be; and behind it. A long double counts as
+   one. */
 #define __STEP \
     __at += __builtin_strcspn(__at, "%"); \
     __at += *__at != 0; \
     __at += __builtin_strspn(__at, "-+ #'0123456789.*hljztq"); \
-    __doubles |= *__at == 'a' || *__at == 'A' || *__at == 'L' || (*__at >= 'E' && *__at <= 'G') || (*__at >= 'e' && *__at <= 'g'); \
+    __doubles |= *__at == 'a' || *__at == 'A' || *__at == 'L'; \
+    __doubles |= (*__at >= 'E' && *__at <= 'G') || (*__at >= 'e' && *__at <= 'g'); \
     __at += *__at != 0;
 
-/* Whether a format may convert a double. In a set of scanf's (%[..]) a sign of a conversion counts as one, which is on the safe side. */
+/* Whether a format may convert a double. In a set of scanf's (%[..]) a sign of a conversion counts as one, which is
+   on the safe side. */
 __INLINE int __converts_doubles(const char *__at) {
     int __doubles = 0;
     __STEP __STEP __STEP __STEP __STEP __STEP __STEP __STEP
