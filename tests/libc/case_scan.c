@@ -76,12 +76,13 @@ static char *scanned_text(void) {
 /* What libraries, or the standard and they, see differently is left out: 0x without a digit behind, an exponent
    without one, and numbers that their type can't hold. */
 static int is_clear(const char *text) {
-    int digits = 0;
+    int digits = 0, hex_digits = 0;
     for (; *text; text++) {
         char next = text[1] ? text[1] : ' ';
-        int is_digit = *text >= '0' && *text <= '9';
+        int is_digit = *text >= '0' && *text <= '9', is_hex = is_digit || ((*text | 32) >= 'a' && (*text | 32) <= 'f');
         digits = is_digit ? digits + 1 : 0;
-        if (digits > 9) return 0;
+        hex_digits = is_hex ? hex_digits + 1 : 0;
+        if (digits > 9 || hex_digits > 8) return 0;
         if (is_digit && (next | 32) == 'x') return 0;
         if ((is_digit || *text == '.') && ((next | 32) == 'e' || (next | 32) == 'p')) return 0;
         if ((*text | 32) == 'i' || (*text | 32) == 'n') return 0;
