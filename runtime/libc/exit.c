@@ -9,10 +9,21 @@
 
 static void (*functions[MOST])(void);
 static unsigned count;
+/* None as long as atexit hasn't been called: a program that doesn't call it has no call through a pointer for it. */
+static void (*run_functions)(void);
+
+/* (a function may tell atexit of further ones, which run next) */
+static void run_all(void) {
+    while (count > 0) {
+        count--;
+        functions[count]();
+    }
+}
 
 int atexit(void (*function)(void)) {
     if (count == MOST) return -1;
     functions[count++] = function;
+    run_functions = run_all;
     return 0;
 }
 
@@ -21,12 +32,8 @@ void _Exit(int status) {
     __builtin_unreachable();
 }
 
-/* (a function may tell atexit of further ones, which run next) */
 void exit(int status) {
-    while (count > 0) {
-        count--;
-        functions[count]();
-    }
+    if (run_functions) run_functions();
     _Exit(status);
 }
 

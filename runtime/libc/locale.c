@@ -12,9 +12,9 @@ char *setlocale(int category, const char *name) {
 struct lconv *localeconv(void) {
     static char point[] = ".", none[] = "";
     static struct lconv c_locale = {
-        point, none, none, none, none, none, none, none, none, none,
-        CHAR_MAX, CHAR_MAX, CHAR_MAX, CHAR_MAX, CHAR_MAX, CHAR_MAX, CHAR_MAX,
-        CHAR_MAX, CHAR_MAX, CHAR_MAX, CHAR_MAX, CHAR_MAX, CHAR_MAX, CHAR_MAX,
+        point,    none,     none,     none,     none,     none,     none,     none,
+        none,     none,     CHAR_MAX, CHAR_MAX, CHAR_MAX, CHAR_MAX, CHAR_MAX, CHAR_MAX,
+        CHAR_MAX, CHAR_MAX, CHAR_MAX, CHAR_MAX, CHAR_MAX, CHAR_MAX, CHAR_MAX, CHAR_MAX,
     };
     return &c_locale;
 }

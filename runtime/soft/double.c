@@ -2,6 +2,8 @@
    sign, comparisons. */
 #include "soft.h"
 
+u64 __soft_shifted(u64 number, int by) { return shifted(number, by); }
+
 /* Where one of two numbers is infinite or none: their sum; a's magnitude isn't the lesser. */
 static double special_sum(u64 a, u64 b) {
     if (is_nan(a) || (magnitude_of(b) == INFINITE && a != b)) return double_of(NO_NUMBER);

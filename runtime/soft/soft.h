@@ -82,6 +82,9 @@ static inline u64 shifted(u64 number, int by) {
     return number >> by | (number << (64 - by) != 0);
 }
 
+/* The same as a function of its own, for results that are subnormal: these are rare, and many places round. */
+u64 __soft_shifted(u64 number, int by);
+
 static inline u32 float_shifted(u32 number, int by) {
     if (by > 31) return number != 0;
     return number >> by | (number << (32 - by) != 0);
@@ -93,7 +96,7 @@ static inline u32 float_shifted(u32 number, int by) {
 static inline double rounded(u64 sign, int exponent, u64 significand) {
     if (exponent >= 2047) return double_of(sign | INFINITE);
     if (exponent < 1) {
-        significand = shifted(significand, 1 - exponent);
+        significand = __soft_shifted(significand, 1 - exponent);
         exponent = 1;
     }
     significand += 0x1FF + ((u32)significand >> 10 & 1);
@@ -118,7 +121,7 @@ static inline u64 normalized(u64 bits, int *exponent) {
     u64 significand = fraction_of(bits);
     *exponent = exponent_of(bits);
     if (*exponent) return significand | HIDDEN;
-    int up = zeros_above_64(significand) - 11;
+    int up = __builtin_clzll(significand) - 11; /* (a call, which is rare) */
     *exponent = 1 - up;
     return significand << up;
 }
@@ -127,7 +130,7 @@ static inline u32 float_normalized(u32 bits, int *exponent) {
     u32 significand = bits & (FLOAT_HIDDEN - 1);
     *exponent = float_exponent_of(bits);
     if (*exponent) return significand | FLOAT_HIDDEN;
-    int up = zeros_above(significand) - 8;
+    int up = __builtin_clz(significand) - 8;
     *exponent = 1 - up;
     return significand << up;
 }
