@@ -1,15 +1,12 @@
 #!/usr/bin/env python3
-"""Compares the C library and the floating point runtime of runtime/ with the build machine's.
+"""usage: tests/libc/run.py [--cases N] [--seed N] [PART..]
 
-usage: tests/libc/run.py [--cases N] [--seed N] [PART..]
-
-One line a part; status 1 where one differs. Every function is called on random and edge arguments beside glibc's in
-one process, N cases each (100,000 unless said otherwise; 20 N for soft float, and for the digits of doubles), and
-again with the sanitizers; the same cases by a library for SPARC, under qemu's user mode; a program of streams is
-compiled with both libraries. Headers, sizes and costs in instructions are checked, too. What isn't installed is told
-and skipped.
+Compares the C library and the floating point runtime of runtime/ with the build machine's: every function is called
+on random and edge arguments beside glibc's in one process, N cases each (100,000 unless said otherwise; 20 N for soft
+float, and for the digits of doubles), and again with the sanitizers; the same cases by a library for SPARC, under
+qemu's user mode; a program of streams is compiled with both libraries. Headers, sizes and costs in instructions are
+checked, too. One line a part; status 1 where one differs. What isn't installed is told and skipped.
 """
-import argparse
 import random
 import re
 import shutil
@@ -18,7 +15,12 @@ import sys
 import tempfile
 from pathlib import Path
 
+sys.dont_write_bytecode = True
+
 HERE = Path(__file__).resolve().parent
+sys.path.insert(0, f"{HERE.parent}/lib")
+from tally import Tally, Words
+
 RUNTIME = HERE.parent.parent / "runtime"
 HEADERS = RUNTIME / "include"
 LIBRARY = sorted((RUNTIME / "libc").glob("*.c"))
@@ -364,27 +366,26 @@ PARTS = {"headers": run_headers, "native": run_native, "sanitized": run_sanitize
          "streams": run_streams, "whole": run_whole, "cost": run_cost}
 
 
-def main():
-    parser = argparse.ArgumentParser(description=__doc__, formatter_class=argparse.RawDescriptionHelpFormatter)
-    parser.add_argument("--cases", type=int, default=100_000, help="cases a function")
-    parser.add_argument("--seed", type=int, default=1, help="another seed gives other cases")
-    parser.add_argument("parts", nargs="*", metavar="PART", help=f"of {', '.join(PARTS)}: all where none is named")
-    words = parser.parse_args()
-    unknown = [part for part in words.parts if part not in PARTS]
-    if unknown or words.cases < 1:
-        parser.error(f"no part of that name: {', '.join(unknown)}" if unknown else "at least one case")
-    failed = False
-    for part in words.parts or PARTS:
+def main(words):
+    reader = Words(__doc__)
+    reader.add_argument("--cases", type=int, default=100_000)
+    reader.add_argument("--seed", type=int, default=1)
+    reader.add_names("parts", PARTS)
+    asked = reader.parse_args(words)
+    if asked.cases < 1:
+        reader.error("at least one case")
+    tally = Tally("libc")
+    for part in asked.parts or PARTS:
         with tempfile.TemporaryDirectory() as work:
             try:
-                print(f"{part}: {PARTS[part](Path(work), words.cases, words.seed)}", flush=True)
+                print(f"{part}: {PARTS[part](Path(work), asked.cases, asked.seed)}", flush=True)
+                tally.passes(1)
             except Lacks as lack:
-                print(f"{part}: skipped: {lack} isn't installed", flush=True)
+                tally.skip(part, lack)
             except Differs as difference:
-                failed = True
-                print(f"{part}: DIFFERS: {difference}", flush=True)
-    return int(failed)
+                tally.check(part, False, str(difference))
+    return tally.end()
 
 
 if __name__ == "__main__":
-    sys.exit(main())
+    sys.exit(main(sys.argv[1:]))
