@@ -62,16 +62,18 @@ enum geyserpan_status {
                                 rest of the report is that of the run */
     GEYSERPAN_ENDED = 8,     /* of step: the run has ended, what was written is all of its output, and done->exit is its exit word; a
                                 further step answers the same again, with nothing read or written (only tested) */
-    GEYSERPAN_WANTS = 9,     /* of step: the whole piece is read, and the program waits for more */
-    GEYSERPAN_FULL = 10,     /* of step: the room is full, and there is more to put out */
-    GEYSERPAN_PAUSED = 11,   /* of step: so many turns as were asked for are made */
+    GEYSERPAN_WANTS = 9,     /* of step: the whole piece is read, it wasn't the last, and a byte is asked for: the board has failed for
+                                want of one; of the engine's step, the program's next turn takes one */
+    GEYSERPAN_FULL = 10,     /* of step: the room is full, and the program has put a byte out that isn't written, or puts it out next */
+    GEYSERPAN_PAUSED = 11,   /* of step: all turns that were asked for are made; of the engine's, made or put by */
     GEYSERPAN_HANDLE = 12,   /* the handle of an image holds none, or that of a run holds no run; nothing is written, and of step and
                                 facts_of not `done` and `facts` either */
     GEYSERPAN_SOURCE = 13,   /* the source has a fault: why->number is the cause, 1 to 4 of X1 to X4, 5 to 9 of S1 to S5, 10 to 13 of A1
                                 to A4, and why->address the line */
     GEYSERPAN_OUTPUT = 14,   /* the output is longer than the terms grant. Of run_image and once, which make the run to its end and then
-                                compare: report as with ROOM. Of step, which stops there: what is granted was written, and a further
-                                step answers the same with nothing read or written (only tested; into a room of 0 bytes: FULL) */
+                                compare: report as with ROOM. Of step, which stops there: what is granted was written, and there is a
+                                byte more as with FULL; a further step answers the same with nothing read or written (only tested;
+                                into a room of 0 bytes: FULL) */
     GEYSERPAN_LOST = 15      /* of step: the board has done what no turn does: it has read what nobody gave it, or has ended without an
                                 exit. What was written so far is the image's all the same, but the library can't vouch for the run any
                                 more: begin again, or end. It has never been seen */
@@ -188,7 +190,8 @@ uint32_t geyserpan_restart(geyserpan_run *run, geyserpan_image *image);
    ENDED, WANTS, FULL, PAUSED, OUTPUT, LOST, each with done; or HANDLE. Pieces and rooms have any size, 0 too: what is put out
    depends on the bytes alone. What was written so far is a front of the image's output on the bytes read so far, with each status, and
    with ENDED all of it; it is never more than the terms grant that the image was opened on. Behind what is written the room stays as it
-   was. Where the input has ended, later pieces aren't read (only tested). It takes no memory. */
+   was. It makes no turn more than it is allowed, and the turns of the run are never more than its budget; with ENDED they are those of
+   `once` on 8 windows. Where the input has ended, later pieces aren't read (only tested). It takes no memory. */
 uint32_t geyserpan_step(geyserpan_run *run, uint64_t turns, const uint8_t *input, size_t input_length, uint32_t last, uint8_t *room,
                         size_t room_length, geyserpan_done *done);
 

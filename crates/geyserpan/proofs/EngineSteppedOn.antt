@@ -23,9 +23,9 @@ pub engine_stepped_on : (old new : EngineRun) (most : ℕ) (input before after f
     → (status ≡ WANTS → step.stand ≡ Wants)
     → (status ≡ FULL → (step.stand ≡ Full) × (length front ≡ length before))
     → (status ≡ OUTPUT → (step.stand ≡ Full) × (length front ≡ old.granted))
-    → (status ≡ PAUSED → step.stand ≡ Paused) → (status ≡ LOST → step.stand ≡ Lost)
+    → (status ≡ PAUSED → step.stand ≡ Paused) → (status ≡ LOST → step.stand ≡ Lost) → (status ≢ ENDED → done.exit ≡ 0) → done.zero ≡ 0
     → GoesOn old new most input last before after done status
-engine_stepped_on old new most input before after front front_after rest last step done status is was now long read written ended held turns few left wants full cut paused lost =
+engine_stepped_on old new most input before after front front_after rest last step done status is was now long read written ended held turns few left wants full cut paused lost exit zero =
     let takes : take done.written after ≡ take step.written front_after =
     ap (λ (k : ℕ). take k after) written ∙ ap (λ (l : List ℕ). take step.written l) now ∙ written_same front front_after rest step.written is.written long in
     let reads : take done.read input ≡ take step.read input = ap (λ (k : ℕ). take k input) read in record {
@@ -49,20 +49,22 @@ engine_stepped_on old new most input before after front front_after rest last st
       turns = turns;
       most = is.turns;
       paused = λ found. is.paused (paused found);
+      exit = exit;
+      zero = zero;
       granted = (let fits = is.written in omega (arith, fits, long, few, left, written));
-      wants = λ waits. (let at = stands Wants (wants waits) in (read ∙ at.0, at.1));
+      wants = λ waits. (let at = stands Wants (wants waits) in (read ∙ at.0, at.1, at.2));
       full = λ filled.
           (let (stand, whole) = full filled in
-          let at = stands Full stand in
+          let (at, more) = stands Full stand in
           let was_long : length before ≡ length front + length rest = ap (λ (l : List ℕ). length l) was ∙ length-append {A = ℕ} front rest in
           let now_long : length after ≡ length front_after + length rest = ap (λ (l : List ℕ). length l) now ∙ length-append {A = ℕ} front_after rest in
-          omega (arith, written, at, whole, was_long, now_long, long));
-      output = λ ends. (let (stand, whole) = cut ends in let at = stands Full stand in omega (arith, at, whole, left, long));
+          (omega (arith, written, at, whole, was_long, now_long, long), more));
+      output = λ ends. (let (stand, whole) = cut ends in let (at, more) = stands Full stand in (omega (arith, at, whole, left, long), more));
       met = is.met;
     }
   where
-    stands : (stand : FlatStand) → step.stand ≡ stand → StandsSo stand input last front_after step.read step.written
-    stands stand same = subst (λ (s : FlatStand). StandsSo s input last front_after step.read step.written) same is.stands
+    stands : (stand : FlatStand) → step.stand ≡ stand → StandsSo stand new.paced.course input last front_after step.read step.written
+    stands stand same = subst (λ (s : FlatStand). StandsSo s new.paced.course input last front_after step.read step.written) same is.stands
 
 one_run : (a b : EngineRun) → Some a ≡ Some b → a ≡ b
 one_run a b is = cc

@@ -17,6 +17,7 @@ pub record Tells (finished : FlatFinished) (report : Report) : Type 0 where
   pub output : report.output ≡ length finished.output.items
   pub referenced : report.referenced ≡ 0 ∷ 0 ∷ 0 ∷ []
   pub modified : report.modified ≡ 0 ∷ 0 ∷ 0 ∷ []
+  pub zero : report.zero ≡ 0
 
 -- The report is of the image's run on this input, with the counts of its path on so many windows.
 abbrev pub HasReport : Parts → ℕ → List ℕ → Report → Type 0

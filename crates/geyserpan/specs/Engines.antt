@@ -1,9 +1,10 @@
 -- What the handle of a run in pieces on the engine holds, and what a step does to it.
-use Rattle.std.specs.Prelude.{ℕ, ◌≡◌, ◌≢◌, ◌+◌, ◌≤◌, ◌^◌, ◌==◌, Bool, not, false, List, [], ◌++◌, drop, length, take}
+use Rattle.std.specs.Prelude.{ℕ, ◌≡◌, ◌≢◌, ◌+◌, ◌≤◌, ◌==◌, Bool, not, false, List, ◌++◌, drop, length, take}
 use Rattle.std.specs.Prelude.{Some}
 use Rattle.sbx_image.specs.Parts.{Parts}
 use Rattle.sbx_flat.specs.Runs.{budget}
 use Rattle.engine_runs.specs.Going.{IsAllOf, IsFrontOf}
+use Rattle.engine_runs.specs.Halts.{PutsNext, TakesNext}
 use Rattle.engine_runs.specs.Steps.{Goes, IsBegun, allowed, turns_of}
 use Rattle.geyserpan.specs.declared.engine_slot.EngineRun.{EngineRun}
 use Rattle.geyserpan.specs.declared.engine_slot.EngineSlot.{EngineSlot}
@@ -36,13 +37,14 @@ pub record GoesOn (old new : EngineRun) (asked : ℕ) (input : List ℕ) (last :
   pub held : status ≢ HANDLE
   pub turns : done.turns ≡ turns_of new.paced.course
   pub most : allowed new.paced ≤ allowed old.paced + asked
-  pub paused : status ≡ PAUSED → asked ≤ 2 ^ 40 → (parts : Parts) (n : ℕ) (so_far all : List ℕ) →
-      Goes parts n so_far all old.paced
+  pub paused : status ≡ PAUSED → (parts : Parts) (n : ℕ) (so_far all : List ℕ) → Goes parts n so_far all old.paced
       → allowed new.paced ≡ allowed old.paced + asked
+  pub exit : status ≢ ENDED → done.exit ≡ 0
+  pub zero : done.zero ≡ 0
   pub granted : done.written + new.granted ≡ old.granted
-  pub wants : status ≡ WANTS → (done.read ≡ length input) × (last ≡ false)
-  pub full : status ≡ FULL → done.written ≡ length after
-  pub output : status ≡ OUTPUT → new.granted ≡ 0
+  pub wants : status ≡ WANTS → (done.read ≡ length input) × (last ≡ false) × TakesNext new.paced.course
+  pub full : status ≡ FULL → (done.written ≡ length after) × PutsNext new.paced.course
+  pub output : status ≡ OUTPUT → (new.granted ≡ 0) × PutsNext new.paced.course
   pub met : last ≡ false → new.paced.met ≡ old.paced.met
 
 -- whether a caller's word says that the piece is the last

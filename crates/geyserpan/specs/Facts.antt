@@ -1,5 +1,5 @@
 -- What is told of an image.
-use Rattle.std.specs.Prelude.{◌≡◌, ℕ, List, length, slice_get, Option, Some, None}
+use Rattle.std.specs.Prelude.{◌≡◌, ℕ, length, slice_get, Option, Some, None}
 use Rattle.sbx_image.specs.Parts.{Parts}
 use Rattle.sbx_image.specs.Function.{Function}
 use Rattle.sbx_image.specs.Regions.{byte_count}
@@ -24,3 +24,4 @@ pub record HasFacts (parts : Parts) (facts : Facts) : Type 0 where
   pub stack_is : facts.stack_pages ≡ parts.stack_pages
   pub functions_are : facts.functions ≡ length parts.functions
   pub depth_is : facts.depth ≡ depth_of parts
+  pub zero_is : facts.zero ≡ 0

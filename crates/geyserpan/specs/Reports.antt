@@ -17,6 +17,7 @@ pub record Tells (finished : Finished) (report : Report) : Type 0 where
   pub output : report.output ≡ length finished.output.items
   pub referenced : report.referenced ≡ finished.pages.referenced
   pub modified : report.modified ≡ finished.pages.modified
+  pub zero : report.zero ≡ 0
 
 -- The room begins with the output, and goes on as it was.
 abbrev pub Hands : List ℕ → List ℕ → List ℕ → Type 0

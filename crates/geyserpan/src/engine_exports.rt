@@ -44,6 +44,7 @@ pub extern "C" fn geyserpan_engine_begin(
     ensures begun { result ≡ OK → BeginsOf image.old.value engine.new.value }
     ensures stays { result ≢ OK → engine.new.value ≡ engine.old.value }
     ensures image { image.new.value ≡ image.old.value }
+    ensures empty { result ≡ HANDLE → image.old.value.kept ≡ None }
 {
     match &image.lent().kept {
         Some(kept) => engine.lent().begin(alloc, kept),
@@ -97,6 +98,7 @@ pub extern "C" fn geyserpan_engine_run(
         HasReportOf handle.old.value input.now report.new × (length room.old < report.new.output) }
     ensures untold { result ≢ OK → result ≢ ROOM → result ≢ OUTPUT → report.new ≡ report.old }
     ensures empty { handle.old.value.kept ≡ None → result ≡ HANDLE }
+    ensures holds { result ≡ HANDLE → handle.old.value.kept ≡ None }
     ensures kept { handle.new.value ≡ handle.old.value }
 {
     match &handle.lent().kept {

@@ -4,7 +4,7 @@ ghost use Rattle.geyserpan.specs.EngineReports.{HasReport, HasRun, Tells};
 
 use crate::room::hand_on;
 use crate::running::Report;
-use crate::statuses::{MEMORY, OK, OUTPUT, ROOM, WINDOWS};
+use crate::statuses::{HANDLE, MEMORY, OK, OUTPUT, ROOM, WINDOWS};
 use crate::terms::{LEAST_WINDOWS, Terms};
 use engine_runs::{FlatFinished, run_flat};
 use sbx_run::Accepted;
@@ -43,6 +43,7 @@ pub fn run_engine_into(
         × (terms.now.output < report.new.output) }
     ensures small { result ≡ ROOM → HasReport accepted.now terms.now.windows input.now report.new
         × (length room.old < report.new.output) }
+    ensures holds { result ≢ HANDLE }
 {
     if terms.windows < LEAST_WINDOWS {
         return WINDOWS;

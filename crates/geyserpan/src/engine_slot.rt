@@ -29,6 +29,7 @@ fn status_of(stand: FlatStand, most: usize, room: usize) -> (u32, u32)
     ensures cut { result.0 ≡ OUTPUT → (stand ≡ FlatStand.Full) × (most < room) }
     ensures paused { result.0 ≡ PAUSED → stand ≡ FlatStand.Paused }
     ensures lost { result.0 ≡ LOST → stand ≡ FlatStand.Lost }
+    ensures exit { result.0 ≢ ENDED → result.1 ≡ 0 }
     ensures holds { result.0 ≢ HANDLE }
 {
     match stand {
@@ -79,6 +80,7 @@ impl EngineSlot {
     pub fn begin(&mut self, alloc: Global, kept: &Kept) -> u32
         ensures begun { result ≡ OK → Begins kept.now self.new }
         ensures stays { result ≢ OK → self.new ≡ self.old }
+        ensures holds { result ≢ HANDLE }
     {
         if kept.terms.windows < LEAST_WINDOWS {
             return WINDOWS;

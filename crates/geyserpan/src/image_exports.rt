@@ -32,6 +32,7 @@ pub extern "C" fn geyserpan_check(
     ensures denied { (terms : Terms) → IsDenial image.now terms result why.new }
     ensures untold { result ≢ OK → facts.new ≡ facts.old }
     ensures unsaid { result ≢ NO_IMAGE → result ≢ REFUSED → why.new ≡ why.old }
+    ensures holds { result ≢ HANDLE }
 {
     match judge(alloc, image) {
         Ok(accepted) => {
@@ -61,6 +62,7 @@ pub extern "C" fn geyserpan_once(
     ensures denied { IsDenial image.now terms.now result why.new }
     ensures untold { result ≢ OK → result ≢ ROOM → result ≢ OUTPUT → report.new ≡ report.old }
     ensures unsaid { result ≢ NO_IMAGE → result ≢ REFUSED → why.new ≡ why.old }
+    ensures holds { result ≢ HANDLE }
 {
     match admit(alloc, image, terms) {
         Ok(accepted) => run_into(alloc, &accepted, terms, input, room, report),
@@ -103,6 +105,7 @@ pub extern "C" fn geyserpan_open(
     ensures stays { result ≢ OK → handle.new.value ≡ handle.old.value }
     ensures denied { IsDenial image.now terms.now result why.new }
     ensures unsaid { result ≢ NO_IMAGE → result ≢ REFUSED → why.new ≡ why.old }
+    ensures holds { result ≢ HANDLE }
 {
     match admit(alloc, image, terms) {
         Ok(accepted) => {
@@ -148,6 +151,7 @@ pub extern "C" fn geyserpan_run_image(
         HasReportOf handle.old.value input.now report.new × (length room.old < report.new.output) }
     ensures untold { result ≢ OK → result ≢ ROOM → result ≢ OUTPUT → report.new ≡ report.old }
     ensures empty { handle.old.value.kept ≡ None → result ≡ HANDLE }
+    ensures holds { result ≡ HANDLE → handle.old.value.kept ≡ None }
     ensures kept { handle.new.value ≡ handle.old.value }
 {
     match &handle.lent().kept {

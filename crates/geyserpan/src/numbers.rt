@@ -4,7 +4,9 @@ ghost use Rattle.geyserpan.specs.Denials.{Explains, IsDenial, fault_number};
 ghost use Rattle.geyserpan.specs.declared.terms.Terms.{Terms};
 
 use crate::admitting::Denial;
-use crate::statuses::{MEMORY, NO_IMAGE, OK, OUTPUT, REFUSED, ROOM, SERVICES, TURNS, WINDOWS};
+use crate::statuses::{
+    HANDLE, MEMORY, NO_IMAGE, OK, OUTPUT, REFUSED, ROOM, SERVICES, TURNS, WINDOWS,
+};
 use crate::terms::{Terms, Why};
 use sbx_image::ImageFault;
 
@@ -38,6 +40,7 @@ pub fn tell(denial: Denial, why: &mut Why) -> u32
     ensures denies { result ≢ OK }
     ensures fits { result ≢ ROOM }
     ensures grants { result ≢ OUTPUT }
+    ensures holds { result ≢ HANDLE }
 {
     match denial {
         Denial::Image(fault) => {

@@ -2,7 +2,7 @@
 ghost use Rattle.std.specs.Prelude.{◌≡◌, ◌≢◌, ◌++◌, ◌<◌, ◌≤◌, drop, length, true, false};
 ghost use Rattle.geyserpan.specs.Reports.{Hands, IsHandStatus};
 
-use crate::statuses::{OK, OUTPUT, ROOM};
+use crate::statuses::{HANDLE, OK, OUTPUT, ROOM};
 
 /// Writes bytes to the front of a room, if they fit; what is behind them stays. Else nothing is written.
 pub fn put_front(room: &mut [u8], bytes: &[u8]) -> bool
@@ -25,6 +25,7 @@ pub fn hand_on(output: &[u8], most: u64, room: &mut [u8]) -> u32
     ensures longer { result ≡ OUTPUT → most < length output.now }
     ensures small { result ≡ ROOM → length room.old < length output.now }
     ensures one { IsHandStatus result }
+    ensures holds { result ≢ HANDLE }
 {
     if most < output.len() as u64 {
         return OUTPUT;

@@ -1,11 +1,11 @@
 //! The calls of runs in pieces.
 ghost use Rattle.std.specs.Prelude.{◌≡◌, ◌≢◌, None};
-ghost use Rattle.geyserpan.specs.Runs.{BeginsOf, StepsSo, met_of};
+ghost use Rattle.geyserpan.specs.Runs.{BeginsOf, IsForOthers, IsLacking, StepsSo, met_of};
 
 use crate::image_handle::ImageHandle;
 use crate::run_handle::RunHandle;
 use crate::run_slot::{Done, RunSlot};
-use crate::statuses::{HANDLE, MEMORY, OK};
+use crate::statuses::{HANDLE, MEMORY, OK, WINDOWS};
 use std::alloc::Global;
 
 /// Makes the handle of a run, which holds none.
@@ -39,6 +39,8 @@ pub extern "C" fn geyserpan_begin(
     ensures begun { result ≡ OK → BeginsOf image.old.value run.new.value }
     ensures stays { result ≢ OK → run.new.value ≡ run.old.value }
     ensures image { image.new.value ≡ image.old.value }
+    ensures windows { result ≡ WINDOWS → IsForOthers image.old.value }
+    ensures empty { result ≡ HANDLE → image.old.value.kept ≡ None }
 {
     match &image.lent().kept {
         Some(kept) => run.lent().begin(alloc, kept),
@@ -52,6 +54,8 @@ pub extern "C" fn geyserpan_restart(run: &mut RunHandle, image: &mut ImageHandle
     ensures begun { result ≡ OK → BeginsOf image.old.value run.new.value }
     ensures stays { result ≢ OK → run.new.value ≡ run.old.value }
     ensures image { image.new.value ≡ image.old.value }
+    ensures windows { result ≡ WINDOWS → IsForOthers image.old.value }
+    ensures empty { result ≡ HANDLE → IsLacking image.old.value run.old.value }
 {
     match &image.lent().kept {
         Some(kept) => run.lent().restart(kept),
@@ -70,7 +74,7 @@ pub extern "C" fn geyserpan_step(
     room: &mut [u8],
     done: &mut Done,
 ) -> u32
-    ensures steps { StepsSo run.old.value run.new.value input.now room.old room.new done.new result }
+    ensures steps { StepsSo run.old.value run.new.value turns input.now last room.old room.new done.new result }
     ensures empty { result ≡ HANDLE → (done.new ≡ done.old) × (run.new.value ≡ run.old.value) }
     ensures met { last ≡ 0 → met_of run.new.value ≡ met_of run.old.value }
 {

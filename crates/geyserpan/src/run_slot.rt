@@ -1,5 +1,5 @@
 //! What the handle of a run in pieces holds.
-ghost use Rattle.std.specs.Prelude.{◌≡◌, ◌≢◌, ◌<◌, ◌≤◌, false};
+ghost use Rattle.std.specs.Prelude.{◌≡◌, ◌≢◌, ◌<◌, ◌≤◌, false, None};
 ghost use Rattle.sbx_session.specs.Steps.{IsVouched};
 
 use crate::image_slot::Kept;
@@ -42,6 +42,8 @@ fn status_of(stand: Stand, most: usize, room: usize) -> (u32, u32)
     ensures wants { result.0 ≡ WANTS → stand ≡ Stand.Wants }
     ensures full { result.0 ≡ FULL → (stand ≡ Stand.Full) × (room ≤ most) }
     ensures cut { result.0 ≡ OUTPUT → (stand ≡ Stand.Full) × (most < room) }
+    ensures paused { result.0 ≡ PAUSED → stand ≡ Stand.Paused }
+    ensures exit { result.0 ≢ ENDED → result.1 ≡ 0 }
     ensures holds { result.0 ≢ HANDLE }
 {
     match stand {
@@ -65,7 +67,7 @@ impl Going {
         room: &mut [u8],
         done: &mut Done,
     ) -> u32
-        ensures goes { IsGoingOn self.old self.new input.now room.old room.new done.new result }
+        ensures goes { IsGoingOn self.old self.new turns input.now last room.old room.new done.new result }
         ensures met { last ≡ false → self.new.session.met ≡ self.old.session.met }
     {
         let most = room.len().min(self.granted as usize);
@@ -92,6 +94,8 @@ impl RunSlot {
     pub fn begin(&mut self, alloc: Global, kept: &Kept) -> u32
         ensures begun { result ≡ OK → Begins kept.now self.new }
         ensures stays { result ≢ OK → self.new ≡ self.old }
+        ensures windows { result ≡ WINDOWS → kept.now.terms.windows ≢ 8 }
+        ensures holds { result ≢ HANDLE }
     {
         if self.going.is_some() {
             return self.restart(kept);
@@ -115,6 +119,8 @@ impl RunSlot {
     pub fn restart(&mut self, kept: &Kept) -> u32
         ensures begun { result ≡ OK → Begins kept.now self.new }
         ensures stays { result ≢ OK → self.new ≡ self.old }
+        ensures windows { result ≡ WINDOWS → kept.now.terms.windows ≢ 8 }
+        ensures empty { result ≡ HANDLE → self.old.going ≡ None }
     {
         if kept.terms.windows != RUN_WINDOWS {
             return WINDOWS;

@@ -6,7 +6,7 @@ ghost use Rattle.geyserpan.specs.declared.terms.Terms.{Terms};
 ghost use Rattle.geyserpan.specs.declared.terms.Why.{Why};
 
 use crate::room::hand_on;
-use crate::statuses::{MEMORY, OK, OUTPUT, ROOM, WINDOWS};
+use crate::statuses::{HANDLE, MEMORY, OK, OUTPUT, ROOM, WINDOWS};
 use crate::terms::{Terms, Why};
 use sbx_run::{Accepted, Finished, run_windows};
 use std::alloc::Global;
@@ -59,6 +59,7 @@ pub fn run_into(
         × (terms.now.output < report.new.output) }
     ensures small { result ≡ ROOM → HasReport accepted.now terms.now.windows input.now report.new
         × (length room.old < report.new.output) }
+    ensures holds { result ≢ HANDLE }
     ensures denies_not { HasWindows terms.now → (bytes : List ℕ) → (of : Terms) → (why : Why) →
         IsDenial bytes of result why }
 {

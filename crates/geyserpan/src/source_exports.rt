@@ -3,7 +3,7 @@ ghost use Rattle.std.specs.Prelude.{◌≡◌, ◌≢◌};
 ghost use Rattle.geyserpan.specs.Sources.{HasFault, HasImage, NeedsMore, TellsCause, cause_number};
 
 use crate::room::put_front;
-use crate::statuses::{MEMORY, OK, ROOM, SOURCE};
+use crate::statuses::{HANDLE, MEMORY, OK, ROOM, SOURCE};
 use crate::terms::Why;
 use sbx_asm::{AsmFault, Cause, assemble};
 use sbx_image::write;
@@ -38,6 +38,7 @@ fn tell_fault(fault: AsmFault, why: &mut Why) -> u32
     ensures told { result ≡ SOURCE → TellsCause fault why.new }
     ensures faults { result ≢ OK }
     ensures roomy { result ≢ ROOM }
+    ensures holds { result ≢ HANDLE }
     ensures stays { result ≢ SOURCE → why.new ≡ why.old }
 {
     let number = cause_number(fault.cause);
@@ -67,6 +68,7 @@ pub extern "C" fn geyserpan_assemble(
     ensures fault { result ≡ SOURCE → HasFault source.now why.new }
     ensures unneeded { result ≢ OK → result ≢ ROOM → needed.new ≡ needed.old }
     ensures unsaid { result ≢ SOURCE → why.new ≡ why.old }
+    ensures holds { result ≢ HANDLE }
 {
     match assemble(alloc, source) {
         Ok(image) => match write(&image, alloc) {

@@ -18,11 +18,11 @@ pub const TURNS: u32 = 6;
 pub const ROOM: u32 = 7;
 /// A run in pieces has ended.
 pub const ENDED: u32 = 8;
-/// It has read the whole piece, and waits for more.
+/// The whole piece is read, more has to come, and a byte is asked for.
 pub const WANTS: u32 = 9;
 /// The room is full, and there is more to put out.
 pub const FULL: u32 = 10;
-/// As many turns as were allowed are made.
+/// As many turns as were allowed are made, or put by.
 pub const PAUSED: u32 = 11;
 /// The handle holds no image, no run or no board.
 pub const HANDLE: u32 = 12;

@@ -1,2 +1,3 @@
 pub mod UnderWay
+pub mod Counts
 pub mod Stepping

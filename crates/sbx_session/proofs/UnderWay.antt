@@ -10,9 +10,9 @@ use Rattle.v8_loaded.specs.Board.{Device}
 use Rattle.v8_loaded.specs.Layout.{Pages}
 use Rattle.v8_loaded.specs.States.{IsState}
 use Rattle.v8_board.specs.Contained.{Contents, IsContained}
+use Rattle.v8_board.specs.declared.outcome.Counts.{Counts}
 use Rattle.v8_board.specs.declared.outcome.Ending.{Ending}
 use Rattle.v8_board.specs.declared.outcome.Ending.TheVariants.{Exit}
-use Rattle.v8_board.specs.declared.outcome.Outcome.{Outcome}
 use Rattle.v8_board.specs.Contains.{Contains, Keeps}
 use Rattle.v8_board.specs.Runs.{IsRun, Turns, state_after, ending_or_limit, outcome_of}
 use Rattle.v8_board.specs.Seen.{State, ending_by, ending_of, turned}
@@ -20,7 +20,6 @@ use Rattle.v8_board.specs.Start.{IsStart, contents_of, pages_of}
 use Rattle.v8_board.proofs.Running.{Counted, one_turn_more}
 use Rattle.sbx_image.specs.Parts.{Parts}
 use Rattle.sbx_flat.specs.Runs.{AreBytes, Behaves, FlatSafe, budget}
-use Rattle.sbx_flat.specs.declared.path.Place.{Place}
 use Rattle.sbx_port.specs.Following.{Fine, FollowsOn, beyond, with_input, with_output}
 use Rattle.sbx_port.specs.Ports.{mark, unknown}
 use Rattle.sbx_port.specs.Streams.{IsSlice, RunsAs, StandsBeside}
@@ -192,7 +191,7 @@ module _ (n : ℕ) (parts : Parts) (read written : List ℕ) (left : ℕ) (met :
       let l = goes.loaded in
       record { cpu = l.cpu; ram = l.ram; device = ap (λ (d : Device). record d { input = input }) l.device; mmu = l.mmu; root = l.root; counts = l.counts }
 
-  exits_so : (input : List ℕ) → AreBytes input → (end : State n) → IsRun n (budget parts) (with_input goes.start input) end
+  pub exits_so : (input : List ℕ) → AreBytes input → (end : State n) → IsRun n (budget parts) (with_input goes.start input) end
       → ExitsAsFlat n parts input [] (with_input goes.start input) end
   exits_so input bytes end run =
       let st = goes.state in
@@ -217,14 +216,18 @@ module _ (n : ℕ) (parts : Parts) (read written : List ℕ) (left : ℕ) (met :
       ap (λ (st : Option Stop). ending_by st s.world.cpu.control.tt s.world.cpu.control.error) b.stopped
       ∙ ap (λ (c : Cpu n). ending_by t.world.memory.device.stopped c.control.tt c.control.error) b.cpu
 
-  ending_told : (t : State n) → (outcome_of n t).ending ≡ ending_or_limit (ending_of n t.world)
+  pub ending_told : (t : State n) → (outcome_of n t).ending ≡ ending_or_limit (ending_of n t.world)
   unfolding outcome_of
   ending_told t = refl
+
+  turns_told : (t : State n) → (outcome_of n t).turns ≡ t.counts.turns
+  unfolding outcome_of
+  turns_told t = refl
 
   one_exit : (v w : ℕ) → Exit v ≡ Exit w → v ≡ w
   one_exit v w is = cc
 
-  pub all_of : (word : ℕ) → ending_of n s.world ≡ Some (Exit word) → s.world.memory.device.output ≡ [] → IsAllOf parts read met written word
+  pub all_of : (word : ℕ) → ending_of n s.world ≡ Some (Exit word) → s.world.memory.device.output ≡ [] → IsAllOf parts n read met written word s.counts.turns
   all_of word ended empty = λ j more.
       let (k, tracks, within, all) = goes.way in
       let (end, run, beside) = runs_as n k (budget parts) goes.start read met written s tracks empty (omega arith) (λ none. absurd (some_none (sym ended ∙ none))) j in
@@ -234,6 +237,7 @@ module _ (n : ℕ) (parts : Parts) (read written : List ℕ) (left : ℕ) (met :
         so.flat.path,
         subst (λ (st : ℕ). Behaves parts (read ++ beyond met j) written st so.flat.path) is
             (subst (λ (o : List ℕ). Behaves parts (read ++ beyond met j) o so.status so.flat.path) (sym so.put_out ∙ beside.output) so.flat.behaves),
+        ap (λ (c : Counts). c.turns) beside.counts ∙ sym (turns_told end) ∙ so.flat.turns,
       )
     where
       some_none : Some (Exit word) ≡ None → ⊥

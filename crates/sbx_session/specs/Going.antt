@@ -2,6 +2,7 @@
 use Rattle.std.specs.Prelude.{ℕ, ◌≡◌, ◌+◌, ◌≤◌, Bool, true, false, List, [], ◌++◌, None}
 use Rattle.sbx_image.specs.Parts.{Parts}
 use Rattle.sbx_flat.specs.Runs.{AreBytes, Behaves, FlatSafe, budget}
+use Rattle.sbx_flat.specs.Traffic.{traffic}
 use Rattle.sbx_flat.specs.declared.path.Place.{Place}
 use Rattle.v8_loaded.specs.States.{IsState}
 use Rattle.v8_board.specs.Contains.{Contains}
@@ -23,11 +24,12 @@ IsFrontOf parts read met written =
     (rest : List ℕ) × (status : ℕ) × (path : List Place)
     × Behaves parts (read ++ beyond met j) (written ++ rest) status path
 
--- On every such input it is all of the output, and this is the exit word.
-abbrev pub IsAllOf : Parts → List ℕ → Bool → List ℕ → ℕ → Type 0
-IsAllOf parts read met written status =
+-- On every such input it is all of the output, this is the exit word, and these are the turns of its path on n windows.
+abbrev pub IsAllOf : Parts → ℕ → List ℕ → Bool → List ℕ → ℕ → ℕ → Type 0
+IsAllOf parts n read met written status turns =
     (j : List ℕ) → AreBytes (beyond met j) →
     (path : List Place) × Behaves parts (read ++ beyond met j) written status path
+    × (turns ≡ (traffic parts n path).turns)
 
 -- ---- where the board stands
 

@@ -12,7 +12,7 @@ use v8_board::Board;
 pub enum Stand {
     /// The run has ended with this exit word.
     Ended(u32),
-    /// All of the piece is read, and the program waits for more.
+    /// All of the piece is read, more has to come, and the board has failed for want of a byte.
     Wants,
     /// The room is full, and there is a byte more to put out.
     Full,
@@ -40,13 +40,12 @@ pub struct Session<const N: usize> {
 }
 
 impl<const N: usize> Session<N> {
-    ghost use Rattle.std.specs.Prelude.{◌≡◌, ◌<◌, ◌≤◌, ◌-◌, ◌++◌, ℕ, List, [], drop, length, take, true, false, IfOk};
+    ghost use Rattle.std.specs.Prelude.{◌≡◌, ◌<◌, ◌≤◌, ◌+◌, ◌-◌, ◌++◌, ℕ, List, [], drop, length, take, true, false, IfOk};
     ghost use Rattle.std.specs.Prelude.{IfSome, IsNone, None};
     ghost use Rattle.v8_board.specs.Seen.{ending_of};
     ghost use Rattle.sbx_image.specs.Parts.{Parts};
-    ghost use Rattle.sbx_port.specs.Ports.{unknown};
     ghost use Rattle.sbx_session.specs.Going.{Goes, IsBegun};
-    ghost use Rattle.sbx_session.specs.Steps.{EndsAs, IsStep};
+    ghost use Rattle.sbx_session.specs.Steps.{AsksByte, EndsAs, HasByte, IsStep, turns_of};
 
     /// Begins a run of an accepted image on a new board.
     pub fn new(alloc: Global, accepted: &Accepted) -> Result<Self, AllocError>
@@ -85,23 +84,27 @@ impl<const N: usize> Session<N> {
     }
 
     /// Takes what was put out to the room behind the bytes that were written, and tells how many there are then; None
-    /// where the room is full.
-    fn deliver(&mut self, room: &mut [u8], written: usize) -> Option<usize>
-        requires { written ≤ length room.old }
+    /// where the room is full. Where a byte is lacking nothing was put out.
+    fn deliver(&mut self, lacks: bool, room: &mut [u8], written: usize) -> Option<usize>
+        requires within { written ≤ length room.old }
+        requires asks { lacks ≡ true → AsksByte N self.old.board }
         ensures goes { IfSome result (λ now. (parts : Parts) → (read all : List ℕ) →
             Goes N parts read (all ++ take written room.old) self.old →
             Goes N parts read (all ++ take now room.new) self.new) }
         ensures within { IfSome result (λ now. now ≤ length room.new) }
         ensures behind { IfSome result (λ now. drop now room.new ≡ drop now room.old) }
         ensures more { IfSome result (λ now. written ≤ now) }
-        ensures served { IfSome result (λ now. (self.new.board.failed ≡ 0)
+        ensures served { IfSome result (λ now. (lacks ≡ false → self.new.board.failed ≡ 0)
             × (self.new.board.state.world.memory.device.output ≡ [])) }
-        ensures same { IfSome result (λ now. (self.new.left ≡ self.old.left)
-            × (self.new.board.state.world.memory.device.input ≡ self.old.board.state.world.memory.device.input)) }
+        ensures asks { IfSome result (λ now. lacks ≡ true → AsksByte N self.new.board) }
+        ensures same { IfSome result (λ now. (self.new.left ≡ self.old.left) × (turns_of self.new ≡ turns_of self.old)) }
         ensures kept { IsNone result → (self.new ≡ self.old) × (room.new ≡ room.old) }
-        ensures full { IsNone result → written ≡ length room.old }
+        ensures full { IsNone result → (written ≡ length room.old) × HasByte N self.old.board }
         ensures met { self.new.met ≡ self.old.met }
     {
+        if lacks {
+            return Some(written);
+        }
         deliver(&mut self.board, room, written)
     }
 
@@ -109,19 +112,22 @@ impl<const N: usize> Session<N> {
     /// last one, and tells how many bytes of the piece are read then; None where more has to come.
     fn feed(&mut self, lacks: bool, input: &[u8], read: usize, last: bool) -> Option<usize>
         requires within { read ≤ length input.now }
-        requires waits { lacks ≡ true → self.old.board.state.world.memory.device.input ≡ unknown }
+        requires asks { lacks ≡ true → AsksByte N self.old.board }
         requires empty { self.old.board.state.world.memory.device.output ≡ [] }
-        requires served { self.old.board.failed ≡ 0 }
+        requires served { lacks ≡ false → self.old.board.failed ≡ 0 }
         ensures goes { IfSome result (λ now. (parts : Parts) → (all written : List ℕ) →
             Goes N parts (all ++ take read input.now) written self.old →
             Goes N parts (all ++ take now input.now) written self.new) }
         ensures within { IfSome result (λ now. now ≤ length input.now) }
+        ensures more { IfSome result (λ now. read ≤ now) }
+        ensures told { IfSome result (λ now. lacks ≡ true → now ≤ read →
+            self.new.board.state.world.memory.device.input ≡ []) }
         ensures served { IfSome result (λ now. (self.new.board.failed ≡ 0)
             × (self.new.board.state.world.memory.device.output ≡ [])) }
-        ensures same { IfSome result (λ now. self.new.left ≡ self.old.left) }
+        ensures same { IfSome result (λ now. (self.new.left ≡ self.old.left) × (turns_of self.new ≡ turns_of self.old)) }
         ensures met { last ≡ false → self.new.met ≡ self.old.met }
         ensures kept { IsNone result → self.new ≡ self.old }
-        ensures wants { IsNone result → (read ≡ length input.now) × (last ≡ false) }
+        ensures wants { IsNone result → (read ≡ length input.now) × (last ≡ false) × AsksByte N self.old.board }
     {
         if !lacks {
             return Some(read);
@@ -160,10 +166,14 @@ impl<const N: usize> Session<N> {
         requires within { most ≤ self.old.left }
         ensures goes { IfSome result (λ slice. (parts : Parts) → (read written : List ℕ) →
             Goes N parts read written self.old → Goes N parts read written self.new) }
-        ensures lacks { IfSome result (λ slice. slice.lacks ≡ true →
-            self.new.board.state.world.memory.device.input ≡ unknown) }
+        ensures lacks { IfSome result (λ slice. slice.lacks ≡ true → AsksByte N self.new.board) }
+        ensures onward { IfSome result (λ slice. slice.lacks ≡ false → 0 < slice.turns) }
+        ensures known { IfSome result (λ slice. self.old.board.state.world.memory.device.input ≡ [] →
+            slice.lacks ≡ false) }
         ensures within { IfSome result (λ slice. slice.turns ≤ most) }
         ensures left { IfSome result (λ slice. self.new.left ≡ self.old.left - slice.turns) }
+        ensures counted { IfSome result (λ slice. turns_of self.new ≤ turns_of self.old + slice.turns) }
+        ensures turns { turns_of self.new ≤ turns_of self.old + most }
         ensures met { self.new.met ≡ self.old.met }
     {
         let slice = advance(&mut self.board, most);
@@ -177,14 +187,14 @@ impl<const N: usize> Session<N> {
     /// Goes on for at most so many turns, with the next piece of the input, behind which there is nothing where `last`
     /// is set, and writes to the front of the room.
     pub fn step(&mut self, most: u64, input: &[u8], last: bool, room: &mut [u8]) -> Step
-        ensures { IsStep N self.old self.new input.now last room.old room.new result }
+        ensures { IsStep N self.old self.new most input.now last room.old room.new result }
     {
         let mut read = 0;
         let mut written = 0;
         let mut left = most.min(self.left);
         let mut lacks = false;
-        'rounds: for _ in 0..u64::MAX {
-            let Some(behind) = self.deliver(room, written) else {
+        'rounds: loop {
+            let Some(behind) = self.deliver(lacks, room, written) else {
                 return Step {
                     read,
                     written,
@@ -208,7 +218,11 @@ impl<const N: usize> Session<N> {
                 };
             }
             if left == 0 {
-                break;
+                return Step {
+                    read,
+                    written,
+                    stand: Stand::Paused,
+                };
             }
             let Some(slice) = self.go(left) else {
                 return Step {
@@ -219,11 +233,6 @@ impl<const N: usize> Session<N> {
             };
             left -= slice.turns;
             lacks = slice.lacks;
-        }
-        Step {
-            read,
-            written,
-            stand: Stand::Paused,
         }
     }
 }

@@ -228,7 +228,7 @@ impl Drop for Image {
 pub enum Stand {
     /// The run has ended with this exit word.
     Ended(u32),
-    /// It has read the whole piece, and waits for more.
+    /// The whole piece is read, more has to come, and a byte is asked for.
     Wants,
     /// The room is full, and there is more to put out.
     Full,

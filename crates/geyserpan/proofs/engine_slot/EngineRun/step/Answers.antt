@@ -25,4 +25,4 @@ returns c =
     c.status_of-status.result.0 c.step-step.ensures was refl long refl refl told.ended told.holds
     (ap (λ (t : Traffic). t.turns) c.counts.ensures) (omega (arith, least, size)) c.saturating_sub-self.ensures told.wants
     (λ filled. (let (stand, fits) = told.full filled in (stand, omega (arith, least, size, fits))))
-    (λ ends. (let (stand, fits) = told.cut ends in (stand, omega (arith, least, size, fits)))) told.paused told.lost
+    (λ ends. (let (stand, fits) = told.cut ends in (stand, omega (arith, least, size, fits)))) told.paused told.lost told.exit refl

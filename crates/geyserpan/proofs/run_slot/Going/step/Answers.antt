@@ -23,8 +23,8 @@ returns-clause-goes c =
     let least = c.min-most.ensures in
     let size = c.split_at_mut-front.ensures.front_len in
     let told = c.status_of-status.ensures in
-    stepped_on c.args.self.now new c.args.input.now room (after ++ rest) front after rest c.args.last c.step-step.result done
+    stepped_on c.args.self.now new c.args.turns c.args.input.now room (after ++ rest) front after rest c.args.last c.step-step.result done
     c.status_of-status.result.0 c.step-step.ensures was refl long refl refl told.vouched told.ended told.holds
     c.turns.ensures (omega (arith, least, size)) c.saturating_sub-self.ensures told.wants
     (λ filled. (let (stand, fits) = told.full filled in (stand, omega (arith, least, size, fits))))
-    (λ ends. (let (stand, fits) = told.cut ends in (stand, omega (arith, least, size, fits))))
+    (λ ends. (let (stand, fits) = told.cut ends in (stand, omega (arith, least, size, fits)))) told.paused told.exit refl

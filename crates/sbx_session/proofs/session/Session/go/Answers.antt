@@ -1,5 +1,6 @@
-use Rattle.std.proofs.Common.{[], ◌∙◌, rules}
+use Rattle.std.proofs.Common.{[], ◌∙◌, arith, rules}
 use Rattle.sbx_port.specs.Following.{Fine}
+use Rattle.sbx_session.proofs.Counts.{slice_counts}
 use Rattle.sbx_session.proofs.Stepping.{fine_unknown, fine_known}
 use Rattle.sbx_session.proofs.UnderWay.{sliced}
 use Rattle.sbx_session.proofs.session.Session.go.Goals as goal
@@ -17,3 +18,19 @@ returns-clause-goes g c =
     λ parts read written goes.
     sliced g.row.N parts read written c.args.self.now.left c.args.self.now.met c.args.self.now.board.state goes c.args.most c.advance-slice.result.turns t
     c.requires.going c.advance-slice.ensures.made c.requires.within fine c.advance-slice.ensures.contained
+
+pub returns-clause-counted : goal.returns-clause-counted
+returns-clause-counted g c =
+    slice_counts g.row.N c.args.most c.args.self.now.board.state c.advance-slice.result.turns c.advance-slice.new.board.state c.advance-slice.ensures.made
+
+pub returns-clause-turns : goal.returns-clause-turns
+returns-clause-turns g c =
+    let most = slice_counts g.row.N c.args.most c.args.self.now.board.state c.advance-slice.result.turns c.advance-slice.new.board.state c.advance-slice.ensures.made in
+    let few = c.advance-slice.ensures.made.within in
+    omega (arith, most, few)
+
+pub returns-then-has_ended-clause-turns : goal.returns-then-has_ended-clause-turns
+returns-then-has_ended-clause-turns g c =
+    let most = slice_counts g.row.N c.args.most c.args.self.now.board.state c.advance-slice.result.turns c.advance-slice.new.board.state c.advance-slice.ensures.made in
+    let few = c.advance-slice.ensures.made.within in
+    omega (arith, most, few)
