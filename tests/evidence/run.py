@@ -19,17 +19,23 @@ that failed, or of another's word for it, or beside the error that was met (`Com
 made nowhere but where a write took nothing (`put_all`), and no source has a stream of its own but those listed
 (STREAMS).
 
+Likewise the library for C: it tells MEMORY in the arm of a call that failed for want of it (WANTING), or behind the
+number of such a fault, and nowhere else, by that word alone.
+
 It reads crates/*/src, and lists each place where a count of items is asked for at once (a vector's room, a text that
-is repeated, a width or a precision, and what is put together of an iterator or a list), since a growth that asks for
-more than there is would be refused, too. A count that is a number, or is worked out of numbers, is found where it is
-more than anything has, and so is each that turns or moves bits, wraps, or is read of bytes or of a text; whether
-another is one that the caller needs, a reader has to see. Then it tries itself: each body of
-tests/evidence/bodies/CRATE, an edit that no clause speaks against, so that it proves or would with a proof of its
-own, is put into a copy of its file, and has to be found. It prints what it looked at and what it found."""
+is repeated, a width or a precision, what is put together of an iterator or a list, and a count that is handed to one
+of the sources' own functions that asks for it), since a growth that asks for more than there is would be refused,
+too. Each has to be among those that were read (READ), in a function whose words are still those that were read. A
+count that is a number, or is worked out of numbers, is found where it is more than anything has, and so is each that
+turns or moves bits, wraps, or is read of bytes or of a text. Memory that is asked for piece by piece, as by a loop
+that pushes without need, isn't looked at. Then it tries itself: each body of tests/evidence/bodies/CRATE, an edit
+that no clause speaks against, so that it proves or would with a proof of its own, is put into a copy of its file, and
+has to be found. It prints what it looked at and what it found."""
 import glob
 import os
 import re
 import sys
+import zlib
 
 sys.dont_write_bytecode = True
 HERE = os.path.dirname(os.path.abspath(__file__))
@@ -101,6 +107,23 @@ CALL = re.compile(r"(?:(?:\w+ \. )+(?:read|write|flush)|put_all|put_through|put_
 # hand.
 POINTERS = {f"crates/geyserpan/src/{it}.rt" for it in ("loose", "image_handle", "run_handle", "engine_handle")}
 
+# The places that lend a cell where it may be lent already, which would be an error of a stream: one at a time.
+LENT = (
+    ("crates/cmd_files/src/conversing.rt", "if let Ok ( mut out ) = self . out . try_borrow_mut ( )"),
+    ("crates/cmd_files/src/conversing.rt", "self . out . try_borrow_mut ( ) ? . write_all ( buf ) ?"),
+    ("crates/cmd_files/src/conversing.rt", "self . out . try_borrow_mut ( ) ? . flush ( )"),
+    ("crates/cmd_files/src/conversing.rt", "self . out . try_borrow_mut ( ) ? . write_all ( buf )"),
+)
+
+# What tells want of memory to a program in C, in the crate whose statuses are numbers; that number; calls that fail
+# for want of memory alone; and what a fault's number is compared with before.
+LIBRARY, MEMORY, NUMBER_OF_MEMORY = "crates/geyserpan/", "MEMORY", "3"
+WANTING = re.compile(
+    r"(?:Box|Session|FlatSession) :: new \( alloc , [^\[\];]*\)|run_(?:windows|flat) \( alloc , [^{}]*\)"
+    r"|write \( & image , alloc \)"
+)
+COMPARED = [f"if number == {it} {{ return" for it in ("NO_MEMORY_FAULT", "NO_MEMORY_RULE", "0")]
+
 # The most items that a number in a source may ask for: no table and no file has more.
 MOST = 16_777_216
 
@@ -108,8 +131,47 @@ MOST = 16_777_216
 # copied.
 MAKERS = ("OnceCell", "LazyCell", "OnceLock", "LazyLock", "Rc", "Arc", "RcStr", "ArcStr")
 
+# Calls that ask for room for a count of items, and functions of the sources that do it with a count that is handed to
+# them.
+ASKERS = (
+    "with_capacity", "reserve", "reserve_exact", "try_reserve", "try_reserve_exact", "resize", "resize_with",
+    "try_resize_with", "from_elem", "extend_from_within",
+)
+HANDED = ("repeated", "with_room", "zeros", "items_of")
+
 # Calls that ask for as much as an iterator or a list says.
 GATHERS = ("extend", "collect", "join", "concat")
+
+# The places that ask for a count of items at once, as they were read: what each asks for is no more than its call
+# needs. Each has a sum of its function's words up to there (`sum_at`), so that whoever changes those reads it again.
+READ = (
+    ("crates/cmd_files/src/words.rt",
+     "let mut words : Vec < String > = env :: args ( rt ) ? . collect ( rt . alloc ( ) ) ?", "d19430e7"),
+    ("crates/engine_store/src/frames.rt", "WORDS", "c7ff5263"),
+    ("crates/flat_plain/src/frames.rt", "count as usize", "a1974dd5"),
+    ("crates/inspect_run/src/sheet.rt", "a width of blanks", "aae67768"),
+    ("crates/inspect_start/src/start.rt", "BYTES", "1864bff6"),
+    ("crates/sbx_batch/src/batch.rt", "alloc , count", "65425b59"),
+    ("crates/sbx_batch/src/batch.rt", "alloc , batch . len ( )", "68ab676b"),
+    ("crates/sbx_bench/src/main.rt",
+     "let words : Vec < String > = env :: args ( & rt ) ? . collect ( rt . alloc ( ) ) ?", "f8c1f514"),
+    ("crates/sbx_bench/src/plain/ram.rt", "BYTES", "02598a55"),
+    ("crates/sbx_domain/src/room.rt", "alloc , count", "a4460ddb"),
+    ("crates/sbx_domain/src/state.rt", "alloc , None , LOCATIONS", "03565164"),
+    ("crates/sbx_image/src/reading.rt", "alloc , count as usize", "5f672da3"),
+    ("crates/sbx_image/src/reading.rt", "alloc , end , head . blocks as u32 , first , rest", "cf84e0fd"),
+    ("crates/sbx_image/src/reading.rt", "alloc , ( ) , head . cells as u32 , 0 , rest", "11c9b4ca"),
+    ("crates/sbx_image/src/reading.rt", "alloc , ( ) , head . terms as u32 , 0 , rest", "36cb78e6"),
+    ("crates/sbx_image/src/reading.rt", "alloc , ( ) , count as u32 , ( ) , bytes", "e7a2a755"),
+    ("crates/sbx_image/src/reading.rt", "alloc , ( ) , header . data_count , 0 , bytes", "1954c615"),
+    ("crates/sbx_image/src/reading.rt", "alloc , shapes . len ( )", "3ddcd4a5"),
+    ("crates/sbx_image/src/reading.rt", "alloc , ( ) , header . words , ( ) , rest", "c764df3b"),
+    ("crates/sbx_image/src/reading.rt", "alloc , setting , header . functions as u32 , first , rest", "4c007c33"),
+    ("crates/sbx_verdicts/src/fields.rt", 'text . split ( "" ) . collect ( alloc )', "c1c13fa5"),
+    ("crates/sbx_verdicts/src/fields.rt", "field . len ( ) / 2", "949e9000"),
+    ("crates/v8_memory/src/ram.rt", "count", "f0df05db"),
+    ("crates/v8_memory/src/ram.rt", "alloc , BYTES", "43b68f1a"),
+)
 
 TOKEN = re.compile(
     r"""
@@ -344,6 +406,33 @@ def form_of_made(tokens, at):
     return "conversions of what was met" if is_met else None
 
 
+def form_of_memory(tokens, at):
+    """Returns in which form the status MEMORY of the library for C stands where memory was refused, or None."""
+    if is_used(tokens, at):
+        return "use items"
+    if words_at(tokens, at - 1, 1) == "const":
+        return "its number"
+    if words_at(tokens, at + 1, 1) == "=>":
+        return "patterns"
+    if any(words_at(tokens, at - 6, 6) == it for it in COMPARED):
+        return "answers to the number of such a fault"
+    pattern, matched = arm_of(tokens, at) or ("", "")
+    if pattern == "FlatStand :: Refused ( _want )":
+        return "answers with their evidence"
+    is_failed = re.fullmatch(r"Err \( _\w+ \)|Some \( Err \( _\w+ \) \)", pattern)
+    return "answers to a call that failed" if is_failed and WANTING.fullmatch(matched) else None
+
+
+def form_of_number(tokens, at):
+    """The same of the number that MEMORY has: it may be the number of something else."""
+    if words_at(tokens, at - 2, 2) == "u32 =" and words_at(tokens, at - 4, 1) == MEMORY:
+        return "its number"
+    if words_at(tokens, at - 1, 1) == ";" and words_at(tokens, at + 1, 1) == "]":
+        return "lengths"
+    pattern, _ = arm_of(tokens, at) or ("", "")
+    return "numbers of faults" if pattern.startswith(("ImageFault :: ", "Cause :: ")) else None
+
+
 def made_up_at(path, tokens, at):
     """Yields how a fault of a stream is told or made at this place: what it is, and its form or None."""
     word, three = tokens[at][0], words_at(tokens, at, 3)
@@ -358,6 +447,10 @@ def made_up_at(path, tokens, at):
         yield "ErrorKind", "kinds that are asked for" if is_asked else None
     if word in ("Read", "Write") and words_at(tokens, at + 1, 1) == "for":
         yield f"impl {word}", "streams that are known" if path in STREAMS else None
+    if word in ("try_borrow", "try_borrow_mut"):
+        yield word, "places that are known" if (path, statement_at(tokens, at)) in LENT else None
+    if path.startswith(LIBRARY) and word in (MEMORY, NUMBER_OF_MEMORY):
+        yield MEMORY, form_of_memory(tokens, at) if word == MEMORY else form_of_number(tokens, at)
 
 
 FORMS = {
@@ -392,17 +485,18 @@ def statement_at(tokens, at):
 
 def asked_at(tokens, at):
     """Returns what a call at this place asks room for at once, as words; None where it asks for none."""
-    word = tokens[at][0]
-    if word in ("with_capacity", "reserve", "reserve_exact", "resize") and words_at(tokens, at + 1, 1) == "(":
+    word, before = tokens[at][0], words_at(tokens, at - 1, 1)
+    is_handed = word in HANDED and before not in ("fn", ".")
+    if (word in ASKERS or is_handed) and words_at(tokens, at + 1, 1) == "(":
         return words_at(tokens, at + 2, end_of(tokens, at + 1) - at - 3)
-    is_called = words_at(tokens, at - 1, 1) in (".", "::") and words_at(tokens, at + 1, 1) == "("
+    is_called = before in (".", "::") and words_at(tokens, at + 1, 1) == "("
     if word == "repeat" and is_called and words_at(tokens, at + 2, 1) != ")":
         return words_at(tokens, at + 2, end_of(tokens, at + 1) - at - 3)
-    if word in GATHERS and words_at(tokens, at - 1, 1) == "." and words_at(tokens, at + 1, 1) == "(":
+    if word in GATHERS and before == "." and words_at(tokens, at + 1, 1) == "(":
         return statement_at(tokens, at)
     if word.startswith('"{:'):
         return "a width of " + word[3:-2].replace("$", "").replace(",", " , ")
-    if words_at(tokens, at, 3) in ("vec ! [", "vec ! ("):
+    if words_at(tokens, at, 3) in ("vec ! [", "vec ! (", "vec ! {"):
         inner = words_at(tokens, at + 3, end_of(tokens, at + 2) - at - 4).split(" ; ")
         return inner[2] if len(inner) == 3 else None
     return None
@@ -462,6 +556,14 @@ def is_too_much(asked, known):
     return bool(GREAT.search(words)) or greatest_in(words) > MOST
 
 
+def sum_at(tokens, at):
+    """Returns a sum of the words of the function around this place, up to here."""
+    start = at
+    while start > 0 and tokens[start][0] != "fn":
+        start -= 1
+    return f"{zlib.crc32(words_at(tokens, start, at - start).encode()):08x}"
+
+
 class Sight:
     """What was seen in the sources: how often in which form, what asks for a count of items, and what was found."""
 
@@ -492,6 +594,9 @@ class Sight:
             asked = asked_at(tokens, at)
             if asked is not None:
                 self.asks.append(f"{path}:{line}: {asked}")
+                came = (path, asked, sum_at(tokens, at))
+                if came not in READ:
+                    self.found.append(f"{path}:{line}: it asks for a count that nobody has read: {came}")
                 if is_too_much(asked, known):
                     self.found.append(f"{path}:{line}: it asks for more than there is: {asked}")
 
