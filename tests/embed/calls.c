@@ -119,6 +119,14 @@ typedef struct {
 /* So many turns the engine puts by at most. */
 #define PUT_BY 24
 
+/* Whether a step may make so many turns of those that it was allowed, and where it pauses it has made them, but for those that are put
+   by, now or before. */
+static int is_allowed(uint64_t made, uint64_t turns, uint32_t status, uint64_t put_by)
+{
+    int is_over = made > turns && made - turns > put_by, is_under = made < turns && turns - made > put_by;
+    return !is_over && !(is_under && status == GEYSERPAN_PAUSED);
+}
+
 static uint32_t step(stepped run, uint64_t turns, const uint8_t *piece, size_t length, uint32_t last, uint8_t *to, size_t most, geyserpan_done *done)
 {
     return run.board ? geyserpan_step(run.board, turns, piece, length, last, to, most, done)
@@ -138,9 +146,10 @@ static uint32_t in_pieces(stepped run, size_t piece, size_t most, uint64_t turns
         uint64_t before = made;
         status = step(run, turns, next ? input + read : &none, next, read + next == input_length, to, most, done);
         made = done->turns;
-        HOLDS(made >= before && (run.board || made - before <= turns + PUT_BY));
+        HOLDS(made >= before && is_allowed(made - before, turns, status, run.board ? 0 : PUT_BY));
         HOLDS(done->read <= next && done->written <= most && to[most] == guard && !done->zero);
-        HOLDS(status != GEYSERPAN_WANTS || done->read == next);
+        HOLDS(status == GEYSERPAN_ENDED || !done->exit);
+        HOLDS(status != GEYSERPAN_WANTS || (done->read == next && read + next < input_length));
         HOLDS(status != GEYSERPAN_FULL || done->written == most);
         read += done->read;
         written += done->written;
@@ -285,6 +294,56 @@ static void engine_edges(uint64_t length)
     geyserpan_engine_free(engine);
 }
 
+/* What a status means, in words, with these numbers. */
+static void says(uint32_t status, const geyserpan_why *why, const char *wanted)
+{
+    uint8_t text[96];
+    size_t length = geyserpan_why_text(status, why, text, sizeof text);
+    if (length == strlen(wanted) && !memcmp(text, wanted, length))
+        return;
+    fprintf(stderr, "status %u: wanted %s, came %.*s\n", status, wanted, (int)(length < sizeof text ? length : sizeof text), (const char *)text);
+    exit(1);
+}
+
+/* The words of each status, by its number; texts that fit, and that don't. */
+static void texts(void)
+{
+    static const char *const words[] = {
+        [GEYSERPAN_OK] = "done",
+        [GEYSERPAN_NO_IMAGE] = "image I7",
+        [GEYSERPAN_REFUSED] = "refused V7 in function 3 at 0004ABCC",
+        [GEYSERPAN_MEMORY] = "memory",
+        [GEYSERPAN_WINDOWS] = "no such count of windows",
+        [GEYSERPAN_SERVICES] = "it asks for a service that isn't granted",
+        [GEYSERPAN_TURNS] = "it asks for more turns than are granted",
+        [GEYSERPAN_ROOM] = "the room is too small",
+        [GEYSERPAN_ENDED] = "it has ended",
+        [GEYSERPAN_WANTS] = "it waits for input",
+        [GEYSERPAN_FULL] = "the room is full",
+        [GEYSERPAN_PAUSED] = "the turns are made",
+        [GEYSERPAN_HANDLE] = "the handle holds none",
+        [GEYSERPAN_SOURCE] = "line 306124: S3",
+        [GEYSERPAN_OUTPUT] = "it puts out more than is granted",
+        [GEYSERPAN_LOST] = "the run is lost",
+        "no such status",
+    };
+    static const char *const causes[] = { "X1", "X2", "X3", "X4", "S1", "S2", "S3", "S4", "S5", "A1", "A2", "A3", "A4" };
+    geyserpan_why why = { 7, 3, 0x4ABCC };
+    for (uint32_t status = 0; status < sizeof words / sizeof *words; status++)
+        says(status, &why, words[status]);
+    says(UINT32_MAX, &why, "no such status");
+    for (uint32_t cause = 0; cause < sizeof causes / sizeof *causes; cause++) {
+        char wanted[16];
+        snprintf(wanted, sizeof wanted, "line 9: %s", causes[cause]);
+        says(GEYSERPAN_SOURCE, &(geyserpan_why){ cause + 1, 0, 9 }, wanted);
+    }
+    uint8_t text[96], none[1] = { 0xA5 };
+    HOLDS(geyserpan_version(text, sizeof text) <= 32 && geyserpan_version(none, 0) <= 32 && none[0] == 0xA5);
+    why = (geyserpan_why){ UINT32_MAX, UINT32_MAX, UINT32_MAX };
+    for (uint32_t status = 0; status < 20; status++)
+        HOLDS(geyserpan_why_text(status, &why, text, sizeof text) <= sizeof text && geyserpan_why_text(status, &why, none, 0) > 0 && none[0] == 0xA5);
+}
+
 /* What is refused, with an image that puts out more than two bytes of its input: nothing of the room is written. */
 static void edges(void)
 {
@@ -391,13 +450,93 @@ static void edges(void)
 
     engine_edges(length);
 
-    /* texts that fit, and that don't */
-    uint8_t text[96], none[1] = { 0xA5 };
-    HOLDS(geyserpan_version(text, sizeof text) <= 32 && geyserpan_version(none, 0) <= 32 && none[0] == 0xA5);
-    why = (geyserpan_why){ UINT32_MAX, UINT32_MAX, UINT32_MAX };
-    for (uint32_t status = 0; status < 20; status++)
-        HOLDS(geyserpan_why_text(status, &why, text, sizeof text) <= sizeof text && geyserpan_why_text(status, &why, none, 0) > 0 && none[0] == 0xA5);
+    texts();
     printf("edges\n");
+}
+
+/* ---- lengths ---- */
+
+/* What wants no memory beyond what there is, and has its handles, is told neither of want of memory nor of a handle: a run of the file,
+   which hands on its input, on the first so many bytes of it. */
+static void run_of(geyserpan_image *image, geyserpan_run *run, geyserpan_engine *engine, size_t length)
+{
+    geyserpan_report report;
+    geyserpan_why why;
+    geyserpan_done done;
+    HOLDS(geyserpan_once(file, file_length, &all, input, length, room, sizeof room, &report, &why) == GEYSERPAN_OK && report.output == length);
+    HOLDS(geyserpan_run_image(image, input, length, room, sizeof room, &report) == GEYSERPAN_OK && report.output == length);
+    HOLDS(geyserpan_engine_run(image, input, length, room, sizeof room, &report) == GEYSERPAN_OK && report.output == length);
+    HOLDS(geyserpan_begin(run, image) == GEYSERPAN_OK && geyserpan_restart(run, image) == GEYSERPAN_OK);
+    HOLDS(geyserpan_step(run, UINT64_MAX, input, length, 1, room, length, &done) == GEYSERPAN_ENDED && done.written == length);
+    HOLDS(geyserpan_engine_begin(engine, image) == GEYSERPAN_OK);
+    HOLDS(geyserpan_engine_step(engine, UINT64_MAX, input, length, 1, room, length, &done) == GEYSERPAN_ENDED && done.written == length);
+}
+
+/* An image that puts out the character A, with so many bytes of data: it is accepted, and runs in each way. Gives its length. */
+static size_t image_of(size_t data, geyserpan_image *image, geyserpan_run *run, geyserpan_engine *engine)
+{
+    static const char code[] = ".services exit,put\n.function main,leaf,0,0,10\n.fuel 10\n mov 65,%o0\n ta 2\n mov 0,%o0\n ta 0\n";
+    uint8_t source[256], bytes[2048];
+    uint64_t length = 0;
+    geyserpan_why why;
+    geyserpan_facts facts;
+    geyserpan_report report;
+    geyserpan_done done;
+    size_t size = sizeof code - 1;
+    memcpy(source, code, size);
+    if (data)
+        size += (size_t)snprintf((char *)source + size, sizeof source - size, ".data\n.skip %zu\n", data);
+    HOLDS(geyserpan_assemble(source, size, bytes, sizeof bytes, &length, &why) == GEYSERPAN_OK);
+    HOLDS(geyserpan_check(bytes, length, &facts, &why) == GEYSERPAN_OK && facts.data_bytes >= data);
+    HOLDS(geyserpan_once(bytes, length, &all, input, 0, room, sizeof room, &report, &why) == GEYSERPAN_OK && report.output == 1);
+    HOLDS(geyserpan_open(image, bytes, length, &all, &why) == GEYSERPAN_OK && geyserpan_facts_of(image, &facts) == GEYSERPAN_OK);
+    HOLDS(geyserpan_run_image(image, input, 0, room, sizeof room, &report) == GEYSERPAN_OK && report.output == 1);
+    HOLDS(geyserpan_engine_run(image, input, 0, room, sizeof room, &report) == GEYSERPAN_OK && report.output == 1);
+    HOLDS(geyserpan_begin(run, image) == GEYSERPAN_OK);
+    HOLDS(geyserpan_step(run, UINT64_MAX, input, 0, 1, room, 1, &done) == GEYSERPAN_ENDED);
+    HOLDS(geyserpan_engine_begin(engine, image) == GEYSERPAN_OK);
+    HOLDS(geyserpan_engine_step(engine, UINT64_MAX, input, 0, 1, room, 1, &done) == GEYSERPAN_ENDED);
+    return length;
+}
+
+/* What isn't whole: the first so many bytes of the file, as an image, and of a text, as a source. */
+static void part_of(size_t length, const uint8_t *source)
+{
+    geyserpan_facts facts;
+    geyserpan_why why;
+    geyserpan_report report;
+    uint64_t needed = 0;
+    if (length < file_length) {
+        HOLDS(geyserpan_check(file, length, &facts, &why) == GEYSERPAN_NO_IMAGE);
+        HOLDS(geyserpan_once(file, length, &all, input, input_length, room, sizeof room, &report, &why) == GEYSERPAN_NO_IMAGE);
+    }
+    uint32_t status = geyserpan_assemble(source, length, room, sizeof room, &needed, &why);
+    HOLDS(status == GEYSERPAN_OK || status == GEYSERPAN_SOURCE);
+}
+
+/* Inputs, sources and parts of the file of each length from 1 to `most` bytes; images of each up to that which data makes, in steps of 8
+   bytes. */
+static void lengths(size_t most)
+{
+    static uint8_t source[sizeof input];
+    geyserpan_image image = opened(&all), other;
+    geyserpan_run run;
+    geyserpan_engine engine;
+    HOLDS(geyserpan_run_new(&run) == GEYSERPAN_OK && geyserpan_engine_new(&engine) == GEYSERPAN_OK);
+    HOLDS(geyserpan_image_new(&other) == GEYSERPAN_OK && most <= input_length);
+    memset(source, ' ', sizeof source);
+    for (size_t length = 1; length <= most; length++) {
+        run_of(&image, &run, &engine, length);
+        part_of(length, source);
+    }
+    size_t data = 0;
+    while (image_of(data, &other, &run, &engine) < most)
+        data += 8;
+    geyserpan_engine_free(engine);
+    geyserpan_run_free(run);
+    geyserpan_image_free(other);
+    geyserpan_image_free(image);
+    printf("lengths\n");
 }
 
 /* ---- many runs, and threads ---- */
@@ -541,9 +680,9 @@ static void cost(long runs, const char *kind)
     geyserpan_image_free(image);
 }
 
-static long word(int count, char **words, int at, long otherwise)
+static uint64_t word(int count, char **words, int at, uint64_t otherwise)
 {
-    return at < count ? atol(words[at]) : otherwise;
+    return at < count ? strtoull(words[at], NULL, 10) : otherwise;
 }
 
 int main(int count, char **words)
@@ -566,17 +705,19 @@ int main(int count, char **words)
     else if (!strcmp(mode, "once"))
         once((uint32_t)word(count, words, 3, 8));
     else if (!strcmp(mode, "pieces"))
-        pieces((size_t)word(count, words, 3, 1), (size_t)word(count, words, 4, 1), (uint64_t)word(count, words, 5, 1000000));
+        pieces((size_t)word(count, words, 3, 1), (size_t)word(count, words, 4, 1), word(count, words, 5, 1000000));
     else if (!strcmp(mode, "engine"))
-        engine_pieces((uint32_t)word(count, words, 3, 8), (size_t)word(count, words, 4, 1), (size_t)word(count, words, 5, 1), (uint64_t)word(count, words, 6, 1000000));
+        engine_pieces((uint32_t)word(count, words, 3, 8), (size_t)word(count, words, 4, 1), (size_t)word(count, words, 5, 1), word(count, words, 6, 1000000));
     else if (!strcmp(mode, "edges"))
         edges();
+    else if (!strcmp(mode, "lengths"))
+        lengths((size_t)word(count, words, 3, 1000));
     else if (!strcmp(mode, "many"))
-        many(word(count, words, 3, 100));
+        many((long)word(count, words, 3, 100));
     else if (!strcmp(mode, "threads"))
-        threads(word(count, words, 3, 8), word(count, words, 4, 100));
+        threads((long)word(count, words, 3, 8), (long)word(count, words, 4, 100));
     else if (!strcmp(mode, "cost"))
-        cost(word(count, words, 3, 1000), count > 4 ? words[4] : "restarted");
+        cost((long)word(count, words, 3, 1000), count > 4 ? words[4] : "restarted");
     else
         return 3;
     return 0;

@@ -37,7 +37,7 @@ LIBRARY = f"{TOP}/tools/release/library"
 TALLY = Tally("embed")
 # (bytes of a piece, bytes of room, turns of a step)
 PIECES = [(1, 1, 1000000), (2, 3, 7), (5, 3, 1000), (7, 4096, 1), (4096, 1, 4096), (65536, 65536, 1000000),
-          (3, 0, 100)]
+          (3, 0, 100), (4096, 4096, 2**64 - 1)]
 # The image reads three bytes and puts each one more out; where its input has ended it reads 2^32 - 1.
 REQUESTS, ANSWERS = b"HAL\n\nabc\nzyx w\n", b"IBM\n\0\0\0\nbcd\n{zy\n"
 
@@ -576,6 +576,8 @@ def try_all(prefix, work):
     if not calls:
         return
     gives("edges", run([calls, "edges", filter_image], b"HAL!"), b"edges\n")
+    ran = run([calls, "lengths", echo, "1000"], b"y\n" * 500, seconds=None)
+    gives("lengths of 1 to 1,000 bytes", ran, b"lengths\n")
     try_examples(calls, work)
     try_sources(calls, work)
     try_bytes(calls, work)

@@ -3,7 +3,7 @@ import json
 import os
 
 from calls import CHAIN, ECHO, HELLO, put_out_by
-from run import EXAMPLES, TOP, as_anybody, bytes_of, closed, opened, program, put, run, text_of
+from run import EXAMPLES, SANDBOX, TOP, as_anybody, bytes_of, closed, opened, program, put, run, text_of, within
 from tally import shown
 
 PROGRAM = program("host")
@@ -129,7 +129,7 @@ def try_engine(host):
 
 def turns_on(path):
     """How many turns `trace` tells of echo on a file."""
-    return run([f"{TOP}/sandbox", "trace", ECHOING], bytes_of(path)).out.count(b"\n")
+    return run([SANDBOX, "trace", ECHOING], bytes_of(path)).out.count(b"\n")
 
 
 def try_reports(host):
@@ -155,6 +155,28 @@ def try_reports(host):
     host.reports("a stopped run", (2, "ab", [stopped]), "--max-output", "2", ECHOING, given=abcd)
     quoted = put(host.at('a "name" \\ with\ta tab.img'), host.calls.hello)
     host.reports("a name with quotes", (0, "Hi", [{**hello, "image": quoted, "input_left": None}]), quoted)
+
+
+def try_counts(host):
+    """What a report says of windows, by board and engine: of chain's thirteen frames there are one less than so many
+    at a time, and where it ends it has returned to all but the first two."""
+    image = f"{CHAIN}.img"
+    for windows in (4, 5, 8, 13, 14, 32):
+        turns = run([SANDBOX, "trace", "--windows", str(windows), image]).out.count(b"\n")
+        told = {"image": image, "exit": 0, "turns": turns, "budget": 618, "output": 1, "input_left": None,
+                "overflows": max(0, 14 - windows), "underflows": max(0, 13 - windows)}
+        for way in ([], ["--engine"]):
+            name = f"chain on {windows} windows{' by the engine' if way else ''}"
+            host.reports(name, (0, "!", [told]), *way, "--windows", str(windows), image)
+
+
+def try_long(host, most):
+    """50 MiB by the engine, in less memory than they have."""
+    long = bytes_of(host.at("long"))
+    ran = run([PROGRAM, "run", "--engine", "--max-turns", str(2**40), most], long, preexec_fn=within(16384))
+    name, came = "host: 50 MiB by the engine", (ran.status, ran.err)
+    host.tally.check(name, came == (0, b""), f"wanted status 0, came {came}")
+    host.tally.check(f"{name}: the output", ran.out == long, f"wanted the input, came {len(ran.out)} other bytes")
 
 
 def try_faults(host):
@@ -214,13 +236,15 @@ def try_words(host):
     host.expect("words that are no text", unread, b"no\377text")
 
 
-def try_host(calls):
-    """All of it."""
+def try_host(calls, most):
+    """All of it; `most` is an image that hands on up to 53,000,000 bytes."""
     host = Host(calls)
     try_images(host)
     try_policy(host)
     try_streams(host)
     try_engine(host)
     try_reports(host)
+    try_counts(host)
+    try_long(host, most)
     try_faults(host)
     try_words(host)

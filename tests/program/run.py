@@ -324,7 +324,7 @@ def main(words):
         try_early(calls, most)
         try_asm(calls)
         try_words(calls)
-        try_host(calls)
+        try_host(calls, most)
     return tally.end()
 
 
