@@ -1,5 +1,5 @@
 #!/usr/bin/env python3
-"""usage: tests/fit/run.py [--inputs N] [--programs N] [--seed N] [--jobs N] [--keep FOLDER] [PART ..]
+"""usage: tests/fit/run.py [--inputs N] [--programs N] [--csmith N] [--seed N] [--jobs N] [--keep FOLDER] [PART ..]
 
 Tries that what `./fit` and `./cc` make means what the C means. Parts, all where none is named:
 
@@ -13,7 +13,9 @@ Tries that what `./fit` and `./cc` make means what the C means. Parts, all where
             great: a file, a line, a reason and status 2, and never a source that `sandbox asm` refuses
   size      each program of examples/c, all of them four times as one program of more than 2,000 lines of C, and all of
             them in one loop: accepted, in so much processor time and memory
-  random    N programs by csmith (620, some of which don't end under qemu), whose globals are changed by 20 inputs
+  random    N programs of generator.py (240), each compiled in one of twelve ways: by ./cc with gcc and clang, and by
+            gcc with few flags of its own, at several levels; and their outputs under qemu
+  csmith    N programs by csmith (620, some of which don't end under qemu), whose globals are changed by 20 inputs
             each, and their outputs under qemu
 
 What isn't here (gcc, sparc64-linux-gnu-gcc, clang with its SPARC target, qemu-sparc, csmith, libcsmith-dev) is told
@@ -30,6 +32,7 @@ sys.dont_write_bytecode = True
 HERE = os.path.dirname(os.path.abspath(__file__))
 sys.path.insert(0, f"{os.path.dirname(HERE)}/lib")
 from compared import SPARC, STORED, Comparison, compilers, inputs_like, native, programs, under_qemu
+from randoms import try_randoms
 from run import CC, EXAMPLES, FIT, SANDBOX, built, bytes_of, has, put, run, text_of
 from sources import ENTERED_TWICE, FAULTS, HEAD, LINELESS, calls_of_loops
 from tally import Tally, Words
@@ -90,7 +93,7 @@ def try_feature(to, file, options):
     image = f"{to.work}/{name}.img"
     made = run([CC, source, "-o", image], seconds=240)
     if said.startswith("refused: "):
-        line = re.search(rf"^{name}\.c:\d+: refused: (.*)$", made.said, re.M)
+        line = re.search(rf"^{re.escape(source)}:\d+: refused: (.*)$", made.said, re.M)
         holds = made.status == 2 and line and said[9:] in line[1] and not os.path.exists(image)
         to.tally.check(name, holds, f"wanted {said}, came {made}")
         return
@@ -190,13 +193,10 @@ def try_entries(to):
 def try_budgets(to):
     """Each number of turns gives a budget that an image may have, or a line that tells why not."""
     made, most = f"{to.work}/turns.s", str(10**12)
-    where = r"would be \d{13}, above 2\^40: the loop at many\.c:9 may take the most of it: ask for"
-    for calls, wanted in (3, ""), (120, "many.c:9: refused: the budget would be 11"):
+    for calls in 3, 120:
         source = put(f"{to.work}/many.s", calls_of_loops(calls))
-        told = run([FIT, source, "-o", made, "--turns", most])
-        is_told = not wanted or wanted in told.said and re.search(where, told.said)
-        holds = is_told and told.status == (2 if wanted else 0)
-        to.tally.check(f"{calls} calls of a loop", holds, f"wanted '{wanted}', came {told}")
+        words = [source, "--turns", most]
+        to.fitted(f"{calls} calls of a loop", words, made, f"{to.work}/many.img", [source])
     for name in ("upper", "json", "csv", "sort"):
         for turns in (1, 100, 10_000, 1_000_000, 10**9, 10**11, 10**12):
             told = run([FIT, f"{STORED}/{name}.s", PLUG, "-o", made, "--turns", str(turns)])
@@ -272,7 +272,7 @@ def with_inputs(text):
 def try_program(to, number, options):
     """One random program on 20 inputs."""
     base, level = f"{to.work}/p{number}", ("-O1", "-O2", "-Os")[number % 3]
-    name = f"random {number} {level}"
+    name = f"csmith {number} {level}"
     # (it leaves a file where it runs)
     text = run(["csmith", "--seed", str(options.seed * 100_000 + number), *CSMITH], seconds=60, cwd=to.work)
     if text.status != 0:
@@ -297,18 +297,18 @@ def try_program(to, number, options):
     return "compared"
 
 
-def try_random(to, options):
-    """Random programs."""
+def try_csmith(to, options):
+    """Random programs by csmith."""
     for need in ("csmith", SPARC, "qemu-sparc"):
         if not has(need):
-            to.tally.skip("random programs", need)
+            to.tally.skip("programs by csmith", need)
             return
     if not os.path.exists(f"{HEADERS}/safe_math.h"):
-        to.tally.skip("random programs", "libcsmith-dev")
+        to.tally.skip("programs by csmith", "libcsmith-dev")
         return
-    ends = in_turn(options, lambda number: try_program(to, number, options), range(options.programs))
+    ends = in_turn(options, lambda number: try_program(to, number, options), range(options.csmith))
     for end in sorted(set(ends)):
-        print(f"random programs, {end}: {ends.count(end)}", flush=True)
+        print(f"programs by csmith, {end}: {ends.count(end)}", flush=True)
 
 
 # As many kB of address space and seconds of processor as `fit` may take: of one program of examples/c, and of one of
@@ -375,12 +375,13 @@ def try_size(to, _options):
 
 
 PARTS = {"examples": try_examples, "features": try_features, "faults": try_faults, "size": try_size,
-         "random": try_random}
+         "random": lambda to, options: try_randoms(to, options, in_turn), "csmith": try_csmith}
 
 
 def main(words):
     reader = Words(__doc__)
-    for option, usual in (("--inputs", 400), ("--programs", 620), ("--seed", 1), ("--jobs", 2)):
+    for option, usual in (("--inputs", 400), ("--programs", 240), ("--csmith", 620), ("--seed", 1),
+                          ("--jobs", 2)):
         reader.add_argument(option, type=int, default=usual)
     reader.add_argument("--keep")
     reader.add_names("parts", list(PARTS))

@@ -2,17 +2,19 @@
 #![tactic(auto)]
 
 mod annotate;
+mod excess;
 mod files;
 mod words;
 
 use cmd_files::command_words;
+use excess::tell_refusal;
 use files::{NO_MEMORY, bytes_of, failed, refused, write_source};
 use fit_gas::Assembly;
-use fit_legal::program_of;
-use fit_passes::{Fault, FitPlan, Made, Reason, make};
+use fit_legal::{JoinPlan, program_of};
+use fit_passes::{FitPlan, Made, Reason, Refusal, make};
 use std::alloc::Global;
 use std::process::ExitCode;
-use words::{Arguments, TURNS, USAGE};
+use words::{Arguments, STACK, TURNS, USAGE};
 
 /// Reads the sources that words name. What is wrong with one is told: the exit status of that.
 fn read_sources(rt: &HostRuntime, words: &Arguments<'_>, source: &mut Assembly) -> Result<(), u8> {
@@ -25,32 +27,47 @@ fn read_sources(rt: &HostRuntime, words: &Arguments<'_>, source: &mut Assembly) 
     Ok(())
 }
 
-/// Makes an annotated source of assembly.
-fn attempt(alloc: Global, source: &Assembly, plan: FitPlan) -> Result<Made, Fault> {
-    let program = program_of(alloc, source, "main")?;
-    make(alloc, program, plan)
+/// Makes an annotated source of assembly, with the counters of its loops or without.
+fn attempt(
+    alloc: Global,
+    source: &Assembly,
+    words: &Arguments<'_>,
+    has_bounds: bool,
+) -> Result<Made, Refusal> {
+    let turns = words.turns.unwrap_or(TURNS);
+    let by_object = !words.by_region;
+    let joins = JoinPlan {
+        stack: words.stack.unwrap_or(STACK),
+        has_bounds,
+    };
+    match program_of(alloc, source, "main", joins) {
+        Ok(legal) => {
+            let plan = FitPlan {
+                turns,
+                by_object,
+                has_bounds,
+                pointer: legal.pointer,
+            };
+            make(alloc, legal.program, plan)
+        }
+        Err(fault) => Err(Refusal::of(alloc, fault)),
+    }
 }
 
 /// Makes an annotated source of assembly: with the counters of its loops or, where these ask for more turns than there
 /// are to be, by the meter alone.
-fn make_source(alloc: Global, source: &Assembly, words: &Arguments<'_>) -> Result<Made, Fault> {
+fn make_source(alloc: Global, source: &Assembly, words: &Arguments<'_>) -> Result<Made, Refusal> {
     let turns = words.turns.unwrap_or(TURNS);
-    let plan = FitPlan {
-        turns,
-        by_object: !words.by_region,
-        has_bounds: true,
-    };
-    let made = attempt(alloc, source, plan);
+    let made = attempt(alloc, source, words, true);
     let stands = match &made {
         Ok(made) => made.budget <= turns.saturating_mul(2),
         // Told, and not answered by another source.
-        Err(fault) => matches!(fault.reason, Reason::Memory(_)),
+        Err(refusal) => matches!(refusal.fault.reason, Reason::Memory(_)),
     };
     if stands {
         return made;
     }
-    let has_bounds = false;
-    attempt(alloc, source, FitPlan { has_bounds, ..plan })
+    attempt(alloc, source, words, false)
 }
 
 /// Tells each test, and writes the source; gives the exit status.
@@ -67,7 +84,7 @@ fn perform(rt: &HostRuntime, words: &Arguments<'_>) -> u8 {
     match read_sources(rt, words, &mut source) {
         Ok(()) => match &make_source(rt.alloc(), &source, words) {
             Ok(made) => finish(rt, words, made),
-            Err(fault) => refused(rt, fault, source.files.as_slice()),
+            Err(refusal) => tell_refusal(rt, refusal, &source),
         },
         Err(status) => status,
     }
@@ -84,15 +101,18 @@ fn answer(rt: &HostRuntime, all: &[String]) -> u8 {
         lacks: false,
         out: None,
         turns: None,
+        stack: None,
         is_strict: false,
         by_region: false,
     };
     let is_taken = words.take(all);
     match words.sources.as_slice() {
         _ if words.lacks => NO_MEMORY,
-        [source] if is_taken & is_annotate && words.turns.is_none() && !words.by_region => {
-            annotate::perform(rt, &words, *source)
-        }
+        [source]
+            if is_taken & is_annotate
+                && words.turns.is_none()
+                && words.stack.is_none()
+                && !words.by_region => { annotate::perform(rt, &words, *source) }
         [_, ..] if is_taken & !is_annotate && words.out.is_some() => perform(rt, &words),
         _ => {
             let _ = rt.eprint(USAGE);

@@ -2,13 +2,16 @@
 //! which it is.
 use crate::codes::prune;
 use crate::plain::step_of;
-use crate::points::{ControlFlow, Layout, Point, name_of, points_of};
+use crate::points::{
+    ControlFlow, Layout, Point, is_call_through_pointer, name_of, operands_read, points_of,
+    registers_of,
+};
 use crate::slots::{frame_and_start, leads_of, may_go_before, number_marked};
 use crate::stops::Stops;
 use fit_code::{Block, End, Function, SourceLine, Step};
 use fit_gas::{CodeBody, owned};
 use std::mem;
-use v8_formats::{Instr, Operand, Three};
+use v8_formats::{Instr, Operand, Three, decode};
 use v8_word::{Cond, Reg, reg_at};
 
 /// RESTORE of nothing.
@@ -17,6 +20,9 @@ const PLAIN: Three = Three {
     rs1: Reg::G0,
     operand2: Operand::Register(Reg::G0),
 };
+
+/// CALL of nothing.
+const CALL: u32 = 0x4000_0000;
 
 /// The blocks of a function, as they are made.
 #[derive(Drop)]
@@ -156,6 +162,42 @@ impl Builder<'_, '_> {
         }
     }
 
+    /// Whether what stands in the slot of a call at a place writes one of some registers, each of which has a bit.
+    fn slot_writes(&mut self, place: usize, registers: u32, line: SourceLine) -> bool {
+        match self.slot(place, line) {
+            Some(slot) => registers_of(&slot.instr).writes & registers != 0,
+            None => false,
+        }
+    }
+
+    /// Pushes what leaves the pointer of the call at a place in the register for that. It is a fault where the call's slot
+    /// changes the pointer.
+    fn pass_pointer(&mut self, place: usize) {
+        let points = self.points;
+        if place < points.len() {
+            let line = points[place].step.line;
+            let read = pointer_read(&points[place].step);
+            if self.slot_writes(place, read, line) {
+                let what = "a call through a pointer that its own slot changes";
+                self.stops.form(line, what);
+            }
+            let passed = passing_step(&points[place].step);
+            self.stops.memory.push(&mut self.steps, passed);
+        }
+    }
+
+    /// Pushes the call at a place, whose slot is done before it.
+    fn call(&mut self, place: usize) {
+        let points = self.points;
+        if place < points.len() {
+            if is_call_through_pointer(&points[place].step) {
+                self.pass_pointer(place);
+            }
+            let call = plain_call(&points[place].step);
+            self.stops.memory.push(&mut self.steps, call);
+        }
+    }
+
     /// Makes the block that begins at a place. What stands in the slot of a call, a jump or a leaf's return is done
     /// before it.
     fn fill(&mut self, start: usize, line: SourceLine) {
@@ -187,7 +229,7 @@ impl Builder<'_, '_> {
                 ControlFlow::Mark
                     if place >= 2 && matches!(points[place - 2].flow, ControlFlow::Call) => {}
                 ControlFlow::Call => {
-                    self.stops.memory.push(&mut self.steps, step);
+                    self.call(place);
                     next = place.saturating_add(2);
                 }
                 _ => return self.end(place, step.line, flow),
@@ -202,6 +244,41 @@ impl Builder<'_, '_> {
 /// %o0.
 pub fn result_register() -> Reg {
     reg_at(8, 0)
+}
+
+/// The registers that a call through a pointer reads, each of which has a bit.
+fn pointer_read(step: &Step) -> u32 {
+    match step.instr {
+        Instr::Jmpl(pointer) => operands_read(&pointer),
+        _ => 0,
+    }
+}
+
+/// What leaves the pointer of a call in the register for that.
+fn passing_step(step: &Step) -> Step {
+    let instr = match step.instr {
+        Instr::Jmpl(pointer) => Instr::Add(Three {
+            rd: pointer_register(),
+            rs1: pointer.rs1,
+            operand2: pointer.operand2,
+        }),
+        other => other,
+    };
+    step_of(instr, step.line)
+}
+
+/// A call, with CALL in the place of a jump through a pointer.
+fn plain_call(step: &Step) -> Step {
+    let mut call = *step;
+    if is_call_through_pointer(step) {
+        call.instr = decode(CALL);
+    }
+    call
+}
+
+/// The register that holds a pointer through which is called, %g1.
+pub fn pointer_register() -> Reg {
+    reg_at(1, 0)
 }
 
 /// What leaves 0 as a run's exit word.

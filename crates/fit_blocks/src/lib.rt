@@ -9,11 +9,11 @@ mod points;
 mod slots;
 mod stops;
 
-pub use blocks::{function_of, no_result, result_register};
+pub use blocks::{function_of, no_result, pointer_register, result_register};
 pub use codes::{give_one_entry, repeat_compares};
 pub use plain::{push_plain, step_of};
 pub use points::{
-    Layout, MemoryAccess, access_of, bit_of, layout_of, name_of, operands_read, registers_of,
-    signed,
+    Layout, MemoryAccess, access_of, bit_of, layout_of, name_of, operands_read, pointer_word,
+    registers_of, signed,
 };
 pub use stops::{Obstacle, Stops};

@@ -9,8 +9,8 @@ use crate::points::flow::flow_of;
 pub use fields::{MemoryAccess, access_of, bit_of, operands_read, registers_of, signed};
 use fit_code::Step;
 use fit_gas::{AddressPart, CodeBody, SymbolPlace, with_part};
-pub use layout::{Layout, layout_of, name_of};
-use v8_formats::{Three, decode};
+pub use layout::{Layout, layout_of, name_of, pointer_word};
+use v8_formats::{Instr, Three, decode};
 use v8_word::Cond;
 
 /// What an instruction does to the flow of control.
@@ -39,6 +39,11 @@ pub struct Point {
     pub flow: ControlFlow,
 }
 
+/// Whether a step that is no return is a call through a pointer.
+pub fn is_call_through_pointer(step: &Step) -> bool {
+    matches!(step.instr, Instr::Jmpl(_))
+}
+
 /// The instructions of a function, by its number in the source. What stops it is noted: an instruction that sandboxed
 /// code may not have; a jump that is no return; a branch out of the function; a name that stands nowhere, or is a
 /// function's where an object's is wanted.
@@ -53,8 +58,10 @@ pub fn points_of(layout: &mut Layout, number: usize, code: &CodeBody) -> Vec<Poi
             if !matches!(reference.part, AddressPart::Target) {
                 let (object, address) = layout.reach(symbol, reference.offset, item.line);
                 step.instr = decode(with_part(item.word, reference.part, address));
-                step.object = Some(object);
-                layout.name_outside(object, address);
+                step.object = object;
+                if let Some(named) = object {
+                    layout.name_outside(named, address);
+                }
             } else {
                 match layout.linked.place(symbol) {
                     SymbolPlace::Function(callee) => step.callee = Some(callee),
@@ -70,6 +77,10 @@ pub fn points_of(layout: &mut Layout, number: usize, code: &CodeBody) -> Vec<Poi
                 ControlFlow::Nothing
             }
         };
+        if matches!(flow, ControlFlow::Call) && is_call_through_pointer(&step) {
+            // what calls through pointers stands behind all functions
+            step.callee = Some(layout.source.codes.len());
+        }
         layout.stops.memory.push(&mut points, Point { step, flow });
     }
     points

@@ -1,8 +1,6 @@
 //! What stops the making of a program: it is noted where it is found, and told once.
 use crate::points::name_of;
-use fit_code::{
-    CALL_THROUGH_POINTER, Fault, Heap, JUMP_THROUGH_POINTER, Naming, Reason, SourceLine,
-};
+use fit_code::{Fault, Heap, JUMP_THROUGH_POINTER, Naming, Reason, SourceLine};
 use fit_gas::{Assembly, owned};
 use std::alloc::AllocError;
 
@@ -15,7 +13,6 @@ pub enum Obstacle {
     Named(Naming, usize),
     /// There are more of something than there may be.
     TooMany(&'static str, u64),
-    CallThroughPointer,
     JumpThroughPointer,
 }
 
@@ -70,7 +67,6 @@ impl Stops {
                     Reason::Named(naming, name)
                 }
                 Obstacle::TooMany(what, most) => Reason::TooMany { what, most },
-                Obstacle::CallThroughPointer => Reason::Unreadable(CALL_THROUGH_POINTER),
                 Obstacle::JumpThroughPointer => Reason::Unreadable(JUMP_THROUGH_POINTER),
             };
             fault = Some(Fault::new(line, reason));

@@ -6,7 +6,7 @@ use fit_code::{Block, Function, Heap, Program, SourceLine, Step};
 use fit_graph::{effects_of, read_at_end, return_from, run_to_call};
 use fit_ranges::{Origin, Ranges, Trace, end_of, origin_of, trace_of};
 use sbx_domain::State;
-use sbx_range::{Range, excludes_zero, range_of_address};
+use sbx_range::{Cell, Range, excludes_zero, range_of_address};
 pub use shifted::{live_behind, shorten_steps};
 use std::alloc::{AllocError, Global};
 use v8_formats::{Instr, Operand, Reg};
@@ -169,24 +169,44 @@ impl Asking<'_> {
         lack
     }
 
-    /// Asks a block of a function of so many results, from its beginning to its end, if control comes to it.
+    /// Begins a block of a function, by what is known there where that is given, else by the ranges. Says whether
+    /// control comes there.
+    fn begin(
+        &self,
+        (function, block): (usize, usize),
+        cells: Option<&[Cell]>,
+        state: &mut State,
+    ) -> bool {
+        match cells {
+            Some(cells) => {
+                state.start(cells);
+                true
+            }
+            None => self
+                .ranges
+                .begin_block(self.program, function, block, state),
+        }
+    }
+
+    /// Asks a block of a function of so many results, from its beginning to its end, if control comes to it. Where
+    /// something else is known of its beginning than the ranges have, these are the cells.
     fn ask_block(
         &self,
         (function, code, count): (usize, &Function, u8),
-        (number, block): (usize, &Block),
+        (number, block, cells): (usize, &Block, Option<&[Cell]>),
         state: &mut State,
         asks: &mut Vec<Ask>,
         memory: &mut Heap,
     ) {
-        let (program, ranges, frame) = (self.program, self.ranges, code.frame);
-        if !ranges.begin_block(program, function, number, state) {
+        let (ranges, frame) = (self.ranges, code.frame);
+        if !self.begin((function, number), cells, state) {
             return;
         }
         let Ok(trace) = trace_of(self.alloc, frame, ranges.results(), block, state) else {
             memory.is_refused = true;
             return;
         };
-        ranges.begin_block(program, function, number, state);
+        self.begin((function, number), cells, state);
         let steps = block.steps.as_slice();
         for place in 0..steps.len().saturating_add(1) {
             let mut line = block.line;
@@ -223,9 +243,33 @@ pub fn asks_of(
     if function < functions.len() && function < results.len() {
         let count = results[function].len().min(6) as u8;
         let code = (function, &functions[function], count);
-        for block in functions[function].blocks.as_slice().iter().enumerate() {
+        let blocks = functions[function].blocks.as_slice();
+        for number in 0..blocks.len() {
+            let block = (number, &blocks[number], None);
             asking.ask_block(code, block, state, &mut asks, &mut memory);
         }
+    }
+    memory.told(asks)
+}
+
+/// What isn't shown of a function's block, where this is known of its beginning.
+pub fn asks_behind(
+    asking: &Asking,
+    (function, number): (usize, usize),
+    cells: &[Cell],
+    state: &mut State,
+) -> Result<Vec<Ask>, AllocError> {
+    let mut asks = Vec::new(asking.alloc);
+    let mut memory = Heap::new(asking.alloc);
+    let (functions, results) = (asking.program.functions.as_slice(), asking.ranges.results());
+    if function < functions.len()
+        && function < results.len()
+        && number < functions[function].blocks.len()
+    {
+        let count = results[function].len().min(6) as u8;
+        let code = (function, &functions[function], count);
+        let block = (number, &functions[function].blocks[number], Some(cells));
+        asking.ask_block(code, block, state, &mut asks, &mut memory);
     }
     memory.told(asks)
 }

@@ -1,9 +1,12 @@
 //! Tests put into a program until nothing is left that isn't shown: a compare, and a branch to an end of the run whose
 //! exit word tells kind and line. Nothing rests on them, since the verifier asks all again.
-use crate::asks::{Ask, Asking, NotShown, UnshownAccess, asks_of, live_behind, shorten_steps};
+mod sweeping;
+
+use crate::asks::{Ask, NotShown, UnshownAccess, live_behind, shorten_steps};
 use crate::cuts::{
-    CODES, SCRATCH, Y, copy_block, drop_compare, in_use, insert_instr, number_in, push_block,
-    register, set_codes_again,
+    CODES, SCRATCH, Y, copy_block, drop_compare, in_use, insert_instr, keep_carry, move_reader,
+    move_writer, number_in, push_block, push_instrs, register, set_codes_again, shared_end,
+    spare_register,
 };
 use crate::forms::check_forms;
 use crate::plans::{SUM, Test, TestKind, TestPlan, TestWay, plan_of, subtracting, take_division};
@@ -30,34 +33,63 @@ const ROUNDS: u32 = 1_000;
 
 const DROPS: u32 = 4;
 
+/// In so many first rounds what another test may show is answered only where nothing else is to be answered, and in the
+/// first of them once in a loop.
+const PATIENT: u32 = 12;
+
+const ONCE_IN_LOOPS: u32 = 3;
+
+/// What is answered in a round of what isn't shown.
+#[derive(Clone, Copy)]
+pub(crate) enum Answered {
+    /// What no test of another word may show: that isn't of a word that comes round a loop.
+    Certain,
+    /// All that, and of words that come round a loop one.
+    OneInLoop,
+    /// All that, and one of each register and object.
+    OneOfWord,
+    All,
+}
+
+/// What is answered in a round where nothing certain is to be answered.
+fn answered_in(round: u32) -> Answered {
+    if round < ONCE_IN_LOOPS {
+        Answered::OneInLoop
+    } else if round < PATIENT {
+        Answered::OneOfWord
+    } else {
+        Answered::All
+    }
+}
+
 /// The tests of a program.
 #[derive(Drop)]
-struct Tests {
-    by_object: bool,
+pub(crate) struct Tests {
+    pub(crate) by_object: bool,
     /// How often tests that aren't needed may be taken out yet.
     drops: u32,
     list: Vec<Test>,
     /// The functions with words that are meant but for their high bits, by their numbers.
-    wrapping: Vec<usize>,
+    pub(crate) wrapping: Vec<usize>,
+    pub(crate) answered: Answered,
     /// Blocks that were changed since the ranges were found, by the number of their function and their own.
-    changed: Vec<(usize, usize)>,
+    pub(crate) changed: Vec<(usize, usize)>,
     /// Whether memory was refused for tests that were put in since it was asked.
-    memory: Heap,
+    pub(crate) memory: Heap,
     /// What was answered last, and why that can't be tested, if it can't.
-    asked: Option<Ask>,
-    refused: Answer,
+    pub(crate) asked: Option<Ask>,
+    pub(crate) refused: Answer,
 }
 
 /// Nothing, where a test, or what has to come before it, is put in; else why something can't be tested.
-type Answer = Result<(), &'static str>;
-
-/// The register that is tested by, and the object in which an access has to lie, if one is known.
-type Key = (u8, Option<usize>);
+pub(crate) type Answer = Result<(), &'static str>;
 
 /// What is told of a register that the callee of a call leaves alone, and whose word before the call may be asked for
 /// behind it.
-const LOST_BY_CALL: &str =
+pub(crate) const LOST_BY_CALL: &str =
     "a register is read that a call has left undefined: compile with -fno-ipa-ra";
+
+const NO_PLACE: &str = "no place for a test: codes, Y or scratch registers are in use";
 
 /// The register of the exit word, %o0.
 const EXIT_WORD: u8 = 8;
@@ -76,6 +108,33 @@ fn place_of_test(frame: u32, block: &Block, plan: &TestPlan) -> Option<usize> {
         }
     }
     None
+}
+
+/// Takes a step towards codes and Y that aren't in use at a place of a block with a number, where a test is to stand.
+/// Tells why there can't be such.
+fn make_place(
+    memory: &mut Heap,
+    frame: u32,
+    blocks: &mut [Block],
+    (number, place): (usize, usize),
+) -> Answer {
+    let spare = spare_register(memory, &*blocks, number);
+    if number < blocks.len() {
+        let block = &mut blocks[number];
+        let used = in_use(frame, block, place);
+        let is_free = used & Y != 0
+            && (move_reader(frame, block, place, Y) || move_writer(frame, block, place));
+        if !is_free & (used & CODES == 0) {
+            return Err(NO_PLACE);
+        }
+        let is_made = is_free
+            || move_reader(frame, block, place, CODES)
+            || keep_carry(memory, frame, block, place, spare);
+        if !is_made {
+            return set_codes_again(memory, frame, block, spare);
+        }
+    }
+    Ok(())
 }
 
 /// Where a test goes that stands at a place, if an address doesn't lie within its bounds. That is the test of a load
@@ -109,6 +168,10 @@ fn push_second(
     push_block(memory, blocks, &[give_back], (behind, None), first.line);
     let mut second = Test { rest, ..*first };
     second.plan.way = way;
+    if !first.is_joint() {
+        // that its low bits are 0 the first one has seen
+        second.plan.alignment = 0;
+    }
     second.push_blocks(memory, blocks, first.exit);
     head
 }
@@ -131,8 +194,8 @@ fn join_address(blocks: &mut [Block], ask: &Ask, access: &UnshownAccess) -> Opti
     None
 }
 
-/// The block where the run ends if a test of a kind fails: tests of one kind in one line of a function have one, while
-/// one of them stands.
+/// The block where the run ends if a test of a kind fails: that of all tests of addresses in a function; of tests of
+/// divisors, which may have no register to tell the line by, those in one line have one, while one of them stands.
 fn exit_of(
     memory: &mut Heap,
     blocks: &mut Vec<Block>,
@@ -140,12 +203,17 @@ fn exit_of(
     ask: &Ask,
     kind: TestKind,
 ) -> usize {
+    let is_divisor = matches!(kind, TestKind::Divisor);
     let mut exit = blocks.len();
     for test in tests {
-        let is_there = (test.function == ask.function) & (test.line == ask.line);
-        if is_there & (test.plan.kind as i32 == kind as i32) {
+        let is_alike = matches!(test.plan.kind, TestKind::Divisor) == is_divisor;
+        let is_there = (test.function == ask.function) & is_alike;
+        if is_there & (!is_divisor | (test.line == ask.line)) {
             exit = test.exit;
         }
+    }
+    if (exit == blocks.len()) & !is_divisor {
+        return shared_end(memory, blocks, ask.line);
     }
     if exit == blocks.len() {
         let word = number_in(EXIT_WORD, kind.exit_word(ask.line));
@@ -181,13 +249,12 @@ impl Tests {
         if number >= blocks.len() {
             return Ok(());
         }
-        let block = &mut blocks[number];
-        let Some(mut place) = place_of_test(frame, block, plan) else {
-            return set_codes_again(memory, frame, block);
+        let Some(mut place) = place_of_test(frame, &blocks[number], plan) else {
+            return make_place(memory, frame, blocks.as_mut_slice(), (number, plan.last));
         };
         let mut division = None;
         if matches!(plan.kind, TestKind::Divisor) {
-            division = Some(take_division(memory, block, frame, place)?);
+            division = Some(take_division(memory, &mut blocks[number], frame, place)?);
             place = place.saturating_sub(1);
         }
         let mut test = Test {
@@ -213,32 +280,13 @@ impl Tests {
         Ok(())
     }
 
-    /// Answers one ask, unless its block is changed already, or its register and object are among those of which the
-    /// function has a test in this round, to which they are added. Tells why it can't be answered, if it can't.
-    fn answer(&mut self, program: &mut Program, ask: &Ask, keys: &mut Vec<Key>) -> Answer {
+    /// Answers one ask. Tells why it can't be answered, if it can't.
+    pub(crate) fn answer(&mut self, program: &mut Program, ask: &Ask) -> Answer {
         let plan = plan_of(program, ask);
         if ask.function >= program.functions.len() {
             return Ok(());
         }
-        // what is undefined else is 0 already
-        if let NotShown::Defined(_) | NotShown::Given(_) = ask.lack {
-            return Err(LOST_BY_CALL);
-        }
         let blocks = &mut program.functions[ask.function].blocks;
-        let at = (ask.function, ask.block);
-        if self.changed.contains(&at) {
-            return Ok(());
-        }
-        if let NotShown::Placed(_) = ask.lack
-            && let Some(plan) = &plan
-        {
-            let key = (plan.register, plan.bounds.object);
-            if keys.contains(&key) {
-                return Ok(());
-            }
-            self.memory.push(keys, key);
-        }
-        self.memory.push(&mut self.changed, at);
         let instr = match (&ask.lack, &plan) {
             (_, Some(plan)) => return self.put_test(blocks, ask, plan),
             (NotShown::Divisible(..), None) => return Err("a division by 0"),
@@ -251,35 +299,6 @@ impl Tests {
         let place = (ask.block, ask.place);
         insert_instr(&mut self.memory, blocks, place, instr, ask.line);
         Ok(())
-    }
-
-    /// Answers what isn't shown of a function, once in each of its blocks, and once for each register and object, up to
-    /// what can't be answered.
-    fn answer_function(
-        &mut self,
-        program: &mut Program,
-        ranges: &Ranges,
-        function: usize,
-        state: &mut State,
-    ) {
-        let asking = Asking {
-            alloc: self.memory.alloc,
-            program,
-            ranges,
-            by_object: self.by_object,
-            wraps: self.wrapping.contains(&function),
-        };
-        let Ok(asks) = asks_of(&asking, function, state) else {
-            self.memory.is_refused = true;
-            return;
-        };
-        let mut keys = Vec::new(self.memory.alloc);
-        for ask in asks.as_slice() {
-            if self.refused.is_ok() {
-                self.asked = Some(*ask);
-                self.refused = self.answer(program, ask, &mut keys);
-            }
-        }
     }
 
     /// Defines what may be undefined, before something is asked of it.
@@ -335,6 +354,7 @@ impl Tests {
                     if test.head < blocks.len() {
                         let block = &mut blocks[test.head];
                         block.steps.clear();
+                        block.slot = None;
                         block.end = End::Jump(test.rest);
                     }
                 }
@@ -354,6 +374,12 @@ impl Tests {
             {
                 block.end = End::Jump(if first { taken } else { next });
                 drop_compare(block);
+                // what a test tells an end is told by a step where there is no other way
+                let (slot, line) = (block.slot, block.line);
+                block.slot = None;
+                if first {
+                    push_instrs(&mut self.memory, &mut block.steps, &[slot], line);
+                }
                 self.memory.push(&mut self.changed, (function, number));
             }
         }
@@ -380,12 +406,19 @@ impl Tests {
         ranges: &mut Ranges,
         state: &mut State,
     ) -> Result<(), Fault> {
-        for _ in 0..ROUNDS {
+        for round in 0..ROUNDS {
             if !self.changed.is_empty() {
                 ranges.renew(program, self.changed.as_slice(), state)?;
                 self.changed.clear();
             }
-            self.round(program, ranges, false, state);
+            if round < PATIENT {
+                self.answered = Answered::Certain;
+                self.round(program, ranges, false, state);
+            }
+            if self.changed.is_empty() {
+                self.answered = answered_in(round);
+                self.round(program, ranges, false, state);
+            }
             if self.changed.is_empty() && self.drops > 0 {
                 self.drops -= 1;
                 self.drop_needless(program, ranges);
@@ -413,7 +446,8 @@ impl Tests {
             return ranges.check_limits(program);
         }
         let (what, most) = ("rounds of tests", u64::from(ROUNDS));
-        Err(Fault::new(NO_LINE, Reason::TooMany { what, most }))
+        let line = self.asked.as_ref().map_or(NO_LINE, |ask| ask.line);
+        Err(Fault::new(line, Reason::TooMany { what, most }))
     }
 }
 
@@ -431,6 +465,7 @@ pub fn add_tests(
         drops: if options.drops { DROPS } else { 0 },
         list: Vec::new(alloc),
         wrapping: Vec::new(alloc),
+        answered: Answered::Certain,
         changed: Vec::new(alloc),
         memory: Heap::new(alloc),
         asked: None,

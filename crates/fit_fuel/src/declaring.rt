@@ -7,6 +7,7 @@ mod terms;
 use crate::bounds::{LoopBounds, bounds_of};
 use crate::declaring::dearest::dearest_loop;
 use crate::declaring::limits::check_limits;
+pub use crate::declaring::limits::is_of_blocks;
 use crate::declaring::metering::set_weights;
 use crate::declaring::terms::find_fuel;
 use crate::meter::{Meter, places_of};

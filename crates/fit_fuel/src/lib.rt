@@ -10,7 +10,7 @@ mod totals;
 mod ways;
 
 pub use bounds::{LoopBounds, bounds_of};
-pub use declaring::{declare, declare_function, refused};
-pub use meter::{Meter, counting, number_in};
+pub use declaring::{declare, declare_function, is_of_blocks, refused};
+pub use meter::{Meter, counting, counting_step, number_in};
 pub use task::Task;
 pub use totals::{CallTotal, total_of};

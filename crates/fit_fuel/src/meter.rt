@@ -65,22 +65,43 @@ pub fn counting(meter: &Meter, weight: u32) -> [Option<Instr>; 3] {
     [number[0], number[1], Some(count)]
 }
 
+/// The place among a block's steps of the one that counts a register down, if its branch goes to an end of the run
+/// where that is below 0 then, and the step's fields: the last one, or the one before what tells the end the line.
+pub fn counting_step(block: &Block) -> Option<(usize, Three)> {
+    let End::Branch {
+        cond: Cond::Negative,
+        ..
+    } = block.end
+    else {
+        return None;
+    };
+    let steps = block.steps.as_slice();
+    let mut count = steps.len();
+    if let Some(last) = steps.last()
+        && let Instr::Sethi(_) = last.instr
+    {
+        count = count.saturating_sub(1);
+    }
+    let place = count.saturating_sub(1);
+    if place < steps.len()
+        && let Instr::SubCc(fields) = steps[place].instr
+    {
+        return Some((place, fields));
+    }
+    None
+}
+
 /// What each block of a function takes that is a place of the meter where no weight was set yet: it counts down, and
 /// control leaves where the count is below 0. 0 of the others.
 pub fn places_of(memory: &mut Heap, meter: &Meter, function: &Function) -> Vec<u32> {
     let mut places = Vec::new(memory.alloc);
     for block in function.blocks.as_slice() {
         let mut taken = 0;
-        if let End::Branch {
-            cond: Cond::Negative,
-            ..
-        } = block.end
-            && let Some(last) = block.steps.last()
-            && let Instr::SubCc(fields) = last.instr
+        if let Some((_place, fields)) = counting_step(block)
             && let Operand::Immediate(weight) = fields.operand2
             && (fields.rd == meter.register)
                 & (fields.rs1 == meter.register)
-                & (block.slot.is_some() == meter.has_word())
+                & (block.slot.is_some() | !meter.has_word())
         {
             taken = weight;
         }
@@ -89,10 +110,29 @@ pub fn places_of(memory: &mut Heap, meter: &Meter, function: &Function) -> Vec<u
     places
 }
 
+/// How many steps of a place stand before those that count down: what loads the count from a word is the last of them.
+fn steps_before(meter: &Meter, steps: &[Step]) -> usize {
+    let mut count: usize = 0;
+    for place in 0..steps.len() {
+        if let Instr::Load(_) = steps[place].instr
+            && meter.has_word()
+        {
+            count = place.saturating_add(1);
+        }
+    }
+    count
+}
+
 /// Lets a place take another weight from now on.
 pub fn set_weight(meter: &Meter, block: &mut Block, weight: u32, memory: &mut Heap) {
-    // before what counts down stands at most what loads the count
-    block.steps.truncate(usize::from(meter.has_word()));
+    let mut behind = None;
+    if let Some((place, _fields)) = counting_step(block)
+        && place.saturating_add(1) < block.steps.len()
+    {
+        behind = block.steps.as_slice().last().copied();
+    }
+    let count = steps_before(meter, block.steps.as_slice());
+    block.steps.truncate(count);
     for instr in &counting(meter, weight) {
         if let Some(instr) = *instr {
             let step = Step {
@@ -104,5 +144,8 @@ pub fn set_weight(meter: &Meter, block: &mut Block, weight: u32, memory: &mut He
             };
             memory.push(&mut block.steps, step);
         }
+    }
+    if let Some(step) = behind {
+        memory.push(&mut block.steps, step);
     }
 }

@@ -2,7 +2,7 @@
 use crate::source::{AddressPart, Assembly, CodeItem, Reference};
 use crate::text::{expression_of, first_operand, place_of, word_of};
 use arrayvec::ArrayVec;
-use fit_code::{CALL_THROUGH_POINTER, Heap, Naming};
+use fit_code::{Heap, Naming};
 use sbx_text::{TextFault, tokens};
 use v8_formats::{Instr, encode};
 use v8_syntax::{Symbols, SyntaxFault, beside, bytes_between, is_same, parse_instr};
@@ -196,7 +196,8 @@ impl Assembly {
         }
         let is_call = is_same(word, b"call");
         if is_call & text.starts_with(b"%") {
-            return self.refuse(CALL_THROUGH_POINTER);
+            let (pointer, _) = first_operand(text);
+            return self.statement(word, &[b"jmpl ", pointer, b",%o7"], None, 0);
         }
         if is_call | (word.starts_with(b"b") & !is_plain) {
             let (inner, _) = first_operand(text);

@@ -5,8 +5,10 @@ mod run;
 mod shape;
 mod thresholds;
 
-use fit_code::hull;
+use crate::live::LocationSet;
+use fit_code::{Heap, hull};
 pub use run::{enter, go_along, return_from, run_step, run_to_call};
+use sbx_domain::State;
 use sbx_range::{Cell, Range};
 pub use shape::FunctionShape;
 pub use thresholds::{Growth, Thresholds, thresholds_of};
@@ -21,14 +23,57 @@ pub fn range_in(cells: &[Cell], location: u16) -> Option<Range> {
     None
 }
 
+/// The place of the first of cells that stand by location, from a place on, whose location isn't below one.
+fn place_from(cells: &[Cell], first: usize, location: u16) -> usize {
+    let mut place = first;
+    for at in first..cells.len() {
+        if cells[at].location >= location {
+            break;
+        }
+        place = at.saturating_add(1);
+    }
+    place
+}
+
+/// The range of a location among cells that stand by location, looked for from a place on, which goes on with it: for
+/// who asks for one location after the other.
+pub fn range_from(cells: &[Cell], place: &mut usize, location: u16) -> Option<Range> {
+    let at = place_from(cells, *place, location);
+    *place = at;
+    if at < cells.len() && cells[at].location == location {
+        return Some(cells[at].range);
+    }
+    None
+}
+
+/// What a state knows of locations of a function with a frame of so many bytes, by location.
+pub fn cells_of(memory: &mut Heap, frame: u32, asked: &LocationSet, state: &State) -> Vec<Cell> {
+    let mut cells = Vec::new(memory.alloc);
+    // word k of the frame, at 64 + 4 k bytes of it, is location 32 + k
+    let end = (32 + frame.min(4_096) / 4) as u16;
+    let mut next: u16 = 1;
+    for _ in 1..end {
+        let location = match asked.first_from(next) {
+            Some(location) if location < end => location,
+            _ => break,
+        };
+        if let Some(range) = state.range(location) {
+            memory.push(&mut cells, Cell { location, range });
+        }
+        next = location.saturating_add(1);
+    }
+    cells
+}
+
 /// Leaves of cells what they have in common with others, where the ranges of the first ones grow so. Both stand by
 /// location.
 pub fn join(growth: Growth, cells: &mut Vec<Cell>, others: &[Cell]) {
     let slots = cells.as_mut_slice();
     let mut count: usize = 0;
+    let mut among: usize = 0;
     for place in 0..slots.len() {
         let Cell { location, range } = slots[place];
-        if let Some(other) = range_in(others, location)
+        if let Some(other) = range_from(others, &mut among, location)
             && count < slots.len()
         {
             let mut both = hull(range, other);

@@ -1,15 +1,20 @@
 //! Frames. Words that are only spilled stay in the frame; where an address in it is taken, or other sizes are, the
-//! frame's memory goes to the data, since nothing recurses.
-use crate::arguments::{BYTES, ReachedPlace, argument_of, in_object, scratch};
+//! frame's memory goes to the data. That of a function that may be called again before it returns goes to the soft
+//! stack.
+use crate::arguments::{
+    BYTES, Callees, ReachedPlace, argument_of, in_object, scratch, with_operands,
+};
 use crate::places::{
     FRAME, SAVE_AREA, STACK, STACK_POINTER, address_made, by_scratch, place_accessed, word_place,
     word_step,
 };
 use fit_blocks::{Layout, Stops, operands_read, registers_of, signed};
-use fit_code::{Block, End, Function, Step};
-use fit_gas::owned;
-use v8_formats::{Instr, Operand};
+use fit_code::{Block, End, Function, Heap, Step};
+use fit_gas::{owned, word_of};
+use v8_formats::{Instr, Operand, Three, Upper};
 use v8_word::Reg;
+
+const UNKNOWN_FORM: &str = "the address of its frame in a form that isn't known";
 
 const UNKNOWN_SIZE: &str = "an array of a size that isn't constant";
 
@@ -19,12 +24,22 @@ const MOST: i64 = 262_144;
 /// How the steps of a function are put otherwise.
 #[derive(Clone, Copy)]
 enum FrameWay {
-    /// Accesses to arguments in memory, of the function of a number in the source.
-    Arguments(usize),
+    /// Accesses to arguments in memory, of the function of a number in the source, which takes so much room from %sp
+    /// without a window.
+    Arguments(usize, u32),
     /// Those that spill words to a frame of so many bytes, by %sp.
     Spills(u32),
     /// Those that use a frame of so many bytes, with the object of a number in its place.
     Object(usize, u32),
+    /// Those that use a frame of so many bytes, on the soft stack.
+    Soft(u32),
+}
+
+/// The functions whose frames lie on the soft stack, and what points into it.
+#[derive(Clone, Copy)]
+pub struct SoftFrames<'s> {
+    pub register: Reg,
+    pub callees: Callees<'s>,
 }
 
 /// The register next to an even one.
@@ -73,8 +88,71 @@ fn reached(step: &Step, object: usize, size: u32) -> Result<Option<ReachedPlace>
     } else if let Some((base, moved)) = by_scratch(step, object, size) {
         Ok(Some((object, base, Some(scratch()), Some(moved))))
     } else {
-        Err("the address of its frame in a form that isn't known")
+        Err(UNKNOWN_FORM)
     }
+}
+
+/// Pushes a step of a function whose frame of some size lies on the soft stack, into which a register points; says
+/// whether it is of a form that is known.
+fn push_softened(
+    memory: &mut Heap,
+    steps: &mut Vec<Step>,
+    step: &Step,
+    register: Reg,
+    size: u32,
+) -> bool {
+    if !uses_frame(step) {
+        memory.push(steps, *step);
+    } else if let Some((_, place)) = place_accessed(&step.instr, size) {
+        let operand2 = push_offset(memory, steps, step, place);
+        let instr = with_operands(&step.instr, register, operand2);
+        memory.push(steps, Step { instr, ..*step });
+    } else if let Some((place, rd)) = address_made(&step.instr, size) {
+        push_address(memory, steps, step, (rd, register, place));
+    } else if let Some((base, moved)) = by_scratch(step, 0, size) {
+        push_address(memory, steps, step, (scratch(), register, base));
+        memory.push(
+            steps,
+            Step {
+                object: None,
+                ..moved
+            },
+        );
+    } else {
+        return false;
+    }
+    true
+}
+
+/// The operand that is a number; a great one is put into the scratch register first.
+fn push_offset(memory: &mut Heap, steps: &mut Vec<Step>, step: &Step, number: i64) -> Operand {
+    if (-4096 <= number) & (number <= 4095) {
+        return Operand::Immediate(word_of(number));
+    }
+    let rd = scratch();
+    let imm22 = word_of(number) >> 10;
+    let instr = Instr::Sethi(Upper { rd, imm22 });
+    memory.push(steps, Step { instr, ..*step });
+    let operand2 = Operand::Immediate(word_of(number) & 0x3ff);
+    let instr = Instr::Or(Three {
+        rd,
+        rs1: rd,
+        operand2,
+    });
+    memory.push(steps, Step { instr, ..*step });
+    Operand::Register(rd)
+}
+
+/// Pushes what leaves in a register the word of another one and a number.
+fn push_address(
+    memory: &mut Heap,
+    steps: &mut Vec<Step>,
+    step: &Step,
+    (rd, rs1, number): (Reg, Reg, i64),
+) {
+    let operand2 = push_offset(memory, steps, step, number);
+    let instr = Instr::Add(Three { rd, rs1, operand2 });
+    memory.push(steps, Step { instr, ..*step });
 }
 
 /// Whether a step takes room from %sp, in a function that has no window.
@@ -117,9 +195,17 @@ fn push_placed(
     (framed, way): (bool, FrameWay),
     at: (usize, usize),
     step: &Step,
+    soft: &SoftFrames,
 ) {
     let found = match way {
+        FrameWay::Arguments(_, _) if takes_room(framed, step) => Ok(None),
         _ if takes_room(framed, step) => return,
+        FrameWay::Soft(size) => {
+            if !push_softened(&mut layout.stops.memory, steps, step, soft.register, size) {
+                layout.stops.form(step.line, UNKNOWN_FORM);
+            }
+            return;
+        }
         FrameWay::Spills(size) => {
             let (first, second) = spilled(step, size);
             layout.stops.memory.push(steps, first);
@@ -129,12 +215,23 @@ fn push_placed(
             return;
         }
         FrameWay::Object(object, size) => reached(step, object, size),
-        FrameWay::Arguments(number) => argument_of(blocks, framed, number, at, step),
+        FrameWay::Arguments(number, room) => {
+            let memory = &mut layout.stops.memory;
+            argument_of(
+                memory,
+                blocks,
+                (framed, room),
+                number,
+                at,
+                step,
+                soft.callees,
+            )
+        }
     };
     match found {
         Ok(Some((whose, offset, made, moved))) => {
             let object = match way {
-                FrameWay::Arguments(_) => layout.arguments_of(whose, BYTES, step.line),
+                FrameWay::Arguments(_, _) => layout.arguments_of(whose, BYTES, step.line),
                 _ => whose,
             };
             let address = layout.address(object, offset);
@@ -152,7 +249,7 @@ fn push_placed(
 }
 
 /// Puts the steps of a function otherwise.
-fn place_steps(layout: &mut Layout, function: &mut Function, way: FrameWay) {
+fn place_steps(layout: &mut Layout, function: &mut Function, way: FrameWay, soft: &SoftFrames) {
     let framed = function.framed;
     for number in 0..function.blocks.len() {
         let mut steps = Vec::new(layout.stops.memory.alloc);
@@ -160,7 +257,7 @@ fn place_steps(layout: &mut Layout, function: &mut Function, way: FrameWay) {
         if number < blocks.len() {
             for (place, step) in blocks[number].steps.as_slice().iter().enumerate() {
                 let at = (number, place);
-                push_placed(layout, &mut steps, blocks, (framed, way), at, step);
+                push_placed(layout, &mut steps, blocks, (framed, way), at, step, soft);
             }
         }
         let blocks = function.blocks.as_mut_slice();
@@ -195,29 +292,62 @@ fn room_of(stops: &mut Stops, function: &Function) -> Option<u32> {
     }
 }
 
+/// The object in the data for a frame of so many bytes.
+fn frame_object(layout: &mut Layout, function: &Function, size: u32) -> FrameWay {
+    let mut name = owned(&mut layout.stops.memory, "frame of ");
+    let pushed = name.push_str(function.name.as_str());
+    layout.stops.memory.take(pushed);
+    let object = layout.add(name, 8, &[], size as usize, function.line);
+    FrameWay::Object(object, size)
+}
+
 /// Puts a function's frame in order, by its number in the source: steps that only spill words by %sp, else an object in
-/// the data in its place. Before that, where it takes no room of its own from %sp, what it does with arguments in
-/// memory. These are faults: an array whose size isn't constant; an argument that is stored, and a branch before the
-/// next call; an address in the frame in a form that isn't known; an access outside of it.
-pub fn place_frame(layout: &mut Layout, function: &mut Function, number: usize) {
+/// the data in its place, or the soft stack. Before that, what it does with arguments in memory. Gives the bytes that it
+/// has on the soft stack. These are faults: an array whose size isn't constant; an argument that is stored for more
+/// functions than one; an address in the frame in a form that isn't known; an access outside of it.
+pub fn place_frame(
+    layout: &mut Layout,
+    function: &mut Function,
+    number: usize,
+    soft: &SoftFrames,
+) -> u32 {
     let room = room_of(&mut layout.stops, function);
-    if room.is_none() {
-        place_steps(layout, function, FrameWay::Arguments(number));
-    }
+    let arguments = FrameWay::Arguments(number, room.unwrap_or(0));
+    place_steps(layout, function, arguments, soft);
     let size = room.unwrap_or(function.frame);
     let (is_used, is_more) = use_of(&mut layout.stops, function, size);
-    let stays = is_used & !is_more & function.framed & (size % 8 == 0) & (size <= FRAME);
-    let way = if stays | !is_used {
+    let is_soft = soft.callees.is_soft(number);
+    let stays = is_used & !is_more & function.framed & (size % 8 == 0) & (size <= FRAME) & !is_soft;
+    let way = if is_soft {
+        FrameWay::Soft(size)
+    } else if stays | !is_used {
         FrameWay::Spills(size)
     } else {
-        let mut name = owned(&mut layout.stops.memory, "frame of ");
-        let pushed = name.push_str(function.name.as_str());
-        layout.stops.memory.take(pushed);
-        let object = layout.add(name, 8, &[], size as usize, function.line);
-        FrameWay::Object(object, size)
+        frame_object(layout, function, size)
     };
-    place_steps(layout, function, way);
+    place_steps(layout, function, way, soft);
     if function.framed & !stays {
+        function.frame = SAVE_AREA;
+    }
+    if is_soft {
+        size.saturating_add(7) & !7
+    } else {
+        0
+    }
+}
+
+/// Puts an object in the data in the place of what a function still has in its frame.
+pub fn empty_frame(layout: &mut Layout, function: &mut Function) {
+    if function.framed & (function.frame > SAVE_AREA) {
+        let way = frame_object(layout, function, function.frame);
+        let none = SoftFrames {
+            register: Reg::G0,
+            callees: Callees {
+                are_soft: &[],
+                bytes: &[],
+            },
+        };
+        place_steps(layout, function, way, &none);
         function.frame = SAVE_AREA;
     }
 }

@@ -7,5 +7,6 @@ mod endless;
 mod frames;
 mod places;
 mod programs;
+mod ways;
 
-pub use programs::program_of;
+pub use programs::{JoinPlan, Legal, program_of};

@@ -6,4 +6,4 @@ mod metering;
 mod passes;
 mod placing;
 
-pub use passes::{Fault, FitPlan, Made, Reason, make};
+pub use passes::{Fault, FitPlan, Made, Reason, Refusal, make};

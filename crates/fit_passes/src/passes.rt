@@ -3,12 +3,13 @@ use crate::metering::insert_meter;
 use crate::placing::{fill, place};
 use fit_checks::{Test, TestOptions, add_tests};
 pub use fit_code::{Fault, Reason};
-use fit_code::{Function, Heap, NO_LINE, Program};
-use fit_fuel::{Meter, bounds_of, declare, refused};
+use fit_code::{Function, Heap, NO_LINE, Program, SourceLine};
+use fit_fuel::{LoopBounds, Meter, bounds_of, declare, is_of_blocks, refused};
 use fit_ranges::Ranges;
 use fit_text::source_of;
 use sbx_domain::State;
 use std::alloc::{AllocError, Global};
+use v8_formats::Reg;
 
 /// A loop of main has no place of the meter where a counter bounds it by so many rounds: they are paid for where it
 /// begins.
@@ -35,6 +36,9 @@ pub struct FitPlan {
     pub by_object: bool,
     /// Whether loops that a counter bounds go without the meter.
     pub has_bounds: bool,
+    /// What points into a stack in the data, if main's calls have their frames there. It counts no loop: each call
+    /// would be paid for as if it went as deep as it may.
+    pub pointer: Option<Reg>,
 }
 
 /// A program as an annotated source.
@@ -61,6 +65,58 @@ fn share_out(shares: &mut [u64], function: &Function, turns: u64) {
     }
 }
 
+/// Leaves out the bounds that a location gives.
+fn forget_counter(bounds: &mut LoopBounds, location: u16) {
+    for bound in bounds.bounds.as_mut_slice() {
+        if let Some(found) = bound
+            && found.location == location
+        {
+            *bound = None;
+        }
+    }
+}
+
+/// What loops go without the meter.
+#[derive(Clone, Copy)]
+struct Unmetered {
+    /// Whether there are some.
+    are_there: bool,
+    /// The location of what points into a stack, which counts no loop; 0 where there is none.
+    pointer: u16,
+}
+
+/// The most rounds of a loop of a function that goes without the meter.
+fn most_rounds(unmetered: Unmetered, function: usize) -> u64 {
+    if !unmetered.are_there {
+        0
+    } else if function == 0 {
+        FEW
+    } else {
+        SOME
+    }
+}
+
+/// Gives a function a meter, if it has loops that none of these bounds holds. Its turns are its share; what it calls
+/// gets a share of them. Says whether it has what its meter needs.
+fn insert_one(
+    memory: &mut Heap,
+    program: &mut Program,
+    (number, unmetered): (usize, Unmetered),
+    bounds: &mut LoopBounds,
+    shares: &mut [u64],
+    meters: &mut Vec<Option<Meter>>,
+) -> bool {
+    if number >= program.functions.len() || number >= shares.len() {
+        return true;
+    }
+    forget_counter(bounds, unmetered.pointer);
+    bounds.limit(most_rounds(unmetered, number));
+    let function = &mut program.functions[number];
+    let turns = shares[number];
+    share_out(shares, function, turns);
+    insert_meter(memory, meters, function, turns, &*bounds)
+}
+
 /// Gives each function with loops that have no bound a meter, by the ranges of the program without meters, up to one
 /// that lacks what it needs. Its turns are those that the loops of the function may take in a call; functions call
 /// those of larger numbers alone.
@@ -73,36 +129,32 @@ fn insert_meters(
     state: &mut State,
 ) -> Result<(), Fault> {
     let mut memory = Heap::new(alloc);
-    let mut shares = memory.repeat(plan.turns, program.functions.len());
-    let shares = shares.as_mut_slice();
-    let mut lacking = None;
-    for number in 0..shares.len() {
-        let most = match (plan.has_bounds, number) {
-            (false, _) => 0,
-            (true, 0) => FEW,
-            (true, _) => SOME,
-        };
-        match bounds_of(alloc, program, ranges, number, state) {
-            Ok(mut bounds) if number < program.functions.len() && lacking.is_none() => {
-                bounds.limit(most);
-                let function = &mut program.functions[number];
-                let turns = shares[number];
-                share_out(shares, function, turns);
-                let is_there = insert_meter(&mut memory, meters, function, turns, &bounds);
-                lacking = (!is_there).then_some(number);
+    let count = program.functions.len();
+    let unmetered = Unmetered {
+        are_there: plan.has_bounds,
+        pointer: match plan.pointer {
+            Some(pointer) => u16::from(pointer.number()),
+            None => 0,
+        },
+    };
+    let mut given = memory.repeat(plan.turns, count);
+    let shares = given.as_mut_slice();
+    let mut lacking = count;
+    for number in 0..count {
+        if lacking == count {
+            let mut bounds = bounds_of(alloc, program, ranges, number, state)?;
+            let to = (number, unmetered);
+            if !insert_one(&mut memory, program, to, &mut bounds, shares, meters) {
+                lacking = number;
             }
-            Ok(_) => {}
-            Err(_error) => memory.is_refused = true,
         }
     }
     memory.told(())?;
-    match lacking {
-        Some(number) if number < program.functions.len() => {
-            let function = &program.functions[number];
-            Err(refused(function, function.line, NO_REGISTER))
-        }
-        _ => Ok(()),
+    if lacking < program.functions.len() {
+        let function = &program.functions[lacking];
+        return Err(refused(function, function.line, NO_REGISTER));
     }
+    Ok(())
 }
 
 /// Places the blocks of each function.
@@ -188,8 +240,37 @@ fn fit(
     write_source(alloc, program, tests, plan, ranges, meters, &mut state)
 }
 
+/// Why there is no source of a program, and the lines of its blocks, each as often as a block has it, where there are
+/// more blocks than there may be.
+#[derive(Drop)]
+pub struct Refusal {
+    pub fault: Fault,
+    pub lines: Vec<SourceLine>,
+}
+
+impl Refusal {
+    /// A fault alone.
+    pub fn of(alloc: Global, fault: Fault) -> Refusal {
+        Refusal {
+            fault,
+            lines: Vec::new(alloc),
+        }
+    }
+}
+
+/// The lines of a program's blocks.
+fn lines_of(memory: &mut Heap, program: &Program) -> Vec<SourceLine> {
+    let mut lines = Vec::new(memory.alloc);
+    for function in program.functions.as_slice() {
+        for block in function.blocks.as_slice() {
+            memory.push(&mut lines, block.line);
+        }
+    }
+    lines
+}
+
 /// Makes an annotated source of a program.
-pub fn make(alloc: Global, mut program: Program, plan: FitPlan) -> Result<Made, Fault> {
+pub fn make(alloc: Global, mut program: Program, plan: FitPlan) -> Result<Made, Refusal> {
     let mut tests = Vec::new(alloc);
     match fit(alloc, &mut program, &mut tests, plan) {
         Ok((text, budget)) => Ok(Made {
@@ -198,6 +279,14 @@ pub fn make(alloc: Global, mut program: Program, plan: FitPlan) -> Result<Made, 
             text,
             budget,
         }),
-        Err(fault) => Err(fault),
+        Err(fault) => {
+            let mut refusal = Refusal::of(alloc, fault);
+            if is_of_blocks(&refusal.fault) {
+                let mut memory = Heap::new(alloc);
+                // what memory is refused for isn't told
+                refusal.lines = lines_of(&mut memory, &program);
+            }
+            Err(refusal)
+        }
     }
 }

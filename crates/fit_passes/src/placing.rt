@@ -1,12 +1,15 @@
 //! Where blocks stand in a function, and what stands in delay slots.
 mod filling;
+mod merging;
 
+use crate::placing::merging::merge;
 pub use filling::fill;
 use fit_checks::{insert_instr, push_block};
 use fit_code::{Block, End, Function, Heap, opposite};
+use fit_fuel::counting_step;
 use fit_graph::Graph;
 use std::mem;
-use v8_formats::{Cond, Instr, Reg, Upper};
+use v8_formats::{Instr, Reg, Upper};
 
 /// Where control comes to from a block's beginning, past blocks that do nothing.
 fn through(blocks: &[Block], block: usize) -> usize {
@@ -56,17 +59,12 @@ fn number_of(numbers: &[Option<usize>], block: usize) -> Option<usize> {
 
 /// Whether a block counts a meter down, and ends the run where it is empty: what it goes on to is its next block then,
 /// by which it is known.
-fn counts_down(blocks: &[Block], at: usize) -> bool {
+pub(crate) fn counts_down(blocks: &[Block], at: usize) -> bool {
     if at < blocks.len()
-        && let End::Branch {
-            cond: Cond::Negative,
-            taken,
-            ..
-        } = blocks[at].end
+        && let Some((_place, fields)) = counting_step(&blocks[at])
+        && let End::Branch { taken, .. } = blocks[at].end
         && taken < blocks.len()
         && let End::Exit = blocks[taken].end
-        && let Some(last) = blocks[at].steps.last()
-        && let Instr::SubCc(fields) = last.instr
     {
         return fields.rd != Reg::G0;
     }
@@ -74,8 +72,8 @@ fn counts_down(blocks: &[Block], at: usize) -> bool {
 }
 
 /// Puts a block behind those that are placed, if it isn't one of them, and behind it what follows: the block that it
-/// goes on to, if that isn't placed. A branch whose next block stands elsewhere is turned, if it isn't a meter's; behind
-/// one both of whose blocks stand elsewhere comes a block that jumps to the next one.
+/// goes on to, if that isn't placed. A branch whose next block stands elsewhere is turned, if it isn't a meter's;
+/// behind one both of whose blocks stand elsewhere comes a block that jumps to the next one.
 fn follow(
     memory: &mut Heap,
     blocks: &mut [Block],
@@ -137,6 +135,12 @@ fn renumber(placed: &mut [Block], numbers: &[Option<usize>]) {
 /// it is no instruction. A leaf's first block has an instruction, also where it only goes on to the next block.
 pub fn place(memory: &mut Heap, function: &mut Function) {
     straighten(function.blocks.as_mut_slice());
+    let order = Graph::of(memory, function).order;
+    merge(
+        memory,
+        function.blocks.as_mut_slice(),
+        order.blocks.as_slice(),
+    );
     let order = Graph::of(memory, function).order;
     let blocks = function.blocks.as_mut_slice();
     let mut numbers = memory.repeat(None, blocks.len());

@@ -5,8 +5,8 @@ mod known;
 use crate::flow::known::{BlockRanges, replace, touched_in};
 use fit_code::{End, Function, Heap, hull};
 use fit_graph::{
-    FunctionShape, Growth, Means, Thresholds, enter, go_along, join, range_in, return_from,
-    run_step, run_to_call, successors_in,
+    FunctionShape, Growth, Means, Thresholds, cells_of, enter, go_along, join, range_in,
+    return_from, run_step, run_to_call, successors_in,
 };
 use sbx_domain::State;
 use sbx_range::{Cell, Range, all};
@@ -162,6 +162,11 @@ impl FunctionRanges {
             &[]
         };
         self.pending.blocks = memory.repeat(false, live.len());
+        for (function, block) in changed {
+            if *function == number {
+                self.pending.mark(*block);
+            }
+        }
         for block in 0..live.len() {
             if block >= self.blocks.len() {
                 memory.push(&mut self.blocks, BlockRanges::nothing());
@@ -169,7 +174,7 @@ impl FunctionRanges {
             let is_new = block >= live_before.len();
             let sources = at(shape.sources.as_slice(), block);
             let is_led_to = sources != at(sources_before, block);
-            if is_new | is_led_to | changed.contains(&(number, block)) {
+            if is_new | is_led_to {
                 self.pending.mark(block);
             }
             if is_new || live[block] != live_before[block] {
@@ -184,6 +189,16 @@ impl FunctionRanges {
     pub fn cells(&self, block: usize) -> Option<&[Cell]> {
         if block < self.blocks.len()
             && let Some(cells) = &self.blocks[block].cells
+        {
+            return Some(cells.as_slice());
+        }
+        None
+    }
+
+    /// What is known where a way of a block ends.
+    pub fn way_cells(&self, block: usize, way: usize) -> Option<&[Cell]> {
+        if block < self.blocks.len()
+            && let Some(cells) = &self.blocks[block].ways[way % 2]
         {
             return Some(cells.as_slice());
         }
@@ -236,20 +251,11 @@ impl FunctionRanges {
         if !self.run(setting.function, setting.results, (block, way), state) {
             return None;
         }
-        let mut cells = Vec::new(memory.alloc);
         let live = setting.shape.live.as_slice();
         if to < live.len() {
-            // Word k of the frame, at 64 + 4 k bytes of it, is location 32 + k.
-            let end = 32 + setting.function.frame.min(4_096) / 4;
-            for location in 1..end as u16 {
-                if live[to].has(location)
-                    && let Some(range) = state.range(location)
-                {
-                    memory.push(&mut cells, Cell { location, range });
-                }
-            }
+            return Some(cells_of(memory, setting.function.frame, &live[to], state));
         }
-        Some(cells)
+        Some(Vec::new(memory.alloc))
     }
 
     /// What the ways have in common that lead to a block from blocks before a place of the order; nothing where none of

@@ -52,6 +52,9 @@ struct AddressSum<'p> {
     addressed: Option<usize>,
 }
 
+/// The register that a test gives a word back from, %g7, to which it adds a bound that is no part of an address.
+const TESTED: u8 = 7;
+
 /// Numbers stay below this one.
 const GREAT: i64 = 1 << 40;
 
@@ -169,6 +172,9 @@ impl<'p> AddressSum<'p> {
             },
             _ => return false,
         };
+        if fields.rs1.number() == TESTED {
+            return false;
+        }
         let rs1 = Operand::Register(fields.rs1);
         self.add(rs1, times.saturating_mul(first), operands[0]);
         if second != 0 {
@@ -197,8 +203,8 @@ fn is_zero(range: &Option<Range>) -> bool {
 }
 
 /// What the address of the access at a place of a block is worked out from, as far back as one register stands for
-/// it. Nothing where it is worked out from several, or is a number. The setting says whether there may be words that are
-/// meant but for their high bits: it isn't worked out past a shift that pushes such bits out.
+/// it. Nothing where it is worked out from several, or is a number. The setting says whether there may be words that
+/// are meant but for their high bits: it isn't worked out past a shift that pushes such bits out.
 pub fn origin_of(
     setting: (&Program, bool),
     frame: u32,

@@ -259,6 +259,46 @@ impl Ranges {
         (block == 0) | self.cells(function, block).is_some()
     }
 
+    /// What is known where a way of a block ends, of what is live there; nothing of one that can't be gone.
+    pub fn way_cells(&self, function: usize, block: usize, way: usize) -> Option<&[Cell]> {
+        let flows = self.flows.as_slice();
+        if function < flows.len() {
+            flows[function].way_cells(block, way)
+        } else {
+            None
+        }
+    }
+
+    /// The blocks of a function that can be reached from the first one, each before those that follow it but where a
+    /// loop goes back, and a loop's blocks with no others between them.
+    pub fn order(&self, function: usize) -> &[usize] {
+        if function < self.shapes.len() {
+            self.shapes[function].order.blocks.as_slice()
+        } else {
+            &[]
+        }
+    }
+
+    /// The place of the order of a function behind the last block from which a way leads to a block: behind its own
+    /// where it is the head of a loop.
+    pub fn loop_end(&self, function: usize, block: usize) -> usize {
+        if function < self.shapes.len() {
+            self.shapes[function].end_of(block)
+        } else {
+            0
+        }
+    }
+
+    /// The ways that lead to a block, each by its number: twice that of the block that it comes from, and one more
+    /// where a branch isn't taken.
+    pub fn ways_to(&self, function: usize, block: usize) -> &[usize] {
+        if function < self.shapes.len() {
+            at(self.shapes[function].sources.as_slice(), block)
+        } else {
+            &[]
+        }
+    }
+
     /// Which ways of a block can be gone.
     pub fn open_ways(&self, function: usize, block: usize) -> (bool, bool) {
         let flows = self.flows.as_slice();

@@ -6,10 +6,10 @@ use std::alloc::Global;
 use std::slice::from_ref;
 
 /// What stands behind `main:` in the fourth line, and why there is no program.
-static REFUSED: [(&str, &str); 21] = [
+static REFUSED: [(&str, &str); 19] = [
     (
         " save %sp,-96,%sp\n call main\n nop\n ret\n restore",
-        "t.s:6: refused: recursion: main calls main",
+        "t.s:4: refused: main: a call of the function that a run begins at",
     ),
     (
         " save %sp,-96,%sp\n call g\n nop\n ret\n restore",
@@ -48,29 +48,21 @@ static REFUSED: [(&str, &str); 21] = [
         "t.s:5: refused: main: condition codes of several places, or of numbers that changed since",
     ),
     (
-        " add %sp,-96,%sp\n ld [%sp+188],%o0\n retl\n sub %sp,-96,%sp",
+        " add %sp,-96,%sp\n ld [%sp+2000],%o0\n retl\n sub %sp,-96,%sp",
         "t.s:6: refused: main: an access to the stack outside of its frame",
     ),
-    // Calls through pointers, as gcc and as clang write them, with the line of C where it is known.
+    // A call through a pointer that its own slot changes, with the line of C where it is known.
     (
-        " save %sp,-96,%sp\n call %o1\n nop\n ret\n restore",
-        "t.s:6: refused: a call through a pointer: name the function, by a switch",
+        " .file 1 \"a.c\"\n .loc 1 7 0\n save %sp,-96,%sp\n .loc 1 9 5\n call %o1\n mov 1,%o1\n ret\n restore",
+        "a.c:9: refused: main: a call through a pointer that its own slot changes",
     ),
+    // An address within a function, in a register and in a table.
     (
-        " save %sp,-96,%sp\n jmpl %i0,%o7\n nop\n ret\n restore",
-        "t.s:6: refused: a call through a pointer: name the function, by a switch",
-    ),
-    (
-        " .file 1 \"a.c\"\n .loc 1 7 0\n save %sp,-96,%sp\n .loc 1 9 5\n call %o1\n nop\n ret\n restore",
-        "a.c:9: refused: a call through a pointer: name the function, by a switch",
-    ),
-    // The address of a function, in a register and in a table.
-    (
-        " sethi %hi(f),%o0\n retl\n or %o0,%lo(f),%o0\nf:\n retl\n nop",
+        " sethi %hi(f+4),%o0\n retl\n or %o0,%lo(f+4),%o0\nf:\n retl\n nop",
         "t.s:5: refused: the address of the function f is taken: name it, by a switch",
     ),
     (
-        " retl\n nop\nf:\n retl\n nop\n.section \".rodata\"\n.align 4\ntable:\n .long f",
+        " retl\n nop\nf:\n retl\n nop\n.section \".rodata\"\n.align 4\ntable:\n .long f+4",
         "t.s:13: refused: the address of the function f is taken: name it, by a switch",
     ),
     // Floating point, `alloca`, and what inline assembly may hold.

@@ -1,7 +1,7 @@
 //! What is told of sources.
 use fit_code::{Block, End, Fault, Function, Program};
 use fit_gas::Assembly;
-use fit_legal::program_of;
+use fit_legal::{JoinPlan, program_of};
 use fit_text::FaultLine;
 use std::alloc::{AllocError, Global};
 use std::process::Abort;
@@ -53,7 +53,12 @@ fn made(source: &mut Assembly, body: &str) -> Result<Program, Fault> {
     let mut text = String::new(source.memory.alloc);
     write!(text, "{HEAD}{body}")?;
     source.read("t.s", text.as_bytes())?;
-    program_of(source.memory.alloc, source, "main")
+    let joins = JoinPlan {
+        stack: 16_384,
+        has_bounds: true,
+    };
+    let legal = program_of(source.memory.alloc, source, "main", joins)?;
+    Ok(legal.program)
 }
 
 /// Whether this is told of a program, or is why there is none.

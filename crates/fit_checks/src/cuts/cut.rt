@@ -70,12 +70,12 @@ pub fn push_branch(
     memory: &mut Heap,
     blocks: &mut Vec<Block>,
     instrs: &[Option<Instr>],
-    (cond, taken): (Cond, usize),
+    (cond, taken, slot): (Cond, usize, Option<Instr>),
     line: SourceLine,
 ) {
     let next = blocks.len().saturating_add(1);
     let end = End::Branch { cond, taken, next };
-    push_block(memory, blocks, instrs, (end, None), line);
+    push_block(memory, blocks, instrs, (end, slot), line);
 }
 
 /// Puts a copy of a block's steps from a place on, and of its end, behind the other blocks; gives its number. With

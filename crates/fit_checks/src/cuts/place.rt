@@ -1,9 +1,9 @@
 //! What is in use between two steps of a block, and codes that are, set again behind.
 use crate::cuts::cut::push_instrs;
-use crate::cuts::words::by_immediate;
+use crate::cuts::words::{by_immediate, register};
 use fit_code::{Block, End, Heap, Step};
 use fit_graph::effects_of;
-use v8_formats::{Cond, Instr, bits_of, decode, encode};
+use v8_formats::{Cond, Instr, Operand, Three, bits_of, decode, encode, three_of};
 
 /// The registers, each of which has a bit.
 const REGISTERS: u64 = 0xffff_ffff;
@@ -98,16 +98,253 @@ pub fn last_writer(frame: u32, steps: &[Step], what: u64) -> Option<Writer> {
     None
 }
 
-/// The bits of a word in which its destination stands.
+/// The place of the first step from a place on that reads the codes, or Y, where it could stand there: nothing between
+/// writes what it reads, or has to do with what it writes.
+fn movable_reader(frame: u32, steps: &[Step], place: usize, what: u64) -> Option<usize> {
+    let (mut read, mut written) = (0, 0);
+    for at in place..steps.len() {
+        let (reads, writes) = use_of(frame, &steps[at]);
+        if reads & what != 0 {
+            let is_apart = (reads & written) | (writes & (read | written)) == 0;
+            return if is_apart & (at > place) {
+                Some(at)
+            } else {
+                None
+            };
+        }
+        read |= reads;
+        written |= writes;
+    }
+    None
+}
+
+/// Moves the first step from a place on that reads the codes, or Y, to that place, so that they may be free there; says
+/// whether it could go there.
+pub fn move_reader(frame: u32, block: &mut Block, place: usize, what: u64) -> bool {
+    let Some(reader) = movable_reader(frame, block.steps.as_slice(), place, what) else {
+        return false;
+    };
+    let steps = block.steps.as_mut_slice();
+    for at in (place..reader).rev() {
+        let behind = at.saturating_add(1);
+        if behind < steps.len() {
+            steps.swap(at, behind);
+        }
+    }
+    true
+}
+
+/// Moves the WRY whose word is in use at a place to right before the first step from there on that reads Y, so that Y is
+/// free at the place; says whether it could: nothing between writes what WRY reads.
+pub fn move_writer(frame: u32, block: &mut Block, place: usize) -> bool {
+    let steps = block.steps.as_slice();
+    let Some(writer) = last_writer(frame, &steps[..place.min(steps.len())], Y) else {
+        return false;
+    };
+    let (mut written, mut reader) = (writer.written, place);
+    for at in place..steps.len() {
+        reader = at;
+        let (reads, writes) = use_of(frame, &steps[at]);
+        if reads & Y != 0 {
+            break;
+        }
+        written |= writes;
+    }
+    let is_kept = (writer.reads & written == 0) & (writer.used & Y == 0);
+    let is_between = (writer.place < place) & (place < reader);
+    if reader >= steps.len() || writer.place >= steps.len() || !is_kept | !is_between {
+        return false;
+    }
+    let is_word = matches!(steps[writer.place].instr, Instr::WriteY(_));
+    if !is_word || use_of(frame, &steps[reader]).0 & Y == 0 {
+        return false;
+    }
+    // the steps between go one place up
+    let steps = block.steps.as_mut_slice();
+    for at in writer.place..reader.saturating_sub(1) {
+        let behind = at.saturating_add(1);
+        if behind < steps.len() {
+            steps.swap(at, behind);
+        }
+    }
+    true
+}
+
+/// The bits of a word in which its destination stands, and those of its operands.
 const DESTINATION: u32 = 0x3e00_0000;
 
+const OPERANDS: u32 = 0x0007_ffff;
+
+/// The globals that compilers leave alone, from the last choice on.
+const GLOBALS: [u8; 3] = [4, 3, 2];
+
+/// What a block reads of what stands before it, and what it writes; a CALL is taken to read nothing.
+fn use_of_block(block: &Block) -> (u64, u64) {
+    let (mut read, mut written) = (0, 0);
+    for step in block.steps.as_slice() {
+        let (reads, writes) = use_of(0, step);
+        read |= reads & !written;
+        written |= writes;
+    }
+    if let End::Return(fields) = block.end {
+        let effects = effects_of(0, &Instr::Add(fields));
+        read |= effects.reads as u64 & !written;
+    }
+    (read, written)
+}
+
+/// For each block which of some registers, each of which has a bit, are live where it begins.
+fn live_in(memory: &mut Heap, blocks: &[Block], registers: u64) -> Vec<u64> {
+    let mut list = memory.repeat(0u64, blocks.len());
+    let live = list.as_mut_slice();
+    for _ in 0..blocks.len() {
+        let mut is_new = false;
+        for number in (0..blocks.len()).rev() {
+            let (read, written) = use_of_block(&blocks[number]);
+            let behind = live_behind_block(&blocks[number], &*live);
+            let found = (behind & !written | read) & registers;
+            if number < live.len() && live[number] != found {
+                live[number] = found;
+                is_new = true;
+            }
+        }
+        if !is_new {
+            break;
+        }
+    }
+    list
+}
+
+/// The registers that are live where a block ends, by those at the beginnings of the blocks.
+fn live_behind_block(block: &Block, live: &[u64]) -> u64 {
+    let mut behind = 0;
+    for way in block.end.ways() {
+        if let Some(to) = way
+            && to < live.len()
+        {
+            behind |= live[to];
+        }
+    }
+    behind
+}
+
+/// A global for which a block with a number has no use, nor what stands behind it; 0 where there is none.
+pub fn spare_register(memory: &mut Heap, blocks: &[Block], number: usize) -> u8 {
+    let live = live_in(memory, blocks, 0x1c);
+    if number >= blocks.len() {
+        return 0;
+    }
+    let mut named = live_behind_block(&blocks[number], live.as_slice());
+    for step in blocks[number].steps.as_slice() {
+        let (reads, writes) = use_of(0, step);
+        named |= reads | writes;
+    }
+    let mut spare = 0;
+    for global in GLOBALS {
+        if named >> (global % 64) & 1 == 0 {
+            spare = global;
+        }
+    }
+    spare
+}
+
+/// The word of an instruction that reads one register in the place of another one.
+fn reading(word: u32, other: u8, from: u32) -> u32 {
+    let Three { rd, rs1, operand2 } = three_of(word);
+    let (mut first, mut second) = (rs1, operand2);
+    if rs1.number() as u32 == from {
+        first = register(other);
+    }
+    if let Operand::Register(read) = operand2
+        && read.number() as u32 == from
+    {
+        second = Operand::Register(register(other));
+    }
+    let changed = encode(&Instr::Add(Three {
+        rd,
+        rs1: first,
+        operand2: second,
+    }));
+    word & !OPERANDS | changed & OPERANDS
+}
+
+/// Lets the step at a place of a block read another register, into which it is moved before, in the place of the one
+/// that it reads and something writes behind.
+fn keep_operand(memory: &mut Heap, block: &mut Block, place: usize, (spare, lost): (u8, u32)) {
+    if place < block.steps.len() {
+        let step = block.steps[place];
+        let instr = decode(reading(encode(&step.instr), spare, lost));
+        block.steps[place].instr = instr;
+        let moved = Instr::Or(by_immediate(spare, (lost % 32) as u8, 0));
+        let before = Step {
+            instr: moved,
+            object: None,
+            ..step
+        };
+        memory.is_refused |= block.steps.insert(place, before).is_err();
+    }
+}
+
+/// Keeps the carry of a block's codes in a spare register over a place, up to the first step from there on that reads
+/// it, before which a compare sets it again; says whether it could: nothing asks for the other codes behind.
+pub fn keep_carry(
+    memory: &mut Heap,
+    frame: u32,
+    block: &mut Block,
+    place: usize,
+    spare: u8,
+) -> bool {
+    let steps = block.steps.as_slice();
+    let Some(setter) = last_writer(frame, &steps[..place.min(steps.len())], CODES) else {
+        return false;
+    };
+    let mut reader = place;
+    for at in place..steps.len() {
+        reader = at;
+        if use_of(frame, &steps[at]).0 & CODES != 0 {
+            break;
+        }
+    }
+    if (spare == 0) | (reader <= place) || reader >= steps.len() {
+        return false;
+    }
+    let (reads, writes) = use_of(frame, &steps[reader]);
+    let is_last = writes & CODES != 0
+        || in_use(frame, block, reader.saturating_add(1)) & CODES == 0;
+    if (reads & CODES == 0) | !is_last || matches!(steps[reader].instr, Instr::MulsCc(_)) {
+        return false;
+    }
+    let (line, carry) = (steps[reader].line, register(spare));
+    let step = Step {
+        instr: Instr::SubCc(Three {
+            rd: register(0),
+            rs1: register(0),
+            operand2: Operand::Register(carry),
+        }),
+        line,
+        callee: None,
+        object: None,
+        slot: None,
+    };
+    let kept = Step {
+        instr: Instr::Addx(by_immediate(spare, 0, 0)),
+        ..step
+    };
+    memory.is_refused |= block.steps.insert(reader, step).is_err();
+    let behind = setter.place.saturating_add(1).min(block.steps.len());
+    memory.is_refused |= block.steps.insert(behind, kept).is_err();
+    true
+}
+
 /// Sets the codes that a block's branch asks for again behind the last step, as far as it asks, so that they aren't in
-/// use before, where a test has no place. Tells why not: not where that step sets them, and where no instruction does:
-/// not where they are those of two words, of which the second one's are worked out from the first one's.
+/// use before, where a test has no place. Where what the compare reads is written behind it, that is kept in a spare
+/// register first, if there is one. Tells why not: not where that step sets them, and where no instruction does: not
+/// where they are those of two words, of which the second one's are worked out from the first one's.
 pub fn set_codes_again(
     memory: &mut Heap,
     frame: u32,
     block: &mut Block,
+    spare: u8,
 ) -> Result<(), &'static str> {
     if let End::Branch { cond, .. } = block.end
         && let Some(setter) = last_writer(frame, block.steps.as_slice(), CODES)
@@ -133,6 +370,10 @@ pub fn set_codes_again(
         };
         if again.is_some() {
             push_instrs(memory, &mut block.steps, &[again], block.line);
+            return Ok(());
+        }
+        if is_compare & (spare != 0) & (lost != 0) {
+            keep_operand(memory, block, setter.place, (spare, lost.trailing_zeros()));
             return Ok(());
         }
     }

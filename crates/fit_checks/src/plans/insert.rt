@@ -1,9 +1,9 @@
 //! The blocks of tests.
 use crate::cuts::{
     CODES, SCRATCH, Writer, Y, by_immediate, in_use, last_writer, number_in, push_block,
-    push_branch, register, use_of,
+    push_branch, register, telling, use_of,
 };
-use crate::plans::plan::{Test, TestWay};
+use crate::plans::plan::{SUM, Test, TestWay};
 use fit_code::{Block, End, Heap, Step};
 use v8_formats::{Cond, Instr, Operand, Reg, Three, Two};
 
@@ -90,14 +90,15 @@ fn is_sign_shift(operand: Operand) -> bool {
     }
 }
 
-/// What puts the sign of a word into Y again behind steps of a block, the last of which that writes Y puts it there from
-/// a register that was written since: it is worked out in a scratch register. Else why that can't be.
+/// What puts the sign of a word into Y again behind steps of a block, the last of which that writes Y puts it there
+/// from a register that was written since: it is worked out in a scratch register. Else why that can't be.
 fn sign_again(frame: u32, steps: &[Step], writer: &Writer) -> Result<[Step; 2], &'static str> {
     let (put, kept) = (writer.instr, writer.written);
     let Instr::WriteY(fields) = put else {
         return Err(NO_UPPER_WORD);
     };
-    if writer.place >= steps.len() || !is_zero(fields.operand2) {
+    // gcc names the register first, clang %g0
+    if writer.place >= steps.len() || !(is_zero(fields.operand2) | (fields.rs1 == Reg::G0)) {
         return Err(NO_UPPER_WORD);
     }
     let Some(sign) = last_writer(frame, &steps[..writer.place], writer.reads) else {
@@ -121,7 +122,7 @@ fn sign_again(frame: u32, steps: &[Step], writer: &Writer) -> Result<[Step; 2], 
     });
     let write = Instr::WriteY(Two {
         rs1: register(REST),
-        operand2: fields.operand2,
+        operand2: Operand::Immediate(0),
     });
     let first = Step {
         instr: again,
@@ -135,9 +136,9 @@ fn sign_again(frame: u32, steps: &[Step], writer: &Writer) -> Result<[Step; 2], 
 }
 
 /// Takes the division at a place out of a block, and the WRY whose word it finds in Y: where nothing else reads that
-/// word before, and what WRY reads stays the same up to the division, or is the sign of a word that does. Where the word
-/// is in use behind, WRY stays, if it reads no register. What stood behind the division stands a place before it then, behind a compare of its result where
-/// its codes are asked for. Tells why they can't be taken.
+/// word before, and what WRY reads stays the same up to the division, or is the sign of a word that does. Where the
+/// word is in use behind, WRY stays, if it reads no register. What stood behind the division stands a place before it
+/// then, behind a compare of its result where its codes are asked for. Tells why they can't be taken.
 pub fn take_division(
     memory: &mut Heap,
     block: &mut Block,
@@ -180,45 +181,133 @@ pub fn take_division(
     Err(NO_UPPER_WORD)
 }
 
+/// What turns a word to the right by so many bits, from 1 to 3, into a register: low bits that aren't 0 make it greater
+/// than any address. Another register is lost.
+fn turning(word: u8, bits: u8) -> [Option<Instr>; 3] {
+    let count = i32::from(bits);
+    let low = Instr::Sll(by_immediate(NUMBER, word, 32i32.saturating_sub(count)));
+    let high = Instr::Srl(by_immediate(REST, word, count));
+    let both = Instr::Or(Three {
+        rd: register(REST),
+        rs1: register(REST),
+        operand2: Operand::Register(register(NUMBER)),
+    });
+    [Some(low), Some(high), Some(both)]
+}
+
+/// What a test compares with a number, as unsigned words, and what goes on before and behind that where it is passed.
+#[derive(Clone, Copy)]
+struct Comparison {
+    /// What makes the compared word of the tested one: what subtracts the lower end of its bounds, and what turns it.
+    subtracting: [Option<Instr>; 3],
+    turning: [Option<Instr>; 3],
+    compared: u8,
+    greatest: i32,
+    /// The register that the number goes to, if it needs one.
+    scratch: u8,
+    /// What makes the tested word of the compared one again.
+    behind: [Option<Instr>; 2],
+}
+
 impl Test {
+    /// What a run tells that ends because this test fails.
+    pub fn telling(&self) -> Instr {
+        telling(self.plan.kind.exit_word(self.line))
+    }
+
+    /// Whether one compare says both that the word is a multiple of what it has to be one of, and that it lies within
+    /// its bounds. Not where the compare changes the word that is tested and another test may come behind it.
+    pub fn is_joint(&self) -> bool {
+        let plan = &self.plan;
+        let has_bounds = matches!(plan.way, TestWay::Above(_) | TestWay::Within { .. });
+        has_bounds & (plan.alignment > 0) & !((plan.register == SUM) & plan.constants.is_some())
+    }
+
+    /// What leaves what is left of the tested word once the lower end of its bounds is subtracted, and gives it back.
+    fn taken(&self) -> [Option<Instr>; 4] {
+        match self.plan.way {
+            TestWay::Within { lo, .. } => subtracting(self.plan.register, lo),
+            _ => [None, None, None, None],
+        }
+    }
+
+    /// How the tested word is compared with the length of its bounds; nothing where it isn't.
+    fn comparison(&self) -> Option<Comparison> {
+        let (tested, alignment) = (self.plan.register, self.plan.alignment % 4);
+        let (compared, greatest, scratch) = match self.plan.way {
+            TestWay::Above(hi) => (tested, hi, FROM),
+            TestWay::Within { length, .. } => (REST, length, NUMBER),
+            TestWay::Never | TestWay::Known => return None,
+        };
+        let [high, low, subtract, give_back] = self.taken();
+        let subtracting = [high, low, subtract];
+        if !self.is_joint() {
+            return Some(Comparison {
+                subtracting,
+                turning: [None, None, None],
+                compared,
+                greatest,
+                scratch,
+                behind: [None, give_back],
+            });
+        }
+        let back = Instr::Sll(by_immediate(compared, REST, i32::from(alignment)));
+        Some(Comparison {
+            subtracting,
+            turning: turning(compared, alignment),
+            compared: REST,
+            greatest: greatest >> alignment,
+            scratch: NUMBER,
+            behind: [Some(back), give_back],
+        })
+    }
+
+    /// The block of a test of an address in which its low bits are tested alone, if they are; gives what makes it seen
+    /// that they are 0.
+    fn push_low_bits(&self, memory: &mut Heap, blocks: &mut Vec<Block>) -> Option<Instr> {
+        let (tested, alignment) = (self.plan.register, self.plan.alignment);
+        if (alignment == 0) | self.is_joint() {
+            return None;
+        }
+        // the bits that are 0 in a multiple of 2 to a power from 1 to 3
+        let low = 7i32 >> 3u8.saturating_sub(alignment);
+        let test = [Some(Instr::AndCc(by_immediate(0, tested, low)))];
+        let end = (Cond::NotEqual, self.exit, Some(self.telling()));
+        push_branch(memory, blocks, &test, end, self.line);
+        Some(Instr::And(by_immediate(tested, tested, !low)))
+    }
+
     /// The blocks of a test of an address, behind which control goes on to the rest, or to `beyond` where the register
     /// doesn't lie within its bounds. The first one of them is the function's next block. Before a word is compared it
-    /// is made seen that its low bits are 0; what is left of it once the lower end of its bounds is subtracted is
-    /// compared, and it is given back.
+    /// is made seen that its low bits are 0, or it is turned, so that they are its high ones; what is left of it once
+    /// the lower end of its bounds is subtracted is compared, and it is given back.
     pub fn push_blocks(&self, memory: &mut Heap, blocks: &mut Vec<Block>, beyond: usize) {
-        let (tested, alignment, line) = (self.plan.register, self.plan.alignment, self.line);
-        let rest = (End::Jump(self.rest), None);
-        let mut mask = None;
-        if alignment > 0 {
-            // the bits that are 0 in a multiple of 2 to a power from 1 to 3
-            let low = 7i32 >> 3u8.saturating_sub(alignment);
-            mask = Some(Instr::And(by_immediate(tested, tested, !low)));
-            let test = [Some(Instr::AndCc(by_immediate(0, tested, low)))];
-            push_branch(memory, blocks, &test, (Cond::NotEqual, self.exit), line);
-        }
-        let (subtract, compared, hi, scratch) = match self.plan.way {
-            TestWay::Never => return push_block(
-                memory,
-                blocks,
-                &[],
-                (End::Jump(beyond), None),
-                line,
-            ),
-            TestWay::Known => return push_block(memory, blocks, &[mask], rest, line),
-            TestWay::Above(hi) => ([None; 4], tested, hi, FROM),
-            TestWay::Within { lo, length } => (subtracting(tested, lo), REST, length, NUMBER),
+        let (line, rest) = (self.line, (End::Jump(self.rest), None));
+        let mask = self.push_low_bits(memory, blocks);
+        let told = if beyond == self.exit {
+            Some(self.telling())
+        } else {
+            None
         };
-        let [a, b, c, give_back] = subtract;
-        let ([d, e], operand2) = operand_of(hi, scratch);
+        let Some(comparison) = self.comparison() else {
+            if let TestWay::Never = self.plan.way {
+                let instrs = [mask, told];
+                return push_block(memory, blocks, &instrs, (End::Jump(beyond), None), line);
+            }
+            return push_block(memory, blocks, &[mask], rest, line);
+        };
+        let [a, b, c] = comparison.subtracting;
+        let [d, e, f] = comparison.turning;
+        let ([g, h], operand2) = operand_of(comparison.greatest, comparison.scratch);
         let compare = Instr::SubCc(Three {
             rd: Reg::G0,
-            rs1: register(compared),
+            rs1: register(comparison.compared),
             operand2,
         });
-        let instrs = [mask, a, b, c, d, e, Some(compare)];
-        let end = (Cond::GreaterUnsigned, beyond);
+        let instrs = [mask, a, b, c, d, e, f, g, h, Some(compare)];
+        let end = (Cond::GreaterUnsigned, beyond, told);
         push_branch(memory, blocks, &instrs, end, line);
-        push_block(memory, blocks, &[give_back], rest, line);
+        push_block(memory, blocks, &comparison.behind, rest, line);
     }
 
     /// The blocks of a test of a divisor, in which WRY and the division stand: twice, where the divisor may have either
@@ -231,9 +320,21 @@ impl Test {
             divisions = 2;
             // A number above 0 goes to the second of them, behind the test of 0 and the first one.
             let second = blocks.len().saturating_add(3);
-            push_branch(memory, blocks, &compare, (Cond::Greater, second), line);
+            push_branch(
+                memory,
+                blocks,
+                &compare,
+                (Cond::Greater, second, None),
+                line,
+            );
         }
-        push_branch(memory, blocks, &compare, (Cond::Equal, self.exit), line);
+        push_branch(
+            memory,
+            blocks,
+            &compare,
+            (Cond::Equal, self.exit, None),
+            line,
+        );
         for _ in 0..divisions {
             let division = Block {
                 steps: memory.copy(steps),

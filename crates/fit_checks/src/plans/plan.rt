@@ -86,9 +86,9 @@ const NO_BOUNDS: WordBounds = WordBounds {
     object: None,
 };
 
-/// How it is seen that a word of which this is known lies in bounds; `is_aligned` where it is made seen before that its
-/// low bits are 0. The numbers that the word is compared with have to be signed words.
-fn way_in(range: Range, bounds: WordBounds, is_aligned: bool) -> TestWay {
+/// How it is seen that a word of which this is known lies in bounds, where it has to be a multiple of 2 to a power that
+/// isn't known, if that is above 0. The numbers that the word is compared with have to be signed words.
+fn way_in(range: Range, bounds: WordBounds, alignment: u8) -> TestWay {
     let WordBounds { lo, hi, object } = bounds;
     let (least, greatest) = (range.lo as i64, range.hi as i64);
     if hi < lo {
@@ -100,11 +100,15 @@ fn way_in(range: Range, bounds: WordBounds, is_aligned: bool) -> TestWay {
     let is_from_0 = (lo == 0) | (lo < 0) & (least >= 0);
     let first = if is_from_0 {
         0
-    } else if object.is_none() | is_aligned {
-        // A multiple of 8 that isn't below.
-        lo.saturating_add(7) & -8
     } else {
-        lo
+        // such a multiple that isn't below, and of 8 where no object is known
+        let power = if object.is_none() {
+            3
+        } else {
+            alignment.min(3)
+        };
+        let low = (1i64 << power).saturating_sub(1);
+        lo.saturating_add(low) & !low
     };
     match (
         i32::try_from(first),
@@ -127,13 +131,13 @@ fn plan_by(program: &Program, access: &UnshownAccess, origin: &Origin) -> TestPl
     let needed = needed_alignment(access.size).saturating_sub(trailing);
     let alignment = if known.alignment < needed { needed } else { 0 };
     let bounds = bounds_of(program, origin, size);
-    let way = way_in(known, bounds, alignment > 0);
+    let way = way_in(known, bounds, alignment);
     let is_known = matches!(way, TestWay::Known);
     let mut constants = None;
     if !(access.writes | bounds.object.is_some() | is_known)
         && let Some(others) = bounds_in_constants(program, origin, size)
     {
-        constants = Some(way_in(known, others, alignment > 0));
+        constants = Some(way_in(known, others, alignment));
     }
     let (kind, range) = match bounds.object {
         Some(_) => (TestKind::Index, known),

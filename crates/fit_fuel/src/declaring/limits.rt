@@ -8,6 +8,22 @@ const WORDS: u64 = 65_536;
 /// The most bytes of stack.
 const STACK: u64 = 16 * 4096 - 64;
 
+/// What is told of a function with more blocks than there may be, and of all functions together.
+const BLOCKS: &str = "the blocks of a function";
+
+const ALL_BLOCKS: &str = "the blocks of all functions";
+
+/// The most blocks.
+const MOST_BLOCKS: u64 = 4_096;
+
+/// Whether a fault is that there are more blocks than there may be.
+pub fn is_of_blocks(fault: &Fault) -> bool {
+    match fault.reason {
+        Reason::TooGreat { what, .. } => (what == BLOCKS) | (what == ALL_BLOCKS),
+        _ => false,
+    }
+}
+
 /// More of something than there may be.
 #[derive(Clone, Copy)]
 struct Excess {
@@ -20,8 +36,9 @@ struct Excess {
 /// What is found of a program's numbers.
 #[derive(Clone, Copy)]
 struct Extent {
-    /// The words of code.
+    /// The words of code, and the blocks.
     words: u64,
+    blocks: u64,
     /// The first of them that passes a limit.
     excess: Option<Excess>,
 }
@@ -54,7 +71,9 @@ impl Extent {
     /// Takes in a function.
     fn check_function(&mut self, function: &Function, notes: &FunctionNotes) {
         let (line, blocks) = (function.line, function.blocks.len() as u64);
-        self.check(line, "the blocks of a function", blocks, 4096);
+        self.check(line, BLOCKS, blocks, MOST_BLOCKS);
+        self.blocks = self.blocks.saturating_add(blocks);
+        self.check(line, ALL_BLOCKS, self.blocks, MOST_BLOCKS);
         self.check(line, "the stack that calls take", notes.room, STACK);
         self.words = self.words.saturating_add(1);
         let (blocks, noted) = (function.blocks.as_slice(), notes.blocks.as_slice());
@@ -75,6 +94,7 @@ impl Extent {
 pub fn check_limits(program: &Program, annotations: &[FunctionNotes]) -> Result<(), Fault> {
     let mut found = Extent {
         words: 0,
+        blocks: 0,
         excess: None,
     };
     let functions = program.functions.as_slice();

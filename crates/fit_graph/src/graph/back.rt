@@ -1,6 +1,7 @@
 //! Which ways go back, and to which heads.
+use crate::graph::above::{places_above, stands_above};
 use crate::graph::loops::{Loop, last_around};
-use crate::graph::reach::{is_held, reach};
+use crate::graph::reach::reach;
 use crate::graph::{Listed, Order, list, order_in, successors_in};
 use fit_code::{Function, Heap};
 
@@ -37,12 +38,11 @@ impl Graph {
     }
 
     /// Of a way that goes back, from a block to itself or to one before it, whether the other block is on each way from
-    /// the first one to it. Nothing of a way that goes on.
-    fn goes_to_head(&self, memory: &mut Heap, from: usize, to: usize) -> Option<bool> {
+    /// the first one to it, where it is known which places stand above others. Nothing of a way that goes on.
+    fn goes_to_head(&self, above: &[usize], from: usize, to: usize) -> Option<bool> {
         match (self.order.place(to), self.order.place(from)) {
-            (Some(above), Some(below)) if above <= below => {
-                let before = self.come_from(memory, &[from], to);
-                Some(!is_held(before.as_slice(), 0))
+            (Some(first), Some(second)) if first <= second => {
+                Some(stands_above(above, first, second))
             }
             _ => None,
         }
@@ -53,12 +53,13 @@ impl Graph {
     pub fn loops(&self, memory: &mut Heap) -> Vec<Loop> {
         let mut loops = Vec::new(memory.alloc);
         let predecessors = self.predecessors.as_slice();
+        let above = places_above(memory, &self.order, predecessors);
         for head in self.order.blocks.as_slice() {
             let head = *head;
             let mut latches = Vec::new(memory.alloc);
             if head < predecessors.len() {
                 for from in predecessors[head].as_slice() {
-                    if let Some(true) = self.goes_to_head(memory, *from, head) {
+                    if let Some(true) = self.goes_to_head(above.as_slice(), *from, head) {
                         memory.push(&mut latches, *from);
                     }
                 }
@@ -85,10 +86,11 @@ impl Graph {
     /// another entry beside it. None where each loop of the function has one entry, which is its head.
     pub fn entered_beside(&self, memory: &mut Heap, function: &Function) -> Option<usize> {
         let blocks = self.order.blocks.as_slice();
+        let above = places_above(memory, &self.order, self.predecessors.as_slice());
         for way in 0..blocks.len().saturating_mul(2) {
             if way / 2 < blocks.len()
                 && let Some(to) = successors_in(function, blocks[way / 2])[way % 2]
-                && let Some(false) = self.goes_to_head(memory, blocks[way / 2], to)
+                && let Some(false) = self.goes_to_head(above.as_slice(), blocks[way / 2], to)
             {
                 return Some(to);
             }

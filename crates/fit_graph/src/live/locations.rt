@@ -16,9 +16,32 @@ impl LocationSet {
         LocationSet { words: [0; WORDS] }
     }
 
+    /// Each location.
+    pub fn all() -> LocationSet {
+        LocationSet {
+            words: [u64::MAX; WORDS],
+        }
+    }
+
     /// Whether a location is in the set.
     pub fn has(&self, location: u16) -> bool {
         self.words[usize::from(location / 64) % WORDS] >> (location % 64) & 1 == 1
+    }
+
+    /// The first location of the set that isn't below one; none where there is none.
+    pub fn first_from(&self, location: u16) -> Option<u16> {
+        let (first, low) = (usize::from(location / 64), location % 64);
+        for place in first..WORDS {
+            let mut word = self.words[place];
+            if place == first {
+                word = word >> low << low;
+            }
+            if word != 0 {
+                let bit = word.trailing_zeros().min(63) as u16;
+                return Some(((place * 64) as u16).saturating_add(bit));
+            }
+        }
+        None
     }
 
     /// Takes out what is written so, and puts in what is read.

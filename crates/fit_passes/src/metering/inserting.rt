@@ -4,14 +4,18 @@
 //! same reason there is one on each way out of a loop behind which a call may come.
 use crate::metering::exits::dear_exits;
 use crate::metering::registers::free_register;
-use fit_checks::{insert_instr, push_block, register};
-use fit_code::{Block, End, Function, Heap, NO_LINE};
+use fit_checks::{insert_instr, push_block, register, shared_end, telling};
+use fit_code::{Block, End, Function, Heap, NO_LINE, SourceLine};
 use fit_fuel::{LoopBounds, Meter, counting, number_in};
 use fit_graph::{Graph, Loop, successors_in};
 use v8_formats::{Cond, Instr, Operand, Reg, Three};
 
 /// The exit word of a run whose meter is empty, but for the line.
 const EMPTY: u32 = 4 << 16;
+
+/// From so many blocks of a function on the places of a meter in a word share their end. A function of an image has
+/// 4,096 at most.
+const MANY: usize = 2_048;
 
 /// The greatest number that a meter may begin with.
 const GREATEST: u64 = 0x7fff_ffff;
@@ -117,6 +121,44 @@ fn redirect(blocks: &mut [Block], from: usize, to: usize, within: &[bool]) {
     }
 }
 
+/// Where the run ends because the meter is empty at a place; what stands behind the place's other steps, and what in
+/// the slot of its branch.
+#[derive(Clone, Copy)]
+struct EmptyEnd {
+    block: usize,
+    behind: Option<Instr>,
+    slot: Option<Instr>,
+}
+
+/// Where the run ends because the meter is empty at a place in a line. The slot tells the line to the end that tests
+/// share, too, or moves the meter's word; then each place has an end of its own while blocks are few, and later what
+/// tells the line takes a turn more.
+fn end_of_place(
+    memory: &mut Heap,
+    blocks: &mut Vec<Block>,
+    meter: &Meter,
+    line: SourceLine,
+) -> EmptyEnd {
+    let word = EMPTY | line.number.min(0xffff);
+    let store = word_move(meter, true);
+    let told = Some(telling(word.cast_signed()));
+    if store.is_some() & (blocks.len() < MANY) {
+        let block = blocks.len();
+        let instrs = number_in(register(8), word);
+        push_block(memory, blocks, &instrs, (End::Exit, None), line);
+        return EmptyEnd {
+            block,
+            behind: None,
+            slot: store,
+        };
+    }
+    EmptyEnd {
+        block: shared_end(memory, blocks, line),
+        behind: if store.is_some() { told } else { None },
+        slot: store.or(told),
+    }
+}
+
 /// Puts a place of the meter before a block, and a block where the run ends because the meter is empty: whatever went
 /// to the block goes to the place, but for the blocks of a loop, which is given by whether each block is in it.
 fn put_place(
@@ -134,19 +176,17 @@ fn put_place(
         Some(step) => step.line,
         None => blocks[head].line,
     };
-    let exit = blocks.len();
-    let place = exit.saturating_add(1);
+    let exit = end_of_place(memory, blocks, meter, line);
+    let place = blocks.len();
     redirect(blocks.as_mut_slice(), head, place, within);
-    let word = number_in(register(8), EMPTY | line.number.min(0xffff));
-    push_block(memory, blocks, &word, (End::Exit, None), line);
     let [high, low, count] = counting(meter, 1);
-    let instrs = [word_move(meter, false), high, low, count];
+    let instrs = [word_move(meter, false), high, low, count, exit.behind];
     let end = End::Branch {
         cond: Cond::Negative,
-        taken: exit,
+        taken: exit.block,
         next: head,
     };
-    push_block(memory, blocks, &instrs, (end, word_move(meter, true)), line);
+    push_block(memory, blocks, &instrs, (end, exit.slot), line);
 }
 
 /// Puts places of a meter before the heads among a function's blocks.
@@ -192,8 +232,8 @@ fn read_count(meter: &Meter) -> Instr {
     }
 }
 
-/// Puts places of a meter on dear ways out of loops that have it, one for all of them that lead to a block. Behind it the
-/// count is read once more: so it is known there, and what comes then is paid by what the place takes.
+/// Puts places of a meter on dear ways out of loops that have it, one for all of them that lead to a block. Behind it
+/// the count is read once more: so it is known there, and what comes then is paid by what the place takes.
 fn put_at_exits(
     memory: &mut Heap,
     blocks: &mut Vec<Block>,

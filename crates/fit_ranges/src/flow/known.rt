@@ -1,6 +1,6 @@
 //! What is known of a function's blocks so far.
 use fit_code::{Block, Function, Heap};
-use fit_graph::{Effects, LocationSet, effects_in, effects_of, range_in};
+use fit_graph::{Effects, LocationSet, effects_in, effects_of, range_from};
 use sbx_range::Cell;
 use std::mem;
 
@@ -140,9 +140,10 @@ impl BlockRanges {
             return None;
         };
         let mut passed = memory.copy(end.as_slice());
+        let mut place: usize = 0;
         for cell in passed.as_mut_slice() {
             if !self.touched.has(cell.location)
-                && let Some(range) = range_in(cells.as_slice(), cell.location)
+                && let Some(range) = range_from(cells.as_slice(), &mut place, cell.location)
             {
                 cell.range = range;
             }

@@ -1,0 +1,125 @@
+//! What is told where a function has more blocks than there may be: how many too many, and whose lines most of them
+//! come from.
+use crate::files::{REFUSED, refused};
+use fit_gas::Assembly;
+use fit_passes::{Reason, Refusal};
+use fit_text::FaultLine;
+use std::collections::BTreeMap;
+use std::fmt::{Display, Error, Formatter, Write};
+
+/// So many functions are named at most.
+const NAMED: usize = 5;
+
+/// A function of the assembly, by its number, and how many blocks come from its lines.
+type Share = (usize, usize);
+
+/// The functions with most blocks, and how many there are too many.
+#[derive(Drop)]
+struct Excess<'a> {
+    refusal: &'a Refusal,
+    source: &'a Assembly,
+    shares: &'a [Share],
+}
+
+/// The name of a function of the assembly.
+fn name_of(source: &Assembly, code: usize) -> &str {
+    if code < source.codes.len() && source.codes[code].symbol < source.symbols.len() {
+        source.symbols[source.codes[code].symbol].name.as_str()
+    } else {
+        ""
+    }
+}
+
+impl Display for Excess<'_> {
+    fn fmt<W: Write>(&self, f: &mut Formatter<W>) -> Result<(), Error> {
+        let fault = &self.refusal.fault;
+        let files = self.source.files.as_slice();
+        let mut told = write!(f, "{}", FaultLine { fault, files });
+        if let Reason::TooGreat { count, most, .. } = fault.reason {
+            let more = count.saturating_sub(most);
+            told = told.and(write!(f, ": {more} too many; most are those of "));
+        }
+        for place in 0..self.shares.len() {
+            let (code, count) = self.shares[place];
+            let before = if place == 0 { "" } else { ", " };
+            let name = name_of(self.source, code);
+            told = told.and(write!(f, "{before}{name} ({count})"));
+        }
+        told
+    }
+}
+
+/// A line as a number.
+fn key_of(file: usize, number: u32) -> u64 {
+    (file as u64) << 32 | u64::from(number)
+}
+
+/// The first function of the assembly that has an instruction in a line, for each line. Lines for which memory is
+/// refused aren't there.
+fn codes_by_line(source: &Assembly) -> BTreeMap<u64, usize> {
+    let mut found: BTreeMap<u64, usize> = BTreeMap::new(source.memory.alloc);
+    let mut is_full = false;
+    for number in 0..source.codes.len() {
+        for item in source.codes[number].items.as_slice() {
+            let key = key_of(item.line.file, item.line.number);
+            if !is_full && found.get(&key).is_none() {
+                is_full = found.insert(key, number).is_err();
+            }
+        }
+    }
+    found
+}
+
+/// Takes the greatest of some counts, by its place, and leaves 0 there; nothing where all are 0.
+fn take_greatest(counts: &mut [usize]) -> Option<Share> {
+    let (mut place, mut greatest) = (0, 0);
+    for at in 0..counts.len() {
+        if counts[at] > greatest {
+            greatest = counts[at];
+            place = at;
+        }
+    }
+    if greatest == 0 || place >= counts.len() {
+        return None;
+    }
+    counts[place] = 0;
+    Some((place, greatest))
+}
+
+/// The functions of the assembly from whose lines most blocks come, the greatest one first.
+fn shares_of(refusal: &Refusal, source: &Assembly) -> Vec<Share> {
+    let mut memory = source.memory;
+    let codes = codes_by_line(source);
+    let mut counted = memory.repeat(0usize, source.codes.len());
+    let counts = counted.as_mut_slice();
+    for line in refusal.lines.as_slice() {
+        if let Some(code) = codes.get(&key_of(line.file, line.number))
+            && *code < counts.len()
+        {
+            counts[*code] = counts[*code].saturating_add(1);
+        }
+    }
+    let mut shares = Vec::new(memory.alloc);
+    for _ in 0..NAMED {
+        if let Some(share) = take_greatest(counts) {
+            memory.push(&mut shares, share);
+        }
+    }
+    shares
+}
+
+/// Tells why there is no source and, where that is that a function has more blocks than there may be, how many too
+/// many, and the functions of the assembly that most of them come from; gives the exit status.
+pub fn tell_refusal(rt: &HostRuntime, refusal: &Refusal, source: &Assembly) -> u8 {
+    if refusal.lines.is_empty() {
+        return refused(rt, &refusal.fault, source.files.as_slice());
+    }
+    let shares = shares_of(refusal, source);
+    let shares = shares.as_slice();
+    let _ = rt.eprintln(&Excess {
+        refusal,
+        source,
+        shares,
+    });
+    REFUSED
+}

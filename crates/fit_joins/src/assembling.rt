@@ -1,0 +1,297 @@
+//! What stands where once functions are joined: their blocks, what they keep, and the soft stack.
+use crate::joining::Joiner;
+use crate::keeping::{CALLER_RETURN, Keep, RETURN};
+use crate::places::{Part, SoftStack};
+use crate::returning::StackPlace;
+use crate::splitting::{joined_callee, split_at_calls};
+use fit_blocks::{Layout, Stops};
+use fit_checks::register;
+use fit_code::{Block, Function, Heap, NO_LINE, Program, SourceLine};
+use fit_gas::owned;
+use fit_graph::{FunctionShape, Means, RegisterCounts, find_live};
+
+/// A save area, with which a frame begins.
+const SAVE_AREA: u32 = 64;
+
+/// The bytes of what a function keeps in the data over its calls.
+const RECORD: usize = 64;
+
+/// The bytes behind the soft stack in which a caller's arguments in memory may stand.
+const ROOM: u32 = 1024;
+
+/// Where a function stands among the blocks that are joined.
+#[derive(Clone, Copy)]
+pub struct Placed {
+    pub framed: bool,
+    pub line: SourceLine,
+    /// The number of its first block, of the block that calls go to, and of the one that returns go to.
+    pub first: usize,
+    pub entry: usize,
+    pub back: usize,
+    /// Where the number of its return stands in what is kept.
+    pub number_at: u32,
+    /// How often it is called.
+    pub calls: usize,
+    pub keep: Keep,
+}
+
+/// How many blocks the functions have that are joined, and how often each function is called from them.
+fn counted(memory: &mut Heap, functions: &[Function], parts: &[Part]) -> (usize, Vec<usize>) {
+    let mut calls = memory.repeat(0, functions.len());
+    let mut blocks: usize = 0;
+    for (number, function) in functions.iter().enumerate() {
+        if number < parts.len() && parts[number].is_joined {
+            blocks = blocks.saturating_add(function.blocks.len());
+            count_calls(calls.as_mut_slice(), function, parts);
+        }
+    }
+    (blocks, calls)
+}
+
+/// Counts a function's calls of such as are joined: each ends its block.
+fn count_calls(calls: &mut [usize], function: &Function, parts: &[Part]) {
+    for block in function.blocks.as_slice() {
+        if let Some(step) = block.steps.last()
+            && let Some(callee) = joined_callee(parts, step)
+            && callee < calls.len()
+        {
+            calls[callee] = calls[callee].saturating_add(1);
+        }
+    }
+}
+
+/// The line of a function's first step: that of C, where it is known.
+fn line_of(function: &Function) -> SourceLine {
+    for block in function.blocks.as_slice() {
+        if let Some(step) = block.steps.first() {
+            return step.line;
+        }
+    }
+    function.line
+}
+
+/// Where a function keeps words over its calls: from a soft frame on, to which a register points, or in a record.
+fn keep_of(is_soft: bool, pointer: u8, (object, address): (usize, u32)) -> Keep {
+    if is_soft & (pointer != 0) {
+        Keep::Soft(register(pointer))
+    } else {
+        Keep::Record { object, address }
+    }
+}
+
+/// Where the functions that are joined stand among the blocks of all of them. What one keeps over its calls stands in
+/// an object, from an address on, or in its soft frame, to which a register of this number points, if there is one.
+fn place_all(
+    memory: &mut Heap,
+    functions: &[Function],
+    parts: &[Part],
+    (object, start): (usize, u32),
+    pointer: u8,
+) -> Vec<Placed> {
+    let (mut extra, calls) = counted(memory, functions, parts);
+    let (mut first, mut address) = (0usize, start);
+    let mut all = Vec::new(memory.alloc);
+    for (number, function) in functions.iter().enumerate() {
+        let mut placed = Placed {
+            framed: function.framed,
+            line: line_of(function),
+            first,
+            entry: first,
+            back: 0,
+            number_at: RETURN,
+            calls: 0,
+            keep: Keep::Record { object, address },
+        };
+        if number < parts.len() && number < calls.len() && parts[number].is_joined {
+            let (is_soft, is_caller) = (parts[number].is_soft, parts[number].is_caller);
+            placed.calls = calls[number];
+            placed.keep = keep_of(is_soft, pointer, (object, address));
+            first = first.saturating_add(function.blocks.len());
+            if is_caller {
+                placed.number_at = CALLER_RETURN;
+            }
+            if is_soft & !is_caller & (number > 0) {
+                placed.entry = extra;
+                extra = extra.saturating_add(2);
+            }
+            if number > 0 {
+                placed.back = extra;
+                extra = extra.saturating_add(1);
+            }
+            address = address.saturating_add(RECORD as u32);
+        }
+        memory.push(&mut all, placed);
+    }
+    all
+}
+
+/// Adds the objects that joined functions work with: what they keep, so many, and the soft stack, with room behind it
+/// for a frame of the greatest one and what may stand behind that.
+fn add_objects(
+    layout: &mut Layout,
+    parts: &[Part],
+    stack: &Option<SoftStack>,
+) -> ((usize, u32), Option<StackPlace>) {
+    let line = NO_LINE;
+    let mut greatest = 0;
+    for part in parts {
+        greatest = part.frame.max(greatest);
+    }
+    let name = owned(
+        &mut layout.stops.memory,
+        "what functions keep over their calls",
+    );
+    let bytes = parts.len().saturating_mul(RECORD);
+    let object = layout.add(name, RECORD as u32, &[], bytes, line);
+    let address = layout.address(object, 0);
+    let mut place = None;
+    if let Some(stack) = stack {
+        let name = owned(
+            &mut layout.stops.memory,
+            "the stack of functions that call each other",
+        );
+        let bytes = stack.bytes.saturating_add(greatest).saturating_add(ROOM);
+        let object = layout.add(name, stack.bytes, &[], bytes as usize, line);
+        let start = layout.address(object, 0);
+        place = Some(StackPlace {
+            stack: *stack,
+            start,
+        });
+    }
+    ((object, address), place)
+}
+
+/// Lets calls name functions by other numbers.
+fn renumber(blocks: &mut [Block], numbers: &[usize]) {
+    for block in blocks {
+        for step in block.steps.iter_mut() {
+            if let Some(callee) = step.callee
+                && callee < numbers.len()
+            {
+                step.callee = Some(numbers[callee]);
+            }
+        }
+    }
+}
+
+/// The functions of a program once those that are joined are one: that first one, and the others.
+fn assembled(
+    memory: &mut Heap,
+    functions: Vec<Function>,
+    parts: &[Part],
+    blocks: Vec<Block>,
+    frame: u32,
+) -> Vec<Function> {
+    let mut numbers = Vec::new(memory.alloc);
+    let mut all: Vec<Function> = Vec::new(memory.alloc);
+    let mut whole = Some(blocks);
+    for (number, function) in functions.into_iter().enumerate() {
+        let mut function = function;
+        let is_joined = number < parts.len() && parts[number].is_joined;
+        memory.push(&mut numbers, all.len());
+        if let Some(blocks) = whole.take() {
+            function.blocks = blocks;
+            function.frame = frame;
+            memory.push(&mut all, function);
+        } else if !is_joined {
+            memory.push(&mut all, function);
+        }
+    }
+    for function in all.iter_mut() {
+        renumber(function.blocks.as_mut_slice(), numbers.as_slice());
+    }
+    all
+}
+
+/// The shapes of a program's functions, what is live in them, and how many params and results they have.
+fn live_in(memory: &mut Heap, program: &Program) -> (Vec<FunctionShape>, Vec<RegisterCounts>) {
+    let mut shapes = Vec::new(memory.alloc);
+    for function in program.functions.as_slice() {
+        let shape = FunctionShape::of(memory, function);
+        memory.push(&mut shapes, shape);
+    }
+    let mut means = Means {
+        memory: *memory,
+        spent: None,
+    };
+    let counts = find_live(&mut means, program, shapes.as_mut_slice());
+    memory.is_refused |= means.are_used_up();
+    (shapes, counts)
+}
+
+/// So many empty lists.
+fn vec_of_lists(memory: &mut Heap, count: usize) -> Vec<Vec<usize>> {
+    let mut lists = Vec::new(memory.alloc);
+    for _ in 0..count {
+        let list = Vec::new(memory.alloc);
+        memory.push(&mut lists, list);
+    }
+    lists
+}
+
+/// Splits the blocks of the functions that are joined at their calls; `symbols` has the functions' names.
+fn split_all(stops: &mut Stops, functions: &mut [Function], parts: &[Part], symbols: &[usize]) {
+    for (number, function) in functions.iter_mut().enumerate() {
+        if number < parts.len() && number < symbols.len() && parts[number].is_joined {
+            stops.symbol = symbols[number];
+            split_at_calls(stops, function, parts);
+        }
+    }
+}
+
+/// Joins the functions of a program that are to be joined to the first one, which has a window and is one of them.
+/// `symbols` has the functions' names in the source. What stops it is noted: codes, or a value in a register that no
+/// call keeps, which are asked for behind a call; and more calls of a function than are told apart.
+pub fn join(
+    layout: &mut Layout,
+    mut functions: Vec<Function>,
+    parts: &[Part],
+    symbols: &[usize],
+    stack: &Option<SoftStack>,
+) -> Vec<Function> {
+    let alloc = layout.stops.memory.alloc;
+    split_all(&mut layout.stops, functions.as_mut_slice(), parts, symbols);
+    let (pointer, frame) = match stack {
+        Some(stack) if stack.is_kept => (stack.register.number(), SAVE_AREA),
+        Some(stack) => (stack.register.number(), SAVE_AREA + 8),
+        None => (0, SAVE_AREA),
+    };
+    let (record, stack) = add_objects(layout, parts, stack);
+    let mut memory = layout.stops.memory;
+    let placed = place_all(&mut memory, functions.as_slice(), parts, record, pointer);
+    let mut program = Program {
+        functions,
+        objects: Vec::new(alloc),
+        regions: Vec::new(alloc),
+        files: Vec::new(alloc),
+    };
+    let (shapes, counts) = live_in(&mut memory, &program);
+    let sites = vec_of_lists(&mut memory, parts.len());
+    let mut joiner = Joiner {
+        memory,
+        parts,
+        counts: counts.as_slice(),
+        placed: placed.as_slice(),
+        stack,
+        number: 0,
+        fault: None,
+        blocks: Vec::new(alloc),
+        sites,
+    };
+    joiner.join_all(program.functions.as_mut_slice(), shapes.as_slice());
+    joiner.push_all();
+    joiner.end_all();
+    layout.stops.memory = joiner.memory;
+    let blocks = joiner.blocks;
+    if let Some((number, line, what)) = joiner.fault {
+        layout.stops.symbol = symbols.get(number).copied().unwrap_or(0);
+        layout.stops.form(line, what);
+    }
+    assembled(
+        &mut layout.stops.memory,
+        program.functions,
+        parts,
+        blocks,
+        frame,
+    )
+}

@@ -1,0 +1,454 @@
+//! Joining functions to the first one.
+use crate::assembling::Placed;
+use crate::keeping::{BASE, KEPT, Keep, NUMBER, push_number, push_step};
+use crate::places::Part;
+use crate::returning::{StackPlace, push_entry, push_giving, push_halves, push_open};
+use crate::splitting::joined_callee;
+use fit_checks::register;
+use fit_code::{Block, End, Function, Heap, SourceLine, Step};
+use fit_graph::{Effects, FunctionShape, RegisterCounts, effects_in};
+use std::mem;
+use v8_formats::{Instr, Operand, Reg, Three};
+
+/// Where the word of the first function's frame stands that keeps what points into the soft stack over a CALL.
+const FIRST_WORD: u32 = 64;
+
+/// The most places that a function returns to.
+const SITES: usize = 4096;
+
+/// The globals, which no call leaves as they were: each has a bit.
+const GLOBALS: u32 = 0x1e;
+
+/// The outs without results, which no call leaves as they were.
+const OUTS: u32 = 0x3c00;
+
+const NOT_KEPT: &str = "a value in a register that a call doesn't keep";
+
+/// The registers that a function with a window may ask for though nothing was written to them, each of which has a bit:
+/// globals, outs and locals.
+const UNWRITTEN: u32 = 0x00ff_3f1e;
+
+/// Locals and ins.
+const WINDOW: u32 = 0xffff_0000;
+
+/// Functions that are joined, as far as that is done.
+#[derive(Drop)]
+pub struct Joiner<'j> {
+    pub memory: Heap,
+    pub parts: &'j [Part],
+    pub counts: &'j [RegisterCounts],
+    pub placed: &'j [Placed],
+    pub stack: Option<StackPlace>,
+    /// The number of the function that is joined.
+    pub number: usize,
+    /// What can't be joined first: the function that has it, its line, and what is told of it.
+    pub fault: Option<(usize, SourceLine, &'static str)>,
+    pub blocks: Vec<Block>,
+    /// Of each function the blocks behind its calls, by their numbers.
+    pub sites: Vec<Vec<usize>>,
+}
+
+/// A move between registers.
+fn copied(rd: u8, from: u8) -> Instr {
+    Instr::Or(Three {
+        rd: register(rd),
+        rs1: Reg::G0,
+        operand2: Operand::Register(register(from)),
+    })
+}
+
+/// Pushes what clears some registers, each of which has a bit.
+fn push_clears(memory: &mut Heap, steps: &mut Vec<Step>, registers: u32, line: SourceLine) {
+    for number in 1..32u8 {
+        if registers >> number & 1 == 1 {
+            push_step(memory, steps, copied(number, 0), None, line);
+        }
+    }
+}
+
+/// An end with other numbers, that many further on.
+fn moved(end: End, by: usize) -> End {
+    match end {
+        End::Jump(to) => End::Jump(to.saturating_add(by)),
+        End::Branch { cond, taken, next } => End::Branch {
+            cond,
+            taken: taken.saturating_add(by),
+            next: next.saturating_add(by),
+        },
+        other => other,
+    }
+}
+
+impl Joiner<'_> {
+    /// Notes what can't be joined.
+    fn note(&mut self, line: SourceLine, what: &'static str) {
+        if self.fault.is_none() {
+            self.fault = Some((self.number, line, what));
+        }
+    }
+
+    /// How many params and results a function has.
+    fn counts_of(&self, number: usize) -> RegisterCounts {
+        if number < self.counts.len() {
+            self.counts[number]
+        } else {
+            RegisterCounts {
+                params: 0,
+                results: 0,
+            }
+        }
+    }
+
+    /// Pushes what stands before a function's first step: what it may ask for though nothing was written to it is cleared,
+    /// and the first one sets what points into the soft stack.
+    fn push_first(&mut self, steps: &mut Vec<Step>, number: usize, live: u32, line: SourceLine) {
+        if number >= self.parts.len() || number >= self.placed.len() {
+            return;
+        }
+        let (part, framed) = (self.parts[number], self.placed[number].framed);
+        if part.is_caller {
+            return;
+        }
+        if let Some(place) = self.stack
+            && number == 0
+        {
+            if part.frame > place.top().saturating_sub(place.start) {
+                self.note(line, "a frame that its stack has no room for");
+            }
+            let top = place.top().saturating_sub(part.frame);
+            let rd = place.stack.register.number();
+            push_number(&mut self.memory, steps, rd, top, line);
+        }
+        let unwritten = if framed { UNWRITTEN } else { UNWRITTEN & 0xff };
+        if !framed & (live & WINDOW != 0) {
+            self.note(line, "a register of its caller's window");
+        }
+        push_clears(&mut self.memory, steps, live & unwritten, line);
+    }
+
+    /// The number of what points into the soft stack, if a CALL loses it; else 0.
+    fn lost_pointer(&self) -> u8 {
+        match &self.stack {
+            Some(place) if !place.stack.is_kept => place.stack.register.number(),
+            _ => 0,
+        }
+    }
+
+    /// Pushes what keeps what points into the soft stack in a word of the frame over a call that stays one, or gets it
+    /// from there, if that call loses it.
+    fn push_pointer(&mut self, steps: &mut Vec<Step>, keeps: bool, line: SourceLine) {
+        let number = self.lost_pointer();
+        if number != 0 {
+            let moved = (keeps, register(number), FIRST_WORD);
+            Keep::Soft(Reg::SP).push_move(&mut self.memory, steps, moved, line);
+        }
+    }
+
+    /// Pushes what stands behind a call that stays one, where some registers are live: those are cleared that no call
+    /// keeps.
+    fn push_behind(&mut self, steps: &mut Vec<Step>, live: u32, line: SourceLine) {
+        self.push_pointer(steps, false, line);
+        push_clears(&mut self.memory, steps, live & OUTS, line);
+        if live & GLOBALS != 0 {
+            self.note(line, NOT_KEPT);
+        }
+    }
+
+    /// Pushes a call of a function that is joined, over which some registers are kept.
+    fn push_call(
+        &mut self,
+        steps: &mut Vec<Step>,
+        (caller, callee): (usize, usize),
+        kept: u32,
+        line: SourceLine,
+    ) {
+        let params = self.counts_of(callee).params;
+        let (parts, placed) = (self.parts, self.placed);
+        if caller >= placed.len() || callee >= placed.len() {
+            return;
+        }
+        let Placed {
+            calls,
+            keep,
+            number_at,
+            framed,
+            ..
+        } = placed[callee];
+        let own = placed[caller].keep;
+        let memory = &mut self.memory;
+        own.push_moves(memory, steps, (true, kept), line);
+        if calls > 1 && callee < self.sites.len() {
+            let number = self.sites[callee].len().min(SITES) as u32;
+            push_number(memory, steps, NUMBER, number, line);
+            keep.push_base(memory, steps, line);
+            let moved = (true, register(NUMBER), number_at);
+            keep.push_move(memory, steps, moved, line);
+        }
+        if callee < parts.len() && parts[callee].is_caller {
+            // told where no function has the pointer
+            push_number(memory, steps, BASE, line.number.min(0xffff), line);
+        }
+        if framed {
+            for param in 0..params.min(6) {
+                push_step(memory, steps, copied(24 + param, 8 + param), None, line);
+            }
+        }
+    }
+
+    /// Pushes what a return does with a function's results: its ins, or what RESTORE with these fields gives, become its
+    /// caller's outs.
+    fn push_results(
+        &mut self,
+        steps: &mut Vec<Step>,
+        number: usize,
+        fields: &Three,
+        line: SourceLine,
+    ) {
+        let results = self.counts_of(number).results;
+        let given = fields.rd.number();
+        if (given != 0) & !((8..14).contains(&given)) {
+            self.note(line, "a return that writes another register than a result");
+        }
+        let memory = &mut self.memory;
+        if (8 <= given) & (given < 8u8.saturating_add(results)) {
+            push_step(memory, steps, Instr::Add(*fields), None, line);
+        }
+        for place in 0..results.min(2) {
+            if given != 8 + place {
+                push_step(memory, steps, copied(8 + place, 24 + place), None, line);
+            }
+        }
+    }
+
+    /// The end of a block of a function, where it doesn't call one that is joined.
+    fn end_of(&mut self, steps: &mut Vec<Step>, number: usize, end: End, line: SourceLine) -> End {
+        let Placed {
+            first,
+            framed,
+            back,
+            ..
+        } = match self.placed.get(number) {
+            Some(placed) => *placed,
+            None => return end,
+        };
+        match end {
+            End::Return(fields) => {
+                if framed {
+                    self.push_results(steps, number, &fields, line);
+                }
+                End::Jump(back)
+            }
+            other => moved(other, first),
+        }
+    }
+
+    /// The registers that are live where a block begins, each of which has a bit, but for what points into the soft
+    /// stack.
+    fn live_at(&self, shape: &FunctionShape, block: usize) -> u32 {
+        match shape.live.get(block) {
+            Some(live) => live.registers() & !self.pointer(),
+            None => 0,
+        }
+    }
+
+    /// The bit of what points into the soft stack, if there is one.
+    fn pointer(&self) -> u32 {
+        match &self.stack {
+            Some(place) => 1 << place.stack.register.number(),
+            None => 0,
+        }
+    }
+
+    /// Pushes a call of a function that is joined, behind which some registers are live, and notes the block behind it,
+    /// by its number in the caller. Gives the end of the calling block.
+    fn call_from(
+        &mut self,
+        steps: &mut Vec<Step>,
+        (caller, callee, behind): (usize, usize, usize),
+        live: u32,
+        line: SourceLine,
+    ) -> End {
+        let placed = self.placed;
+        if caller >= placed.len() || callee >= placed.len() {
+            return End::Exit;
+        }
+        if live & GLOBALS != 0 {
+            self.note(line, NOT_KEPT);
+        }
+        self.push_call(steps, (caller, callee), live & KEPT, line);
+        let site = placed[caller].first.saturating_add(behind);
+        if callee < self.sites.len() {
+            self.memory.push(&mut self.sites[callee], site);
+        }
+        End::Jump(placed[callee].entry)
+    }
+
+    /// Lets the block behind a call begin with what its function kept over that, of the registers that are live there.
+    fn come_back(&mut self, block: &mut Block, caller: usize, live: u32, line: SourceLine) {
+        if caller >= self.placed.len() {
+            return;
+        }
+        let keep = self.placed[caller].keep;
+        let memory = &mut self.memory;
+        let mut front = Vec::new(memory.alloc);
+        keep.push_moves(memory, &mut front, (false, live & KEPT), line);
+        push_clears(memory, &mut front, live & OUTS, line);
+        memory.take(front.append(&mut block.steps));
+        block.steps = front;
+    }
+
+    /// The registers that are live behind each step of a block, each of which has a bit, the last step first.
+    fn live_behind(&mut self, block: &Block, shape: &FunctionShape) -> Vec<u32> {
+        let [first, second] = block.end.ways();
+        let mut live = 0;
+        for way in [first, second] {
+            live |= way.map_or(0, |to| self.live_at(shape, to));
+        }
+        let mut behind = Vec::new(self.memory.alloc);
+        for step in block.steps.as_slice().iter().rev() {
+            self.memory.push(&mut behind, live);
+            let Effects { reads, writes, .. } = effects_in(0, step);
+            live = live & !writes | reads & !self.pointer();
+            if let Some(callee) = step.callee {
+                let params = u32::from(self.counts_of(callee).params);
+                live |= (1u32 << params.min(6)).saturating_sub(1) << 8;
+            }
+        }
+        behind
+    }
+
+    /// Joins a block of a function of this shape.
+    fn join_block(
+        &mut self,
+        blocks: &mut [Block],
+        (number, place): (usize, usize),
+        shape: &FunctionShape,
+    ) {
+        if place >= blocks.len() {
+            return;
+        }
+        let mut behind = self.live_behind(&blocks[place], shape);
+        let (end, line) = (blocks[place].end, blocks[place].line);
+        let old = mem::replace(&mut blocks[place].steps, Vec::new(self.memory.alloc));
+        let mut steps = Vec::new(self.memory.alloc);
+        if place == 0 {
+            let live = self.live_at(shape, 0);
+            self.push_first(&mut steps, number, live, line);
+        }
+        let mut called = None;
+        for step in old.as_slice() {
+            let live = behind.pop().unwrap_or(0);
+            match joined_callee(self.parts, step) {
+                Some(callee) => called = Some((callee, step.line)),
+                None => {
+                    let (line, is_call) = (step.line, step.callee.is_some());
+                    if is_call {
+                        self.push_pointer(&mut steps, true, line);
+                    }
+                    self.memory.push(&mut steps, *step);
+                    if is_call {
+                        self.push_behind(&mut steps, live, line);
+                    }
+                }
+            }
+        }
+        let end = match (called, end) {
+            (Some((callee, at)), End::Jump(behind)) => {
+                let live = self.live_at(shape, behind);
+                if behind < blocks.len() {
+                    self.come_back(&mut blocks[behind], number, live, at);
+                }
+                self.call_from(&mut steps, (number, callee, behind), live, at)
+            }
+            _ => self.end_of(&mut steps, number, end, line),
+        };
+        let joined = Block {
+            steps,
+            end,
+            slot: None,
+            line,
+        };
+        self.memory.push(&mut self.blocks, joined);
+    }
+
+    /// Joins the blocks of a function of this shape.
+    fn join_function(&mut self, number: usize, function: &mut Function, shape: &FunctionShape) {
+        self.number = number;
+        let blocks = function.blocks.as_mut_slice();
+        for place in 0..blocks.len() {
+            self.join_block(blocks, (number, place), shape);
+        }
+    }
+
+    /// Joins all functions of these shapes that are to be.
+    pub fn join_all(&mut self, functions: &mut [Function], shapes: &[FunctionShape]) {
+        for number in 0..functions.len() {
+            if number < shapes.len() && number < self.parts.len() && self.parts[number].is_joined {
+                self.join_function(number, &mut functions[number], &shapes[number]);
+            }
+        }
+    }
+
+    /// Lets all functions go back to the places that they were called from.
+    pub fn end_all(&mut self) {
+        let parts = self.parts;
+        for (number, part) in parts.iter().enumerate() {
+            if part.is_joined & (number > 0) {
+                self.end_back(number);
+            }
+        }
+    }
+
+    /// Pushes the blocks by which control comes into the functions that are joined and goes back from them.
+    pub fn push_all(&mut self) {
+        let parts = self.parts;
+        for (number, part) in parts.iter().enumerate() {
+            if part.is_joined & (number > 0) {
+                self.push_ways(number, part);
+            }
+        }
+    }
+
+    /// Pushes the blocks by which control comes into a function and goes back from it.
+    fn push_ways(&mut self, number: usize, part: &Part) {
+        if number >= self.placed.len() {
+            return;
+        }
+        let Placed {
+            line,
+            first,
+            calls,
+            number_at,
+            keep,
+            ..
+        } = self.placed[number];
+        let (memory, blocks) = (&mut self.memory, &mut self.blocks);
+        let mut steps = Vec::new(memory.alloc);
+        if part.is_soft
+            && !part.is_caller
+            && let Some(place) = &self.stack
+        {
+            push_entry(memory, blocks, place, (part.frame, first), line);
+            push_giving(memory, &mut steps, place, part.frame, line);
+        }
+        if calls > 1 {
+            keep.push_base(memory, &mut steps, line);
+            let loaded = (false, register(BASE), number_at);
+            keep.push_move(memory, &mut steps, loaded, line);
+        }
+        push_open(memory, blocks, steps, line);
+    }
+
+    /// Lets a function go back to the places that it was called from.
+    fn end_back(&mut self, number: usize) {
+        if number >= self.placed.len() || number >= self.sites.len() {
+            return;
+        }
+        let Placed { back, line, .. } = self.placed[number];
+        let sites = self.sites[number].as_slice();
+        push_halves(&mut self.memory, &mut self.blocks, back, sites, line);
+        if sites.len() > SITES {
+            self.fault = Some((number, line, "more than 4096 calls of one function"));
+        }
+    }
+}

@@ -1,0 +1,65 @@
+//! What is known of the functions that are to be joined, and the stack of those that are called again before they
+//! return.
+use fit_checks::register;
+use fit_code::{End, Function};
+use fit_graph::{Effects, effects_in, effects_of};
+use v8_formats::{Instr, Reg};
+
+/// How a function of the program is put into the image.
+#[derive(Clone, Copy)]
+pub struct Part {
+    /// Whether it becomes a part of the first function.
+    pub is_joined: bool,
+    /// Whether its frame lies on the soft stack, since it may be called again before it returns.
+    pub is_soft: bool,
+    /// Whether it is what calls through pointers: it takes no frame, and hands on all that it is given.
+    pub is_caller: bool,
+    /// The bytes of its frame there, a multiple of 8.
+    pub frame: u32,
+}
+
+/// A stack in the data, for frames of functions that may be called again before they return.
+#[derive(Clone, Copy)]
+pub struct SoftStack {
+    /// What points to the frame of the function that runs.
+    pub register: Reg,
+    /// Whether CALLs leave that register as it is.
+    pub is_kept: bool,
+    /// The bytes in which the register may point, a power of 2; behind them there is room for one frame.
+    pub bytes: u32,
+}
+
+/// The registers that may point into the soft stack, from the last choice on: globals that compilers leave alone, ins
+/// but those of results, and locals.
+const CANDIDATES: &[u8] = &[2, 3, 4, 26, 27, 28, 29, 16, 17, 18, 19, 20, 21, 22, 23];
+
+/// The registers that a function names, each of which has a bit, but for those that a call loses.
+fn named_in(function: &Function) -> u32 {
+    let mut named = 0;
+    for block in function.blocks.as_slice() {
+        if let End::Return(fields) = block.end {
+            // RESTORE reads what ADD does
+            named |= effects_of(function.frame, &Instr::Add(fields)).reads;
+        }
+        for step in block.steps.as_slice() {
+            let Effects { reads, writes, .. } = effects_in(function.frame, step);
+            named |= reads | if step.callee.is_some() { 0 } else { writes };
+        }
+    }
+    named
+}
+
+/// A register that no function names, and whether CALLs leave it as it is; none where each is named.
+pub fn stack_register(functions: &[Function]) -> Option<(Reg, bool)> {
+    let mut named = 0;
+    for function in functions {
+        named |= named_in(function);
+    }
+    let mut free = None;
+    for number in CANDIDATES {
+        if named >> (number % 32) & 1 == 0 {
+            free = Some((register(*number), *number >= 16));
+        }
+    }
+    free
+}
