@@ -83,11 +83,13 @@ int vscanf(const char *, va_list) __READS(1, 0);
 int vfscanf(FILE *, const char *, va_list) __READS(2, 0);
 int vsscanf(const char *, const char *, va_list) __READS(2, 0);
 
-#ifdef __clang__
+#ifdef __REFUSED
+#elif defined __clang__
 #define __FAILS(why)
 #define __REFUSED(why) __attribute__((__unavailable__(why)))
 #else
-#define __FAILS(why) __attribute__((__warning__(why)))
+/* (a call that became a part of its caller wouldn't be told of) */
+#define __FAILS(why) __attribute__((__warning__(why), __noinline__, __noclone__))
 #define __REFUSED(why) __attribute__((__error__(why)))
 #endif
 

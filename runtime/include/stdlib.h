@@ -32,7 +32,7 @@ void exit(int) __attribute__((__noreturn__));
 void _Exit(int) __attribute__((__noreturn__));
 /* The exit word is 00060000. */
 void abort(void) __attribute__((__noreturn__));
-/* Up to 32 functions. */
+/* Up to 64 functions. */
 int atexit(void (*)(void));
 /* There is no environment: NULL for each name. */
 char *getenv(const char *);

@@ -11,9 +11,12 @@ struct decimal {
     char digits[DECIMAL_DIGITS]; /* '0' to '9' */
 };
 
+/* The decimal that was made last: its address is known, so that no access to it has to be tested. */
+extern struct decimal __decimal;
+
 /* Of a finite number that isn't below 0: digits up to so many places behind the point, or so many digits in all.
    Digits that would all be 0 from some place on may be left out. */
-void __decimal_to_places(struct decimal *decimal, double number, int places);
-void __decimal_to_digits(struct decimal *decimal, double number, int digits);
+void __decimal_to_places(double number, int places);
+void __decimal_to_digits(double number, int digits);
 
 #endif

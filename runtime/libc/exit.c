@@ -2,30 +2,41 @@
 #include <stdlib.h>
 #include "plug.h"
 
-/* Beside the words of the tests that fit puts in, 0001LLLL to 0004LLLL. */
+/* Beside the words of the tests that fit puts in, 0001LLLL to 0005LLLL. */
 #define ABORTED 0x00060000
 
-#define MOST 32
+#define MOST 64
 
-static void (*functions[MOST])(void);
+/* What is to be called at the end: of atexit, or, with its object, of C++'s. */
+static struct {
+    void (*function)(void *);
+    void *object;
+} told[MOST];
 static unsigned count;
-/* None as long as atexit hasn't been called: a program that doesn't call it has no call through a pointer for it. */
-static void (*run_functions)(void);
+/* None as long as nobody has told of a function: such a program has no call through a pointer for it. cc looks whether
+   the name is left in a program, and has main's return call exit then. */
+void (*__exit_functions)(void);
 
-/* (a function may tell atexit of further ones, which run next) */
+/* (a function may tell of further ones, which run next) */
 static void run_all(void) {
     while (count > 0) {
         count--;
-        functions[count]();
+        void (*function)(void *) = told[count].function;
+        if (function) function(told[count].object); /* (so that no call is left where nobody tells of one) */
     }
 }
 
-int atexit(void (*function)(void)) {
+/* C++'s: what ends a static object. */
+int __cxa_atexit(void (*function)(void *), void *object, void *of) {
+    (void)of;
     if (count == MOST) return -1;
-    functions[count++] = function;
-    run_functions = run_all;
+    told[count].function = function;
+    told[count++].object = object;
+    __exit_functions = run_all;
     return 0;
 }
+
+int atexit(void (*function)(void)) { return __cxa_atexit((void (*)(void *))function, NULL, NULL); }
 
 void _Exit(int status) {
     quit(status);
@@ -33,7 +44,7 @@ void _Exit(int status) {
 }
 
 void exit(int status) {
-    if (run_functions) run_functions();
+    if (__exit_functions) __exit_functions();
     _Exit(status);
 }
 

@@ -6,67 +6,78 @@
 #include <string.h>
 #include "print.h"
 
+struct sink __sink;
+struct conversion __asked;
+va_list __print_arguments;
+
+void __sink_to(FILE *stream, char *to, size_t room) {
+    __sink.stream = stream;
+    __sink.to = to;
+    __sink.room = room;
+    __sink.count = 0;
+}
+
 /* How many of so many bytes have room in memory. */
-static size_t stored(const struct sink *sink, size_t size) {
-    size_t room = sink->count < sink->room ? sink->room - sink->count : 0;
+static size_t stored(size_t size) {
+    size_t room = __sink.count < __sink.room ? __sink.room - __sink.count : 0;
     return size < room ? size : room;
 }
 
-void __sink_bytes(struct sink *sink, const char *from, size_t size) {
-    if (sink->stream) {
-        fwrite(from, 1, size, sink->stream);
+void __sink_bytes(const char *from, size_t size) {
+    if (__sink.stream) {
+        fwrite(from, 1, size, __sink.stream);
     } else {
-        size_t kept = stored(sink, size);
-        if (kept) memcpy(sink->to + sink->count, from, kept);
+        size_t kept = stored(size);
+        if (kept) memcpy(__sink.to + __sink.count, from, kept);
     }
-    sink->count += size;
+    __sink.count += size;
 }
 
-void __sink_repeated(struct sink *sink, char c, size_t count) {
-    for (; count > 0; count--) __sink_bytes(sink, &c, 1);
+void __sink_repeated(char c, size_t count) {
+    for (; count > 0; count--) __sink_bytes(&c, 1);
 }
 
 /* How many bytes bring size to the width. */
-static size_t fill_of(const struct conversion *asked, size_t size) {
-    return (size_t)asked->width > size ? (size_t)asked->width - size : 0;
+static size_t fill_of(size_t size) {
+    return (size_t)__asked.width > size ? (size_t)__asked.width - size : 0;
 }
 
-void __print_head(struct sink *sink, const struct conversion *asked, struct prefix prefix, size_t zeros,
+void __print_head(struct prefix prefix, size_t zeros,
                   size_t size) {
-    if (asked->width && !(asked->flags & LEFT)) {
-        size_t fill = fill_of(asked, prefix.size + zeros + size);
-        if (asked->flags & ZEROS) zeros += fill;
-        else __sink_repeated(sink, ' ', fill);
+    if (__asked.width && !(__asked.flags & LEFT)) {
+        size_t fill = fill_of(prefix.size + zeros + size);
+        if (__asked.flags & ZEROS) zeros += fill;
+        else __sink_repeated(' ', fill);
     }
-    if (prefix.size) __sink_bytes(sink, prefix.text, prefix.size);
-    __sink_repeated(sink, '0', zeros);
+    if (prefix.size) __sink_bytes(prefix.text, prefix.size);
+    __sink_repeated('0', zeros);
 }
 
-void __print_tail(struct sink *sink, const struct conversion *asked, struct prefix prefix, size_t size) {
-    if (asked->flags & LEFT) __sink_repeated(sink, ' ', fill_of(asked, prefix.size + size));
+void __print_tail(struct prefix prefix, size_t size) {
+    if (__asked.flags & LEFT) __sink_repeated(' ', fill_of(prefix.size + size));
 }
 
-struct prefix __sign_of(const struct conversion *asked, int is_minus) {
+struct prefix __sign_of(int is_minus) {
     struct prefix prefix = {"-", 1};
     if (is_minus) return prefix;
-    prefix.text = asked->flags & PLUS ? "+" : " ";
-    prefix.size = (asked->flags & (PLUS | BLANK)) != 0;
+    prefix.text = __asked.flags & PLUS ? "+" : " ";
+    prefix.size = (__asked.flags & (PLUS | BLANK)) != 0;
     return prefix;
 }
 
-static void print_text(struct sink *sink, const struct conversion *asked, const char *text, size_t size) {
-    size_t fill = fill_of(asked, size);
-    if (!(asked->flags & LEFT)) __sink_repeated(sink, ' ', fill);
-    __sink_bytes(sink, text, size);
-    if (asked->flags & LEFT) __sink_repeated(sink, ' ', fill);
+static void print_text(const char *text, size_t size) {
+    size_t fill = fill_of(size);
+    if (!(__asked.flags & LEFT)) __sink_repeated(' ', fill);
+    __sink_bytes(text, size);
+    if (__asked.flags & LEFT) __sink_repeated(' ', fill);
 }
 
-static void print_string(struct sink *sink, const struct conversion *asked, const char *text) {
+static void print_string(const char *text) {
     static const char none[] = "(null)";
-    size_t size = 0, most = asked->precision < 0 ? (size_t)-1 : (size_t)asked->precision;
+    size_t size = 0, most = __asked.precision < 0 ? (size_t)-1 : (size_t)__asked.precision;
     if (!text) text = most < sizeof none - 1 ? "" : none;
     while (size < most && text[size]) size++;
-    print_text(sink, asked, text, size);
+    print_text(text, size);
 }
 
 /* number /= 10,000 by 16 bits a step, since there is no division of 64 bits; what is left over. */
@@ -104,76 +115,67 @@ static unsigned binary_digits(char digits[MOST_DIGITS], uint64_t number, unsigne
     return at;
 }
 
-static void print_number(struct print *print, struct prefix prefix, uint64_t number) {
-    struct conversion *asked = &print->asked;
-    char digits[MOST_DIGITS], letter = asked->letter;
+static void print_number(struct prefix prefix, uint64_t number) {
+    char digits[MOST_DIGITS], letter = __asked.letter;
     unsigned first;
     if (letter == 'd' || letter == 'i' || letter == 'u') first = decimal_digits(digits, number);
     else if (letter == 'o') first = binary_digits(digits, number, 3, 'a');
     else first = binary_digits(digits, number, 4, letter == 'X' ? 'A' : 'a');
     size_t size = MOST_DIGITS - first, wanted = 1;
-    if (asked->precision >= 0) {
-        wanted = (size_t)asked->precision;
-        asked->flags &= ~(unsigned)ZEROS;
+    if (__asked.precision >= 0) {
+        wanted = (size_t)__asked.precision;
+        __asked.flags &= ~(unsigned)ZEROS;
     }
-    if (letter == 'o' && asked->flags & OTHER && wanted <= size) wanted = size + 1;
+    if (letter == 'o' && __asked.flags & OTHER && wanted <= size) wanted = size + 1;
     size_t zeros = wanted > size ? wanted - size : 0;
-    __print_head(print->sink, asked, prefix, zeros, size);
-    __sink_bytes(print->sink, digits + first, size);
-    __print_tail(print->sink, asked, prefix, zeros + size);
+    __print_head(prefix, zeros, size);
+    __sink_bytes(digits + first, size);
+    __print_tail(prefix, zeros + size);
 }
 
-static intmax_t signed_argument(struct print *print) {
-    char length = print->asked.length;
-    if (length == 0) return va_arg(print->arguments, int);
-    if (length == 'l') return va_arg(print->arguments, long);
-    if (length == 'q') return va_arg(print->arguments, long long);
-    if (length == 'h') return (short)va_arg(print->arguments, int);
-    if (length == 'H') return (signed char)va_arg(print->arguments, int);
-    if (length == 'j') return va_arg(print->arguments, intmax_t);
-    return va_arg(print->arguments, ptrdiff_t);
+/* Whether an integer of that length has 64 bits. */
+static int is_wide(char length) {
+    if (length == 'q' || length == 'j') return 1;
+    return sizeof(long) == sizeof(long long) && (length == 'l' || length == 'z' || length == 't');
 }
 
-static uintmax_t unsigned_argument(struct print *print) {
-    char length = print->asked.length;
-    if (length == 0) return va_arg(print->arguments, unsigned);
-    if (length == 'l') return va_arg(print->arguments, unsigned long);
-    if (length == 'q') return va_arg(print->arguments, unsigned long long);
-    if (length == 'h') return (unsigned short)va_arg(print->arguments, int);
-    if (length == 'H') return (unsigned char)va_arg(print->arguments, int);
-    if (length == 'j') return va_arg(print->arguments, uintmax_t);
-    return va_arg(print->arguments, size_t);
+/* The next argument as its length has it: of 64 bits, or of 32 and fewer, whatever its type is called. */
+static uintmax_t argument(int is_signed) {
+    char length = __asked.length;
+    if (is_wide(length)) return va_arg(__print_arguments, unsigned long long);
+    unsigned word = va_arg(__print_arguments, unsigned);
+    if (length == 'h') word = is_signed ? (unsigned)(short)word : (unsigned short)word;
+    if (length == 'H') word = is_signed ? (unsigned)(signed char)word : (unsigned char)word;
+    return is_signed ? (uintmax_t)(int)word : word;
 }
 
-static void print_signed(struct print *print) {
-    intmax_t number = signed_argument(print);
-    print_number(print, __sign_of(&print->asked, number < 0), number < 0 ? -(uintmax_t)number : (uintmax_t)number);
+static void print_signed(void) {
+    intmax_t number = (intmax_t)argument(1);
+    print_number(__sign_of(number < 0), number < 0 ? -(uintmax_t)number : (uintmax_t)number);
 }
 
-static void print_unsigned(struct print *print) {
-    uintmax_t number = unsigned_argument(print);
-    struct prefix prefix = {print->asked.letter == 'X' ? "0X" : "0x", 0};
-    if (print->asked.flags & OTHER && number != 0 && (print->asked.letter | 32) == 'x') prefix.size = 2;
-    print_number(print, prefix, number);
+static void print_unsigned(void) {
+    uintmax_t number = argument(0);
+    struct prefix prefix = {__asked.letter == 'X' ? "0X" : "0x", 0};
+    if (__asked.flags & OTHER && number != 0 && (__asked.letter | 32) == 'x') prefix.size = 2;
+    print_number(prefix, number);
 }
 
-static void print_pointer(struct print *print) {
+static void print_pointer(void) {
     struct prefix prefix = {"0x", 2};
-    uintptr_t address = (uintptr_t)va_arg(print->arguments, void *);
-    if (address) print_number(print, prefix, address);
-    else print_text(print->sink, &print->asked, "(nil)", 5);
+    uintptr_t address = (uintptr_t)va_arg(__print_arguments, void *);
+    if (address) print_number(prefix, address);
+    else print_text("(nil)", 5);
 }
 
-static void store_count(struct print *print) {
-    size_t count = print->sink->count;
-    char length = print->asked.length;
-    if (length == 0) *va_arg(print->arguments, int *) = (int)count;
-    else if (length == 'l') *va_arg(print->arguments, long *) = (long)count;
-    else if (length == 'q') *va_arg(print->arguments, long long *) = (long long)count;
-    else if (length == 'h') *va_arg(print->arguments, short *) = (short)count;
-    else if (length == 'H') *va_arg(print->arguments, signed char *) = (signed char)count;
-    else if (length == 'j') *va_arg(print->arguments, intmax_t *) = (intmax_t)count;
-    else *va_arg(print->arguments, ptrdiff_t *) = (ptrdiff_t)count;
+static void store_count(void) {
+    size_t count = __sink.count;
+    char length = __asked.length;
+    void *to = va_arg(__print_arguments, void *);
+    if (is_wide(length)) *(long long *)to = (long long)count;
+    else if (length == 'h') *(short *)to = (short)count;
+    else if (length == 'H') *(signed char *)to = (signed char)count;
+    else *(int *)to = (int)count;
 }
 
 static unsigned flag_of(char c) {
@@ -188,9 +190,9 @@ static unsigned flag_of(char c) {
 }
 
 /* A width or a precision: digits, or * for an argument. */
-static const char *read_size(struct print *print, const char *at, int *size) {
+static const char *read_size(const char *at, int *size) {
     if (*at == '*') {
-        *size = va_arg(print->arguments, int);
+        *size = va_arg(__print_arguments, int);
         return at + 1;
     }
     for (*size = 0; isdigit((unsigned char)*at); at++) {
@@ -201,77 +203,75 @@ static const char *read_size(struct print *print, const char *at, int *size) {
 }
 
 /* Flags, width and precision, which most conversions haven't got. */
-static const char *read_modifiers(struct print *print, const char *at) {
-    struct conversion *asked = &print->asked;
-    for (unsigned flag; (flag = flag_of(*at)) != 0; at++) asked->flags |= flag;
-    at = read_size(print, at, &asked->width);
-    if (asked->width < 0) {
-        asked->flags |= LEFT;
-        asked->width = asked->width == INT_MIN ? INT_MAX : -asked->width;
+static const char *read_modifiers(const char *at) {
+    for (unsigned flag; (flag = flag_of(*at)) != 0; at++) __asked.flags |= flag;
+    at = read_size(at, &__asked.width);
+    if (__asked.width < 0) {
+        __asked.flags |= LEFT;
+        __asked.width = __asked.width == INT_MIN ? INT_MAX : -__asked.width;
     }
     if (*at == '.') {
-        at = read_size(print, at + 1, &asked->precision);
-        if (asked->precision < 0) asked->precision = -1;
+        at = read_size(at + 1, &__asked.precision);
+        if (__asked.precision < 0) __asked.precision = -1;
     }
-    if (asked->flags & LEFT) asked->flags &= ~(unsigned)ZEROS;
+    if (__asked.flags & LEFT) __asked.flags &= ~(unsigned)ZEROS;
     return at;
 }
 
 static int is_length(char c) { return c == 'h' || c == 'l' || c == 'j' || c == 'z' || c == 't' || c == 'L'; }
 
-static const char *read_length(struct conversion *asked, const char *at) {
-    asked->length = *at++;
-    if (*at != asked->length || (*at != 'h' && *at != 'l')) return at;
-    asked->length = *at == 'h' ? 'H' : 'q';
+static const char *read_length(const char *at) {
+    __asked.length = *at++;
+    if (*at != __asked.length || (*at != 'h' && *at != 'l')) return at;
+    __asked.length = *at == 'h' ? 'H' : 'q';
     return at + 1;
 }
 
 /* Reads a conversion behind its sign, its letter among it; what follows. */
-static const char *read_conversion(struct print *print, const char *at) {
-    struct conversion *asked = &print->asked;
+static const char *read_conversion(const char *at) {
     char c = *at;
-    asked->flags = 0;
-    asked->width = 0;
-    asked->precision = -1;
-    asked->length = 0;
+    __asked.flags = 0;
+    __asked.width = 0;
+    __asked.precision = -1;
+    __asked.length = 0;
     if (!isalpha((unsigned char)c)) {
-        at = read_modifiers(print, at);
+        at = read_modifiers(at);
         c = *at;
     }
     if (is_length(c)) {
-        at = read_length(asked, at);
+        at = read_length(at);
         c = *at;
     }
-    asked->letter = c;
+    __asked.letter = c;
     return c ? at + 1 : at;
 }
 
 /* What isn't a conversion is put out as it stands; what is one elsewhere, and isn't known here, ends the run. */
-static void print_unknown(struct print *print, const char *from, const char *end) {
-    if (print->asked.letter == '$') abort();
-    __sink_bytes(print->sink, from, (size_t)(end - from));
+static void print_unknown(const char *from, const char *end) {
+    if (__asked.letter == '$') abort();
+    __sink_bytes(from, (size_t)(end - from));
 }
 
 /* %s and %c; no characters of several bytes. */
-static void print_characters(struct print *print) {
-    if (print->asked.length == 'l') abort();
-    if (print->asked.letter == 's') {
-        print_string(print->sink, &print->asked, va_arg(print->arguments, const char *));
+static void print_characters(void) {
+    if (__asked.length == 'l') abort();
+    if (__asked.letter == 's') {
+        print_string(va_arg(__print_arguments, const char *));
     } else {
-        char one = (char)va_arg(print->arguments, int);
-        print_text(print->sink, &print->asked, &one, 1);
+        char one = (char)va_arg(__print_arguments, int);
+        print_text(&one, 1);
     }
 }
 
-static void print_converted(struct print *print, const char *from, const char *end) {
-    char letter = print->asked.letter;
-    if (letter == 'd' || letter == 'i') print_signed(print);
-    else if (letter == 's' || letter == 'c') print_characters(print);
-    else if (letter == 'u' || letter == 'x' || letter == 'X' || letter == 'o') print_unsigned(print);
-    else if (letter == 'p') print_pointer(print);
-    else if (letter == 'n') store_count(print);
-    else if (letter == '%') __sink_bytes(print->sink, "%", 1);
-    else print_unknown(print, from, end);
+static void print_converted(const char *from, const char *end) {
+    char letter = __asked.letter;
+    if (letter == 'd' || letter == 'i') print_signed();
+    else if (letter == 's' || letter == 'c') print_characters();
+    else if (letter == 'u' || letter == 'x' || letter == 'X' || letter == 'o') print_unsigned();
+    else if (letter == 'p') print_pointer();
+    else if (letter == 'n') store_count();
+    else if (letter == '%') __sink_bytes("%", 1);
+    else print_unknown(from, end);
 }
 
 static int is_of_double(char letter) {
@@ -279,25 +279,21 @@ static int is_of_double(char letter) {
     return letter == 'a' || letter == 'e' || letter == 'f' || letter == 'g';
 }
 
-int __print_on(struct print *print) {
-    for (const char *at = print->at;;) {
+const char *__print_on(const char *at) {
+    for (;;) {
         const char *from = at;
         while (*at && *at != '%') at++;
-        if (at != from) __sink_bytes(print->sink, from, (size_t)(at - from));
-        if (!*at) return 0;
+        if (at != from) __sink_bytes(from, (size_t)(at - from));
+        if (!*at) return NULL;
         from = at;
-        at = read_conversion(print, at + 1);
-        if (is_of_double(print->asked.letter)) {
-            print->at = at;
-            return 1;
-        }
-        print_converted(print, from, at);
+        at = read_conversion(at + 1);
+        if (is_of_double(__asked.letter)) return at;
+        print_converted(from, at);
     }
 }
 
-void __print_whole(struct sink *sink, const char *format, va_list arguments) {
-    struct print print = {.sink = sink, .at = format};
-    va_copy(print.arguments, arguments);
-    if (__print_on(&print)) abort();
-    va_end(print.arguments);
+void __print_whole(const char *format, va_list arguments) {
+    va_copy(__print_arguments, arguments);
+    if (__print_on(format)) abort();
+    va_end(__print_arguments);
 }

@@ -4,43 +4,42 @@
 #include "decimal.h"
 #include "print.h"
 
-static int is_upper(const struct conversion *asked) { return asked->letter < 'a'; }
+static int is_upper(void) { return __asked.letter < 'a'; }
 
-static void print_word(struct sink *sink, const struct conversion *asked, uint64_t bits) {
-    struct conversion unfilled = *asked;
-    struct prefix prefix = __sign_of(asked, sign_of(bits) != 0);
-    const char *word = is_nan(bits) ? is_upper(asked) ? "NAN" : "nan" : is_upper(asked) ? "INF" : "inf";
-    unfilled.flags &= ~(unsigned)ZEROS;
-    __print_head(sink, &unfilled, prefix, 0, 3);
-    __sink_bytes(sink, word, 3);
-    __print_tail(sink, &unfilled, prefix, 3);
+static void print_word(uint64_t bits) {
+    struct prefix prefix = __sign_of(sign_of(bits) != 0);
+    const char *word = is_nan(bits) ? is_upper() ? "NAN" : "nan" : is_upper() ? "INF" : "inf";
+    __asked.flags &= ~(unsigned)ZEROS;
+    __print_head(prefix, 0, 3);
+    __sink_bytes(word, 3);
+    __print_tail(prefix, 3);
 }
 
 /* Digits from one place up to another, 0s where the decimal has none. */
-static void print_digits(struct sink *sink, const struct decimal *decimal, int from, int to) {
+static void print_digits(int from, int to) {
     int before = from < 0 ? (to < 0 ? to : 0) - from : 0;
-    __sink_repeated(sink, '0', (size_t)before);
+    __sink_repeated('0', (size_t)before);
     from += before;
-    int end = to < decimal->count ? to : decimal->count;
+    int end = to < __decimal.count ? to : __decimal.count;
     if (from < end) {
-        __sink_bytes(sink, decimal->digits + from, (size_t)(end - from));
+        __sink_bytes(__decimal.digits + from, (size_t)(end - from));
         from = end;
     }
-    if (from < to) __sink_repeated(sink, '0', (size_t)(to - from));
+    if (from < to) __sink_repeated('0', (size_t)(to - from));
 }
 
 /* A point where digits follow, or # asks for it. */
-static int has_point(const struct conversion *asked, int places) { return places > 0 || (asked->flags & OTHER) != 0; }
+static int has_point(int places) { return places > 0 || (__asked.flags & OTHER) != 0; }
 
-static void print_fixed(struct sink *sink, const struct conversion *asked, struct prefix prefix,
-                        const struct decimal *decimal, int places) {
-    int whole = decimal->point > 0 ? decimal->point : 1, point = has_point(asked, places);
+static void print_fixed(struct prefix prefix,
+                        int places) {
+    int whole = __decimal.point > 0 ? __decimal.point : 1, point = has_point(places);
     size_t size = (size_t)whole + (size_t)point + (size_t)places;
-    __print_head(sink, asked, prefix, 0, size);
-    print_digits(sink, decimal, decimal->point - whole, decimal->point);
-    if (point) __sink_repeated(sink, '.', 1);
-    print_digits(sink, decimal, decimal->point, decimal->point + places);
-    __print_tail(sink, asked, prefix, size);
+    __print_head(prefix, 0, size);
+    print_digits(__decimal.point - whole, __decimal.point);
+    if (point) __sink_repeated('.', 1);
+    print_digits(__decimal.point, __decimal.point + places);
+    __print_tail(prefix, size);
 }
 
 /* An exponent: its letter, its sign, and so many digits at least; into text, and its size. */
@@ -56,34 +55,34 @@ static size_t exponent_text(char *text, char letter, int exponent, int least) {
     return size;
 }
 
-static void print_scientific(struct sink *sink, const struct conversion *asked, struct prefix prefix,
-                             const struct decimal *decimal, int places) {
+static void print_scientific(struct prefix prefix,
+                             int places) {
     char exponent[8];
-    size_t exponent_size = exponent_text(exponent, is_upper(asked) ? 'E' : 'e',
-                                         decimal->count ? decimal->point - 1 : 0, 2);
-    int point = has_point(asked, places);
+    size_t exponent_size = exponent_text(exponent, is_upper() ? 'E' : 'e',
+                                         __decimal.count ? __decimal.point - 1 : 0, 2);
+    int point = has_point(places);
     size_t size = 1 + (size_t)point + (size_t)places + exponent_size;
-    __print_head(sink, asked, prefix, 0, size);
-    print_digits(sink, decimal, 0, 1);
-    if (point) __sink_repeated(sink, '.', 1);
-    print_digits(sink, decimal, 1, 1 + places);
-    __sink_bytes(sink, exponent, exponent_size);
-    __print_tail(sink, asked, prefix, size);
+    __print_head(prefix, 0, size);
+    print_digits(0, 1);
+    if (point) __sink_repeated('.', 1);
+    print_digits(1, 1 + places);
+    __sink_bytes(exponent, exponent_size);
+    __print_tail(prefix, size);
 }
 
 /* %g: the shorter of both, without the 0s at the end unless # asks for them. */
-static void print_general(struct sink *sink, const struct conversion *asked, struct prefix prefix,
-                          struct decimal *decimal, int digits) {
-    int exponent = decimal->count ? decimal->point - 1 : 0, is_scientific = exponent < -4 || exponent >= digits;
+static void print_general(struct prefix prefix,
+                          int digits) {
+    int exponent = __decimal.count ? __decimal.point - 1 : 0, is_scientific = exponent < -4 || exponent >= digits;
     int kept = digits;
-    if (!(asked->flags & OTHER)) {
-        while (decimal->count > 0 && decimal->digits[decimal->count - 1] == '0') decimal->count--;
-        kept = decimal->count ? decimal->count : 1;
+    if (!(__asked.flags & OTHER)) {
+        while (__decimal.count > 0 && __decimal.digits[__decimal.count - 1] == '0') __decimal.count--;
+        kept = __decimal.count ? __decimal.count : 1;
     }
     int places = is_scientific ? kept - 1 : kept - 1 - exponent;
     if (places < 0) places = 0;
-    if (is_scientific) print_scientific(sink, asked, prefix, decimal, places);
-    else print_fixed(sink, asked, prefix, decimal, places);
+    if (is_scientific) print_scientific(prefix, places);
+    else print_fixed(prefix, places);
 }
 
 /* %a: a digit to the base 2, up to 13 to the base 16, and the power of 2. */
@@ -111,46 +110,45 @@ static struct hex hex_of(uint64_t bits, int precision) {
     return hex;
 }
 
-static void print_hex(struct sink *sink, const struct conversion *asked, uint64_t bits) {
-    struct hex hex = hex_of(bits, asked->precision);
-    struct prefix sign = __sign_of(asked, sign_of(bits) != 0);
-    char text[3] = {*sign.text, '0', is_upper(asked) ? 'X' : 'x'}, letter_a = is_upper(asked) ? 'A' : 'a',
+static void print_hex(uint64_t bits) {
+    struct hex hex = hex_of(bits, __asked.precision);
+    struct prefix sign = __sign_of(sign_of(bits) != 0);
+    char text[3] = {*sign.text, '0', is_upper() ? 'X' : 'x'}, letter_a = is_upper() ? 'A' : 'a',
          exponent[8];
     struct prefix prefix = {sign.size ? text : text + 1, sign.size + 2};
-    size_t exponent_size = exponent_text(exponent, is_upper(asked) ? 'P' : 'p', hex.exponent, 1);
-    int places = asked->precision >= 0 ? asked->precision : hex.places, point = has_point(asked, places);
+    size_t exponent_size = exponent_text(exponent, is_upper() ? 'P' : 'p', hex.exponent, 1);
+    int places = __asked.precision >= 0 ? __asked.precision : hex.places, point = has_point(places);
     size_t size = 1 + (size_t)point + (size_t)places + exponent_size;
-    __print_head(sink, asked, prefix, 0, size);
-    __sink_repeated(sink, (char)('0' + (hex.significand >> 52)), 1);
-    if (point) __sink_repeated(sink, '.', 1);
+    __print_head(prefix, 0, size);
+    __sink_repeated((char)('0' + (hex.significand >> 52)), 1);
+    if (point) __sink_repeated('.', 1);
     for (int i = 0; i < places && i < 13; i++) {
         int digit = (int)(hex.significand >> 4 * (12 - i)) & 15;
-        __sink_repeated(sink, (char)(digit < 10 ? '0' + digit : letter_a + digit - 10), 1);
+        __sink_repeated((char)(digit < 10 ? '0' + digit : letter_a + digit - 10), 1);
     }
-    if (places > 13) __sink_repeated(sink, '0', (size_t)places - 13);
-    __sink_bytes(sink, exponent, exponent_size);
-    __print_tail(sink, asked, prefix, size);
+    if (places > 13) __sink_repeated('0', (size_t)places - 13);
+    __sink_bytes(exponent, exponent_size);
+    __print_tail(prefix, size);
 }
 
-void __print_double(struct sink *sink, const struct conversion *asked, double number) {
-    struct decimal decimal;
+void __print_double(double number) {
     uint64_t bits = bits_of(number);
-    struct prefix prefix = __sign_of(asked, sign_of(bits) != 0);
-    int precision = asked->precision < 0 ? 6 : asked->precision;
+    struct prefix prefix = __sign_of(sign_of(bits) != 0);
+    int precision = __asked.precision < 0 ? 6 : __asked.precision;
     number = double_of(magnitude_of(bits));
     if (magnitude_of(bits) >= INFINITE) {
-        print_word(sink, asked, bits);
-    } else if ((asked->letter | 32) == 'a') {
-        print_hex(sink, asked, bits);
-    } else if ((asked->letter | 32) == 'f') {
-        __decimal_to_places(&decimal, number, precision);
-        print_fixed(sink, asked, prefix, &decimal, precision);
-    } else if ((asked->letter | 32) == 'e') {
-        __decimal_to_digits(&decimal, number, precision < 2000 ? precision + 1 : 2000);
-        print_scientific(sink, asked, prefix, &decimal, precision);
+        print_word(bits);
+    } else if ((__asked.letter | 32) == 'a') {
+        print_hex(bits);
+    } else if ((__asked.letter | 32) == 'f') {
+        __decimal_to_places(number, precision);
+        print_fixed(prefix, precision);
+    } else if ((__asked.letter | 32) == 'e') {
+        __decimal_to_digits(number, precision < 2000 ? precision + 1 : 2000);
+        print_scientific(prefix, precision);
     } else {
         if (precision == 0) precision = 1;
-        __decimal_to_digits(&decimal, number, precision);
-        print_general(sink, asked, prefix, &decimal, precision);
+        __decimal_to_digits(number, precision);
+        print_general(prefix, precision);
     }
 }

@@ -3,20 +3,19 @@
 #include <stdlib.h>
 #include "print.h"
 
-void __print_any(struct sink *sink, const char *format, va_list arguments) {
-    struct print print = {.sink = sink, .at = format};
-    va_copy(print.arguments, arguments);
-    while (__print_on(&print)) {
-        if (print.asked.length == 'L') abort();
-        __print_double(print.sink, &print.asked, va_arg(print.arguments, double));
+void __print_any(const char *format, va_list arguments) {
+    va_copy(__print_arguments, arguments);
+    for (const char *at = format; (at = __print_on(at)) != NULL;) {
+        if (__asked.length == 'L') abort();
+        __print_double(va_arg(__print_arguments, double));
     }
-    va_end(print.arguments);
+    va_end(__print_arguments);
 }
 
 int vfprintf(FILE *stream, const char *format, va_list arguments) {
-    struct sink sink = {stream, NULL, 0, 0};
-    __print_any(&sink, format, arguments);
-    return stream->kind >= INPUT ? EOF : (int)sink.count;
+    __sink_to(stream, NULL, 0);
+    __print_any(format, arguments);
+    return stream->kind >= INPUT ? EOF : (int)__sink.count;
 }
 
 int vprintf(const char *format, va_list arguments) { return vfprintf(stdout, format, arguments); }
@@ -39,10 +38,10 @@ int fprintf(FILE *stream, const char *format, ...) {
 
 /* (a size of 0 has room for nothing, any other one for the text's end, too) */
 int vsnprintf(char *to, size_t size, const char *format, va_list arguments) {
-    struct sink sink = {NULL, to, size ? size - 1 : 0, 0};
-    __print_any(&sink, format, arguments);
-    if (size) to[sink.count < size ? sink.count : size - 1] = 0;
-    return (int)sink.count;
+    __sink_to(NULL, to, size ? size - 1 : 0);
+    __print_any(format, arguments);
+    if (size) to[__sink.count < size ? __sink.count : size - 1] = 0;
+    return (int)__sink.count;
 }
 
 int snprintf(char *to, size_t size, const char *format, ...) {

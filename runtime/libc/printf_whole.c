@@ -3,9 +3,9 @@
 #include "print.h"
 
 int __vfprintf_whole(FILE *stream, const char *format, va_list arguments) {
-    struct sink sink = {stream, NULL, 0, 0};
-    __print_whole(&sink, format, arguments);
-    return stream->kind >= INPUT ? EOF : (int)sink.count;
+    __sink_to(stream, NULL, 0);
+    __print_whole(format, arguments);
+    return stream->kind >= INPUT ? EOF : (int)__sink.count;
 }
 
 int __vprintf_whole(const char *format, va_list arguments) { return __vfprintf_whole(stdout, format, arguments); }
@@ -28,10 +28,10 @@ int __fprintf_whole(FILE *stream, const char *format, ...) {
 
 /* (a size of 0 has room for nothing, any other one for the text's end, too) */
 int __vsnprintf_whole(char *to, size_t size, const char *format, va_list arguments) {
-    struct sink sink = {NULL, to, size ? size - 1 : 0, 0};
-    __print_whole(&sink, format, arguments);
-    if (size) to[sink.count < size ? sink.count : size - 1] = 0;
-    return (int)sink.count;
+    __sink_to(NULL, to, size ? size - 1 : 0);
+    __print_whole(format, arguments);
+    if (size) to[__sink.count < size ? __sink.count : size - 1] = 0;
+    return (int)__sink.count;
 }
 
 int __snprintf_whole(char *to, size_t size, const char *format, ...) {

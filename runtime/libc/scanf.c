@@ -3,12 +3,11 @@
 #include "scan.h"
 
 int __scan_any(FILE *stream, const char *text, const char *format, va_list arguments) {
-    struct scan scan = {.stream = stream, .text = text, .at = format};
-    va_copy(scan.arguments, arguments);
-    while (__scan_on(&scan) && __scan_settle(&scan, __scan_double(&scan))) {
+    __scan_begin(stream, text, format, arguments);
+    while (__scan_on() && __scan_settle(__scan_double())) {
     }
-    va_end(scan.arguments);
-    return scan.assigned;
+    va_end(__scan.arguments);
+    return __scan.assigned;
 }
 
 int vfscanf(FILE *stream, const char *format, va_list arguments) {

@@ -1,8 +1,9 @@
 #!/usr/bin/env python3
-"""usage: tests/cc/run.py
+"""usage: tests/cc/run.py [PART ..]
 
-Tries ./cc as an author calls it: the programs and the refusals that docs/c.md shows, several files, settings,
-statuses, a compiler that isn't there. What needs a compiler for SPARC is skipped where none is."""
+Tries ./cc and ./c++ as an author calls them: the programs and the refusals that docs/c.md shows, each option, each
+status, each refusal by its line; programs of 100 lines in C, by gcc and clang, and in C++, beside the same for this
+machine; a Makefile and CMake. What needs a compiler for SPARC is skipped where none is."""
 import os
 import re
 import shutil
@@ -11,34 +12,17 @@ import tempfile
 
 sys.dont_write_bytecode = True
 sys.path.insert(0, f"{os.path.dirname(os.path.dirname(os.path.abspath(__file__)))}/lib")
+from refusals import REFUSED, REFUSED_PLUS, WORDS
 from run import CC, EXAMPLES, SANDBOX, TOP, built, has, put, run, text_of
+from sources import SOURCES
 from tally import Tally, Words
 
-USAGE = "Usage: cc FILE.c.."
+HERE = os.path.dirname(os.path.abspath(__file__))
+PLUS = f"{TOP}/c++"
+
+USAGE = "Usage: cc [OPTION..] FILE.c.."
 UPPER = f"{EXAMPLES}/c/upper.c"
-COMPILER = "sparc64-linux-gnu-gcc"
-# An index that may be one too great, two files, the compiler's headers, and the C library's.
-SOURCES = {
-    "beside.c": """#include "plug.h"
-char name[32];
-int main(void) {
-    int k = get() & 31;
-    name[k + 1] = get();
-    put(name[get() & 31]);
-    return 0;
-}
-""",
-    "wrong.c": "int main(void) { return x; }\n",
-    "library.c": '\n# include <stdio.h> // for printf\nint main(void) { return printf("Hi"); }\n',
-    "limits.c": '#include "plug.h"\n'
-    + "".join(f"#include <{it}.h>\n"
-              for it in "limits float iso646 stdalign stdarg stdbool stddef stdint stdnoreturn".split())
-    + "int main(void) { put(INT_MAX == 2147483647 and SCHAR_MIN == -128 ? 65 : 66); return 0; }\n",
-    "one.c": '#include "plug.h"\nint twice(int c) { return c * FACTOR; }\n',
-    "two.c": '#include "plug.h"\nint twice(int c);\nint main(void) { put(twice(33)); return 0; }\n',
-}
-
-
+COMPILER, COMPILER_PLUS = "sparc64-linux-gnu-gcc", "sparc64-linux-gnu-g++"
 class Author:
     """Calls of ./cc in a folder that has the sources."""
 
@@ -49,9 +33,9 @@ class Author:
         """The path of a file in the folder."""
         return f"{self.work}/{name}"
 
-    def called(self, status, told, *words, **how):
+    def called(self, status, told, *words, tool=CC, **how):
         """A call's status, and a part of what it tells."""
-        name, ran = f"cc {' '.join(words)}", run([CC, *words], **how)
+        name, ran = f"{os.path.basename(tool)} {' '.join(words)}", run([tool, *words], cwd=self.work, **how)
         self.tally.check(f"{name}: status", ran.status == status, f"wanted {status}, came {ran.status}: {ran.said}")
         self.tally.check(name, told in ran.said, f"wanted '{told}', came {ran.said}")
 
@@ -75,25 +59,33 @@ def try_words(author):
     """Words that ask for nothing, and a compiler that isn't there."""
     image = author.at("x.img")
     author.called(3, USAGE)
-    author.called(3, USAGE, "--help")
+    author.called(0, USAGE, "--help")
     author.called(3, USAGE, UPPER)
     author.called(3, USAGE, "-o", image)
     author.called(3, USAGE, UPPER, "-o", image, "--frobnicate")
-    author.called(3, "--turns ten: a number of turns is wanted", UPPER, "-o", image, "--turns", "ten")
-    author.called(3, "up to 1000000000000", UPPER, "-o", image, "--turns", "1000000000001")
+    for words, told in WORDS:
+        author.called(3, told, UPPER, "--turns", "9", *words)
+    author.called(4, "no such file or folder", UPPER, "--against", "nowhere")
+    for option in ("-o OUT.img", "--run", "--against INPUT..", "--turns N", "--arena BYTES", "--stack BYTES",
+                   "--strict", "--region", "--notes", "--keep FOLDER", "-MMD", "CC_SPARC", "Status 0:"):
+        author.called(0, option, "--help")
+        author.called(0, option, "--help", tool=PLUS)
+    author.called(125, "CC_SPARC: nothing isn't there", UPPER, "-o", image, env={**os.environ, "CC_SPARC": "nothing"})
     os.mkdir(author.at("bin"))
-    for tool in ("bash", "readlink", "sed", "grep", "cat"):
+    for tool in ("python3", "env"):
         os.symlink(shutil.which(tool), author.at(f"bin/{tool}"))
     author.called(125, "gcc-sparc64-linux-gnu", UPPER, "-o", image, env={**os.environ, "PATH": author.at("bin")})
 
 
 def try_page(author):
     """The programs of docs/c.md, each under its name."""
-    for name, text in re.findall(r"^```c (\S+)\n(.*?)^```$", text_of(f"{TOP}/docs/c.md"), re.M | re.S):
+    for name, text in re.findall(r"^```c(?:pp)? (\S+)\n(.*?)^```$", text_of(f"{TOP}/docs/c.md"), re.M | re.S):
         put(author.at(name), text)
-    author.puts(author.makes("accepted", "hello.c"), b"Hi\n")
+    author.puts(author.makes("accepted", "hello.c"), b"Ann will be 31.\nBob will be 42.\n", b"Ann 30\nBob 41\n")
+    if has(COMPILER_PLUS):
+        author.called(0, "4\n5\n16", "shapes.cc", "-std=c++20", "--run", tool=PLUS)
     author.puts(author.makes("accepted", "lower.c", "--keep", author.at("kept")), b"hello\n", b"HeLLo\n")
-    for name in ("fitted.s", "plug.s"):
+    for name in ("fitted.s", "program.s"):
         path = author.at(f"kept/{name}")
         author.tally.check(f"--keep: {name}", os.path.exists(path) and os.path.getsize(path),
                            "wanted a file, came none")
@@ -104,22 +96,18 @@ def try_page(author):
     author.called(0, "accepted", author.at("lower.c"), "-o", author.at("short.img"), "--turns", "20000")
     length = len(run([SANDBOX, "run", author.at("short.img")], b"y\n" * 2500).out)
     author.tally.check("--turns 20000", length < 2000, f"wanted fewer than 2000 bytes, came {length}")
-    author.called(2, "walk.c:3: refused: recursion: tree calls tree", author.at("walk.c"), "-o", author.at("walk.img"))
+    author.called(2, "room.c:5: refused: main: an array of a size that isn't constant", author.at("room.c"), "-o",
+                  author.at("room.img"))
     author.called(2, "ask for more", author.at("lower.c"), "-o", author.at("few.img"), "--turns", "1")
-    author.has_none("strict.img", "walk.img", "few.img")
+    author.has_none("strict.img", "room.img", "few.img")
 
 
 def try_sources(author):
     """Further sources: notes, headers, faults, two files, levels."""
-    for name, text in SOURCES.items():
-        put(author.at(name), text)
     author.makes("beside.c:5: note: the index into name (32 bytes) may be 1 to 32: a test was added", "beside.c")
-    author.called(2, "wrong.c:1", author.at("wrong.c"), "-o", author.at("wrong.img"))
-    author.called(2, "", author.at("none.c"), "-o", author.at("none.img"))
-    author.called(2, "library.c:2: <stdio.h> is the C library's, and there is none here", author.at("library.c"), "-o",
-                  author.at("library.img"))
+    author.called(4, "none.c: No such file or directory", "none.c", "-o", "none.img")
+    author.puts(author.makes("accepted", "library.c"), b"1 2 3 5 8 00005|ff\n", b"3 1 8 5 2")
     author.puts(author.makes("accepted", "limits.c"), b"A")
-    author.has_none("wrong.img", "library.img")
     author.puts(author.makes("accepted", "two.c", author.at("one.c"), "-DFACTOR=2"), b"B")
     for level in ("-O1", "-O2", "-Os"):
         image = author.at("rot13.img")
@@ -127,18 +115,132 @@ def try_sources(author):
         author.puts(image, b"Uryyb\n", b"Hello\n")
 
 
+def try_refusals(author):
+    """Each refusal names the place, and what to write; no image is made."""
+    for name, (text, told) in {**REFUSED, **(REFUSED_PLUS if has(COMPILER_PLUS) else {})}.items():
+        put(author.at(name), text)
+        for part in told.split("\n"):
+            author.called(2, part, name, "-std=gnu++20" if name.endswith(".cc") else "-std=gnu11", "-o", "refused.img")
+    author.has_none("refused.img")
+
+
+def try_ends(author):
+    """What runs before main and behind it, its parameters, and how a run's end is told."""
+    author.puts(author.makes("accepted", "ends.c"), b"before main, at exit\n")
+    told = "words.c:2: note: main is called as program without words: argc is 1, argv[1] is NULL"
+    image = author.makes(told, "words.c")
+    author.puts(image, b"1 program 1\n")
+    author.makes("trap.c:2: note: main: the compiler sees that C defines nothing here", "trap.c")
+    author.called(1, "abort was called", "trap.c", "--run", given=b"a")
+    author.called(0, "accepted", "trap.c", "--run", given=b"b")
+    author.called(1, "the exit word is 7 (00000007)", "seven.c", "--run")
+    author.called(1, "deep.c:2: the run ended in a test: calls go too deep: ask for more by --stack", "deep.c", "--run")
+    author.called(0, "accepted", "deep.c", "--run", "--stack", "65536")
+    author.called(1, "the loops have used up their turns: ask for more by --turns", "deep.c", "--run", "--stack",
+                  "65536", "--turns", "9000")
+    author.called(1, "the exit word is 2", "heap.c", "--run")
+    author.called(0, "accepted", "heap.c", "--run", "--arena", "131072")
+
+
+def try_options(author):
+    """Options of a compiler's, and of cc's own."""
+    author.called(2, "[-Werror=unused-variable]", "unused.c", "-Wall", "-Werror", "-o", "unused.img")
+    author.called(0, "accepted", "unused.c", "-Wall", "-w", "-o", "unused.img")
+    author.called(0, "accepted", "given.c", "-include", "given.h", "-I", "folder", "-Dthree=3", "-U", "four",
+                  "-std=c99", "-pedantic", "-g", "-lm", "-MMD", "-MF", "given.d", "-o", "given.img")
+    told = text_of(author.at("given.d"))
+    holds = told.startswith("given.img: given.c") and "folder/inner.h" in told and "stdio.h" not in told
+    author.tally.check("-MMD", holds, f"wanted given.c and folder/inner.h, came {told}")
+    author.called(0, "inner.h", "given.c", "-include", "given.h", "-Ifolder", "-Dthree=3", "-M")
+    author.called(0, "", "given.c", "-include", "given.h", "-Ifolder", "-Dthree=3", "-E", "-o", "given.i")
+    author.called(0, "accepted", "given.i", "-o", "again.img")
+    author.puts(author.at("again.img"), b"3\n")
+    author.called(0, "tests were added (first 7, second 4): --notes tells each", "notes.c", "-o", "notes.img")
+    author.called(0, "notes.c:5: note: the index into table", "notes.c", "--notes", "-o", "notes.img")
+    author.called(1, "differs: byte 0, in line 1, is 34, natively 38", "size.c", "--against", "size.in")
+    author.called(1, "2 inputs, 2 differ", "size.c", "--against", "inputs")
+    author.called(1, "natively status 8, here the exit word is 4", "size.c", "--against", "size.in", "-DQUIET")
+    author.called(0, "1 inputs, 0 differ", "seven.c", "--against", "size.in")
+
+
+def try_fault_of_fit(author):
+    """What the verifier refuses of fit's is told as a fault of fit's, and never as the program's."""
+    farm = author.at("farm")
+    os.makedirs(farm)
+    shutil.copy(CC, farm)
+    for name in ("tools", "runtime", "sandbox", "inspect"):
+        os.symlink(f"{TOP}/{name}", f"{farm}/{name}")
+    put(f"{farm}/fit", f'#!/bin/sh\n{TOP}/fit "$@" && sed -i "s/^.fuel [0-9]*$/.fuel 1/" fitted.s\n')
+    text = text_of(f"{farm}/fit").replace(" fitted.s", ' "$(echo "$*" | sed "s/.*-o //; s/ .*//")"')
+    put(f"{farm}/fit", text)
+    os.chmod(f"{farm}/fit", 0o755)
+    author.called(1, "a fault of ./fit's, and not of the program: what it made of this line isn't accepted: ",
+                  "seven.c", "-o", "farm.img", tool=f"{farm}/cc")
+    author.called(1, "bare.c:3: cc: a fault of ./fit's", "bare.c", "-o", "farm.img", tool=f"{farm}/cc")
+    author.has_none("farm.img")
+
+
+def try_programs(author):
+    """Programs of some 100 lines beside the same for this machine, by each compiler that is there."""
+    folder = f"{HERE}/programs"
+    for name in sorted({it.partition(".")[0] for it in os.listdir(folder)}):
+        sources = sorted(f"{folder}/{name}/{it}" for it in os.listdir(f"{folder}/{name}") if it.endswith(".c")) \
+            if os.path.isdir(f"{folder}/{name}") else [f"{folder}/{name}{end}" for end in (".c", ".cc")
+                                                         if os.path.exists(f"{folder}/{name}{end}")]
+        inputs = sorted(f"{folder}/{it}" for it in os.listdir(folder) if re.match(rf"{name}\..*in$", it))
+        is_plus = sources[0].endswith(".cc")
+        if is_plus and not has(COMPILER_PLUS):
+            author.tally.skip(name, COMPILER_PLUS)
+            continue
+        told = f"{len(inputs)} inputs, 0 differ"
+        author.called(0, told, *sources, *(["-std=gnu++20"] if is_plus else []), "--against", *inputs,
+                      tool=PLUS if is_plus else CC)
+        if has("clang") and not is_plus:
+            author.called(0, told, *sources, "--against", *inputs, env={**os.environ, "CC_SPARC": "clang"})
+
+
+def try_builds(author):
+    """The Makefile and the toolchain for CMake of examples/build."""
+    place, wanted = author.at("build"), b"ann                70\nbob                50\neve                10\n"
+    shutil.copytree(f"{EXAMPLES}/build", place)
+    text = text_of(f"{place}/geyserpan.cmake").replace('"${CMAKE_CURRENT_LIST_DIR}/../.."', f'"{TOP}"')
+    put(f"{place}/geyserpan.cmake", text)
+    if has("make"):
+        ran = run(["make", f"TOP={TOP}", "scores.img", "check"], cwd=place)
+        author.tally.check("make", ran.status == 0 and "1 inputs, 0 differ" in ran.said, ran.said)
+        author.puts(f"{place}/scores.img", wanted, b"ann 3\nbob 5\nann 4\neve 1\n")
+        author.tally.check("make: again", "up to date" in run(["make", f"TOP={TOP}", "scores.img"], cwd=place).said,
+                           "wanted nothing to do")
+    if has("cmake"):
+        ran = run(["cmake", "-S", place, "-B", f"{place}/made", "--toolchain", f"{place}/geyserpan.cmake"])
+        author.tally.check("cmake", ran.status == 0, ran.said)
+        ran = run(["cmake", "--build", f"{place}/made"])
+        author.tally.check("cmake --build", ran.status == 0, ran.said)
+        author.puts(f"{place}/made/scores.img", wanted, b"ann 3\nbob 5\nann 4\neve 1\n")
+
+
+PARTS = {"page": try_page, "sources": try_sources, "refusals": try_refusals, "ends": try_ends, "options": try_options,
+         "fault": try_fault_of_fit, "builds": try_builds, "programs": try_programs}
+
+
 def main(words):
-    Words(__doc__).parse_args(words)
+    reader = Words(__doc__)
+    reader.add_names("parts", ["words", *PARTS])
+    asked = reader.parse_args(words)
     tally = Tally("cc")
     with tempfile.TemporaryDirectory() as work:
         author = Author(tally, work)
-        try_words(author)
+        for name, text in SOURCES.items():
+            os.makedirs(os.path.dirname(author.at(name)), exist_ok=True)
+            put(author.at(name), text)
+        if not asked.parts or "words" in asked.parts:
+            try_words(author)
         if not has(COMPILER):
             tally.skip("programs and refusals", COMPILER)
             return tally.end()
-        built("fit", "sandbox")
-        try_page(author)
-        try_sources(author)
+        built("fit", "sandbox", "inspect")
+        for name in [it for it in asked.parts or PARTS if it in PARTS]:
+            PARTS[name](author)
     return tally.end()
 
 

@@ -143,7 +143,7 @@ static void ends(void) {
     gp_atexit(second);
     SAME(quit_word(exit_5), 5);
     SAME(order, 21);
-    for (int i = 0; i < 32; i++) SAME(gp_atexit(first), 0);
+    for (int i = 0; i < 64; i++) SAME(gp_atexit(first), 0);
     SAME(gp_atexit(first) != 0, 1);
     SAME(quit_word(exit_5), 5);
 }

@@ -37,7 +37,7 @@ AS_CC = ["-mno-app-regs", "-ffixed-o7", "-fno-delayed-branch", "-fno-jump-tables
          "-fno-common", "-fno-ipa-icf", "-fno-ipa-ra", "-fno-stack-protector"]
 # A block of 4,096 bytes is full soon.
 SMALL_ARENA = "-DGEYSERPAN_ARENA=4096"
-REFUSED = ("time unistd fenv complex tgmath threads pthread stdatomic wchar wctype uchar fcntl").split()
+REFUSED = ("time fenv complex tgmath threads pthread stdatomic wchar wctype uchar").split()
 
 MOST_WORDS = 1500
 MOST_INSTRUCTIONS = 600

@@ -5,7 +5,8 @@
    and become a part of their callers. Where the compiler knows the format, which it does of a string in the call, it
    finds while it compiles whether a double may be converted, by plain functions of strings that it works out; and
    what is left is a call of the one or of the other. A format that it doesn't know, or one of more than 16
-   conversions, is left to the function for everything, as are calls through pointers, and all calls by -O0.
+   conversions, is left to the function for everything, as are calls through pointers, and all calls by -O0. printf and
+   fprintf are there a third time, as __NAME_short, for formats that ask for little: printf_short.c.
 
    So the whole is right without this file, and no weak symbol, section or linker has a part in it: what is called
    decides, in one file, in several that are compiled into one assembly (-flto, -fwhole-program), or where unreached
@@ -18,6 +19,8 @@
 extern "C" {
 #endif
 
+int __printf_short(const char *, ...);
+int __fprintf_short(FILE *, const char *, ...);
 int __printf_whole(const char *, ...);
 int __fprintf_whole(FILE *, const char *, ...);
 int __sprintf_whole(char *, const char *, ...);
@@ -88,17 +91,39 @@ __INLINE int __converts_doubles(const char *__at) {
     return __doubles || __at[__builtin_strcspn(__at, "%")];
 }
 
+/* Over one conversion; others is whether it is none that printf_short.c has: a width, - and 0, one of the lengths l, z
+   and t, a letter of whole numbers, c, s, or another %. */
+#define __STEP_SHORT \
+    __at += __builtin_strcspn(__at, "%"); \
+    __is_one = *__at != 0; \
+    __at += __is_one; \
+    __at += __builtin_strspn(__at, "-0123456789"); \
+    __at += sizeof(long) == sizeof(int) && (*__at == 'l' || *__at == 'z' || *__at == 't'); \
+    __others |= __is_one && __builtin_strspn(__at, "diuxXocs%") == 0; \
+    __at += *__at != 0;
+
+__INLINE int __converts_others(const char *__at) {
+    int __others = 0, __is_one;
+    __STEP_SHORT __STEP_SHORT __STEP_SHORT __STEP_SHORT __STEP_SHORT __STEP_SHORT __STEP_SHORT __STEP_SHORT
+    __STEP_SHORT __STEP_SHORT __STEP_SHORT __STEP_SHORT __STEP_SHORT __STEP_SHORT __STEP_SHORT __STEP_SHORT
+    return __others || __at[__builtin_strcspn(__at, "%")];
+}
+
 #define __IS_WHOLE(format) \
     __extension__({ int __known = __converts_doubles(format); __builtin_constant_p(__known) && !__known; })
+#define __IS_SHORT(format) \
+    __extension__({ int __known = __converts_others(format); __builtin_constant_p(__known) && !__known; })
 #define __CHOOSE(name, format, ...) \
     if (__IS_WHOLE(format)) return __##name##_whole(__VA_ARGS__); \
     return __##name##_any(__VA_ARGS__)
 #define __REST __builtin_va_arg_pack()
 
 __INLINE int printf(const char *__format, ...) {
+    if (__IS_SHORT(__format)) return __printf_short(__format, __REST);
     __CHOOSE(printf, __format, __format, __REST);
 }
 __INLINE int fprintf(FILE *__to, const char *__format, ...) {
+    if (__IS_SHORT(__format)) return __fprintf_short(__to, __format, __REST);
     __CHOOSE(fprintf, __format, __to, __format, __REST);
 }
 __INLINE int sprintf(char *__to, const char *__format, ...) {
@@ -140,7 +165,9 @@ __INLINE int vsscanf(const char *__from, const char *__format, va_list __argumen
 
 #undef __INLINE
 #undef __STEP
+#undef __STEP_SHORT
 #undef __IS_WHOLE
+#undef __IS_SHORT
 #undef __CHOOSE
 #undef __REST
 

@@ -7,6 +7,8 @@
 
 typedef __PTRDIFF_TYPE__ ssize_t;
 typedef long off_t;
+typedef unsigned mode_t;
+typedef int pid_t;
 
 typedef unsigned char u_char;
 typedef unsigned short u_short;

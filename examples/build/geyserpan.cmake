@@ -1,0 +1,30 @@
+# A toolchain for CMake: programs become images. What CMake takes for objects are preprocessed sources, which become one
+# program when they are linked; so the options of a link are those of ./cc, as --turns and --arena.
+get_filename_component(GEYSERPAN "${CMAKE_CURRENT_LIST_DIR}/../.." ABSOLUTE)
+set(CMAKE_SYSTEM_NAME Generic)
+set(CMAKE_SYSTEM_PROCESSOR sparc)
+set(CMAKE_EXECUTABLE_SUFFIX .img)
+set(CMAKE_EXECUTABLE_SUFFIX_C .img)
+set(CMAKE_EXECUTABLE_SUFFIX_CXX .img)
+
+set(CMAKE_C_COMPILER "${GEYSERPAN}/cc")
+set(CMAKE_C_COMPILER_ID GNU)
+set(CMAKE_C_COMPILER_VERSION 12)
+set(CMAKE_C_COMPILER_FORCED TRUE)
+set(CMAKE_C_OUTPUT_EXTENSION .i)
+set(CMAKE_C_COMPILE_OBJECT "<CMAKE_C_COMPILER> <DEFINES> <INCLUDES> <FLAGS> -E <SOURCE> -o <OBJECT>")
+set(CMAKE_C_LINK_EXECUTABLE "<CMAKE_C_COMPILER> <FLAGS> <LINK_FLAGS> <OBJECTS> -o <TARGET>")
+
+set(CMAKE_CXX_COMPILER "${GEYSERPAN}/c++")
+set(CMAKE_CXX_COMPILER_ID GNU)
+set(CMAKE_CXX_COMPILER_VERSION 12)
+set(CMAKE_CXX_COMPILER_FORCED TRUE)
+set(CMAKE_CXX_OUTPUT_EXTENSION .ii)
+set(CMAKE_CXX_COMPILE_OBJECT "<CMAKE_CXX_COMPILER> <DEFINES> <INCLUDES> <FLAGS> -E <SOURCE> -o <OBJECT>")
+set(CMAKE_CXX_LINK_EXECUTABLE "<CMAKE_CXX_COMPILER> <FLAGS> <LINK_FLAGS> <OBJECTS> -o <TARGET>")
+
+# (CMake's own rule for such files would stand beside)
+set(CMAKE_SKIP_PREPROCESSED_SOURCE_RULES TRUE)
+set(CMAKE_TRY_COMPILE_TARGET_TYPE STATIC_LIBRARY)
+# (CMake reads it again behind its own rules, which set what objects are called)
+set(CMAKE_USER_MAKE_RULES_OVERRIDE "${CMAKE_CURRENT_LIST_FILE}")

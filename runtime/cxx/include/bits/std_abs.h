@@ -1,0 +1,15 @@
+/* std::abs of each type that has a sign. */
+#ifndef GEYSERPAN_STD_ABS_H
+#define GEYSERPAN_STD_ABS_H
+
+#include <stdlib.h>
+
+namespace std {
+using ::abs;
+inline long abs(long x) { return x < 0 ? -x : x; }
+inline long long abs(long long x) { return x < 0 ? -x : x; }
+inline float abs(float x) { return __builtin_fabsf(x); }
+inline double abs(double x) { return __builtin_fabs(x); }
+} // namespace std
+
+#endif

@@ -1,0 +1,57 @@
+"""Sources of a few lines, by name, and inputs."""
+
+SOURCES = {
+    "beside.c": """#include "plug.h"
+char name[32];
+int main(void) {
+    int k = get() & 31;
+    name[k + 1] = get();
+    put(name[get() & 31]);
+    return 0;
+}
+""",
+    "library.c": "#include <stdio.h>\n#include <stdlib.h>\n#include <string.h>\n"
+    "static int by_value(const void *a, const void *b) { return *(const int *)a - *(const int *)b; }\n"
+    "int main(void) {\n    int value[9], n = 0;\n    char text[20];\n"
+    '    while (n < 9 && scanf("%d", &value[n]) == 1) n++;\n'
+    "    qsort(value, n, sizeof *value, by_value);\n"
+    '    for (int i = 0; i < n; i++) printf("%d ", value[i]);\n'
+    '    snprintf(text, sizeof text, "%05d|%x", n, 255);\n    puts(text);\n'
+    "    return strlen(text) == 8 ? 0 : 1;\n}\n",
+    "limits.c": '#include "plug.h"\n'
+    + "".join(f"#include <{it}.h>\n"
+              for it in "limits float iso646 stdalign stdarg stdbool stddef stdint stdnoreturn".split())
+    + "int main(void) { put(INT_MAX == 2147483647 and SCHAR_MIN == -128 ? 65 : 66); return 0; }\n",
+    "one.c": '#include "plug.h"\nint twice(int c) { return c * FACTOR; }\n',
+    "two.c": '#include "plug.h"\nint twice(int c);\nint main(void) { put(twice(33)); return 0; }\n',
+    "ends.c": '#include <stdio.h>\n#include <stdlib.h>\nstatic void last(void) { puts(" at exit"); }\n'
+    '__attribute__((constructor)) static void first(void) { fputs("before ", stdout); }\n'
+    'int main(void) { atexit(last); fputs("main,", stdout); return 0; }\n',
+    "words.c": "#include <stdio.h>\nint main(int argc, char **argv) {\n"
+    '    printf("%d %s %d\\n", argc, argv[0], argv[1] == NULL);\n    return 0;\n}\n',
+    "trap.c": "#include <stdio.h>\nint main(void) { if (getchar() == 'a') __builtin_trap(); return 0; }\n",
+    "seven.c": "#include <stdio.h>\nint main(void) {\n    for (int c; (c = getchar()) >= 0;) putchar(c);\n"
+    "    return 7;\n}\n",
+    "deep.c": "volatile int depth = 400;\nstatic int down(int n) { return n ? 1 + down(n - 1) : 0; }\n"
+    "int main(void) { return down(depth) != 400; }\n",
+    "heap.c": "#include <stdlib.h>\nint main(void) {\n    volatile char *p = malloc(100000);\n"
+    "    if (!p) return 2;\n    p[99999] = 1;\n    return 0;\n}\n",
+    "bare.c": "int main(void) {\n    return 7;\n}\n",
+    "unused.c": "int main(void) { int unused; return 0; }\n",
+    "given.c": '#include <stdio.h>\nint main(void) { printf("%d\\n", GIVEN); return INNER + GIVEN - 3; }\n',
+    "given.h": "#define GIVEN three\n#include <inner.h>\n",
+    "folder/inner.h": "#define INNER 0\n",
+    "notes.c": '#include "plug.h"\nstatic char table[8];\n'
+    "__attribute__((noinline)) static void first(int i) {\n"
+    "    table[i] = 1;\n    table[i * 3] = 2;\n    table[i * 5] = 3;\n    table[i * 7] = 4;\n    table[i * 9] = 5;\n"
+    "    table[i * 11] = 6;\n    table[i * 13] = 7;\n}\n"
+    "__attribute__((noinline)) static void second(int i) {\n"
+    "    table[i + 1] = 1;\n    table[i * 3 + 1] = 2;\n    table[i * 5 + 1] = 3;\n    table[i * 7 + 1] = 4;\n"
+    "    table[i * 9 + 1] = 5;\n    table[i * 11 + 1] = 6;\n    table[i * 13 + 1] = 7;\n}\n"
+    "int main(void) { first(get()); second(get()); put(table[get() & 7]); return 0; }\n",
+    "size.c": "#include <stdio.h>\nint main(void) {\n#ifndef QUIET\n"
+    '    printf("%d\\n", (int)sizeof(long));\n#endif\n    return sizeof(long);\n}\n',
+    "size.in": "",
+    "inputs/one": "1",
+    "inputs/two": "2",
+}

@@ -1,0 +1,179 @@
+"""What is looked up and changed in the assembly of a whole program, before ./fit reads it."""
+import re
+
+FILE = re.compile(r'\s*\.file\s+(\d+)\s+"([^"]*)"(?:\s+"([^"]*)")?')
+PLACE = re.compile(r"\s*\.loc\s+(\d+)\s+(\d+)")
+LABEL = re.compile(r"([A-Za-z_$][\w.$]*):")
+# What main is called where something runs before or behind it.
+INNER = "__main"
+NAME = re.compile(r"(?<![\w.$])main(?![\w.$])")
+# A list of functions that run before main.
+LISTED = re.compile(r"\s*\.section\s+\.(?:init_array|ctors)(?:\.\d+)?\b")
+SECTION = re.compile(r"\s*\.(section|text|data|bss)\b")
+LAST = re.compile(r"^\s*\.section\s+\.(?:fini_array|dtors)\b.*\n(?:.*\n)??\s*\.(?:long|word)\s+([\w.$]+)", re.M)
+ALIAS = re.compile(r"^\s*(?:\.set\s+)?([\w.$]+)\s*[=,]\s*([\w.$]+)\s*$", re.M)
+WORD = re.compile(r"^\s*\.(?:long|word|uaword|4byte)\s+([\w.$]+)")
+WORDS = re.compile(r"(?<![\w.$%])[A-Za-z_.$][\w.$]*")
+FRAME_SUM = re.compile(r"^(\s*)addcc(\s+%(?:fp|sp), -?\d+, (%\w\d))"
+                       r"((?:\n(?:\s*\.loc .*|\.L\w+:))*\n\s*b(?:e|ne|z|nz)\s)", re.M)
+# A trap that a compiler puts in, by its condition, and the conditions that hold where that doesn't.
+TRAP = re.compile(r"\s*t(a|e|ne|g|le|ge|l|gu|leu|cc|cs|geu|lu|pos|neg|vc|vs|z|nz)\s+5\b")
+OTHERWISE = {"e": "ne", "z": "ne", "g": "le", "ge": "l", "gu": "leu", "cc": "cs", "geu": "cs", "pos": "neg", "vc": "vs"}
+OTHERWISE |= {there: here for here, there in OTHERWISE.items()} | {"nz": "e", "lu": "cc", "ne": "e", "cs": "cc"}
+# Text of constants, in which no name stands.
+TEXT = re.compile(r"\s*\.(asci[iz]|string|file|ident)\b")
+# The variable of exit.c that is there only where something calls atexit.
+AT_EXIT = re.compile(r"^(?:\s*\.(?:local|comm)\s+)?__exit_functions\b(?!\.\d)", re.M)
+START = """
+	.section	".text"
+	.align 4
+	.global main
+	.type	main, #function
+main:
+	save	%sp, -96, %sp
+{before}	mov	1, %o0
+	sethi	%hi(__main_arguments), %o1
+	or	%o1, %lo(__main_arguments), %o1
+	call	{inner}
+	nop
+{behind}	.size	main, .-main
+	.section	".data"
+	.align 4
+	.type	__main_arguments, #object
+	.size	__main_arguments, 8
+__main_arguments:
+	.long	__main_name
+	.long	0
+	.section	".rodata"
+	.align 4
+	.type	__main_name, #object
+	.size	__main_name, 8
+__main_name:
+	.asciz	"program"
+"""
+
+
+class Assembly:
+    """The lines of an assembly, and where they come from."""
+
+    def __init__(self, text):
+        self.lines = text.splitlines()
+        self.files, self.places, self.functions = {}, {}, {}
+        self.find()
+
+    def find(self):
+        """Notes which line of C and which function each line comes from."""
+        place, function = None, None
+        for number, line in enumerate(self.lines, 1):
+            file, loc, label = FILE.match(line), PLACE.match(line), LABEL.match(line)
+            if file:
+                self.files[file[1]] = "/".join(filter(None, file.groups()[1:]))
+            elif loc:
+                place = (loc[1], int(loc[2]))
+            elif label and not line.startswith(".L"):
+                function, place = plain(label[1]), None
+            self.places[number], self.functions[number] = place, function
+
+    def place(self, number):
+        """The file and the line of C that a line comes from; None where that isn't told."""
+        place = self.places.get(number)
+        return place and (self.files.get(place[0], ""), place[1])
+
+    def text(self):
+        return "\n".join(self.lines) + "\n"
+
+
+def plain(name):
+    """A function's name without what a compiler puts behind it for a copy or a part, and as C has main."""
+    name = re.sub(r"\.(constprop|isra|part|cold|lto_priv|llvm|\d).*$", "", name)
+    return "main" if name == INNER else name
+
+
+def without_traps(assembly):
+    """Has the run end, as by abort, where a compiler put a trap in the place of what C doesn't define; returns the
+    numbers of these lines."""
+    found = [(at, TRAP.match(line)) for at, line in enumerate(assembly.lines)]
+    found = [(at, trap[1]) for at, trap in found if trap]
+    for at, condition in found:
+        ended = "\tsethi %hi(393216), %o0\n\tta 0"
+        if condition != "a":
+            ended = f"\tb{OTHERWISE[condition]} .Ltrap{at}\n\tnop\n{ended}\n.Ltrap{at}:"
+        assembly.lines[at] = ended
+    return [at + 1 for at, _ in found]
+
+
+def without_options(text):
+    """Takes out what clang leaves for a linker."""
+    kept, inside = [], False
+    for line in text.splitlines():
+        if SECTION.match(line):
+            inside = ".linker-options" in line
+        if not inside:
+            kept.append(line)
+    return "\n".join(kept) + "\n"
+
+
+def without_frame_sums(text):
+    """Parts a sum of a frame's address that sets the condition codes, where only equality is asked for behind it: fit
+    takes the sum and the comparison, each by itself."""
+    return FRAME_SUM.sub(r"\1add\2\n\tcmp\t\3, 0\4", text)
+
+
+def without_lists(text):
+    """Takes out the lists of functions that run before main; returns the text, and these functions in their order."""
+    kept, found, inside, order = [], [], False, 65536
+    for line in text.splitlines():
+        if LISTED.match(line):
+            inside = True
+            number = re.search(r"\.(\d+)\b", line)
+            order = int(number[1]) if number else 65536
+        elif inside and SECTION.match(line):
+            inside = False
+        word = WORD.match(line) if inside else None
+        if word:
+            found.append((order, word[1]))
+        elif not inside:
+            kept.append(line)
+    return "\n".join(kept) + "\n", [name for _, name in sorted(found, key=lambda it: it[0])]
+
+
+def without_aliases(text):
+    """Has each thing one name: a second one goes."""
+    names = {}
+    for line in text.splitlines():
+        found = ALIAS.fullmatch(line)
+        if found and (" = " in line or ".set" in line) and not found[2][0].isdigit():
+            names[found[1]] = found[2]
+    if not names:
+        return text
+    kept = []
+    for line in text.splitlines():
+        is_told = re.match(r"\s*\.(?:type|size|global|globl|weak|local|hidden)\s+([\w.$]+)", line)
+        if ALIAS.fullmatch(line) and (" = " in line or ".set" in line) or is_told and is_told[1] in names:
+            continue
+        kept.append(line if TEXT.match(line) else WORDS.sub(lambda it: first_of(names, it[0]), line))
+    return "\n".join(kept) + "\n"
+
+
+def first_of(names, name):
+    """What a second name stands for."""
+    while name in names:
+        name = names[name]
+    return name
+
+
+def renamed(text):
+    """Gives main another name."""
+    return "\n".join(it if TEXT.match(it) else NAME.sub(INNER, it) for it in text.splitlines()) + "\n"
+
+
+def started(text, has_parameters):
+    """Puts a start before main where something runs before it or behind it, where it has parameters, or is called."""
+    text, before = without_lists(without_frame_sums(without_aliases(without_options(text))))
+    is_told = AT_EXIT.search(text) is not None
+    is_called = re.search(r"^\s*call\s+main\b", text, re.M)
+    if not (before or is_told or has_parameters or is_called):
+        return text
+    calls = "".join(f"\tcall\t{name}\n\tnop\n" for name in before)
+    behind = "\tcall\texit\n\tnop\n" if is_told else "\tmov\t%o0, %i0\n\tret\n\trestore\n"
+    return renamed(text) + START.format(before=calls, behind=behind, inner=INNER)

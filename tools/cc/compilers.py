@@ -1,0 +1,256 @@
+"""The two compilers for SPARC, and how they make one assembly of sources and of the library."""
+import concurrent.futures
+import functools
+import os
+import re
+import shutil
+import subprocess
+
+from assembly import Assembly
+from fault import Fault
+from request import ending_of, is_plus
+
+TOP = os.path.dirname(os.path.dirname(os.path.dirname(os.path.abspath(__file__))))
+GCC = "sparc64-linux-gnu-gcc"
+# So many seconds of processor a compiler may take.
+SECONDS = 60
+
+# What makes gcc write what the rules admit: no filled slots, no position-independent code, no tables of jumps, no tail
+# calls, no second name for a function that is like another one, no registers of the floating-point unit. %g5 to %g7 are
+# left to the tests, %o7 to the calls, %g2 to %g4 to the stack of functions that call themselves, and to the meter.
+# What C leaves open and programs rely on is as most compilers had it for long: sums that wrap, pointers of other types
+# to one place, a null pointer that is read where it is read.
+PLAIN = """-g1 -m32 -mcpu=v8 -msoft-float -mno-app-regs -ffixed-o7 -fno-delayed-branch -fno-pic -fno-pie
+    -fno-jump-tables -fno-optimize-sibling-calls -fno-asynchronous-unwind-tables -fno-stack-protector -fno-common
+    -fno-ipa-icf -fno-ipa-ra -fno-strict-aliasing -fwrapv -fno-isolate-erroneous-paths-dereference
+    -Wreturn-type""".split()
+# These keep an index in a register that counts from an object, so that fewer tests are needed; small functions become
+# parts of their callers also where these are cold, since a call costs more than it does elsewhere.
+SHAPED = """-fno-tree-loop-distribute-patterns -fno-ivopts -fno-schedule-insns -fno-schedule-insns2
+    -fno-tree-vectorize -fno-tree-loop-ivcanon -fno-split-loops -fno-thread-jumps -fno-crossjumping
+    -fno-tree-tail-merge --param logical-op-non-short-circuit=0 --param max-inline-insns-auto=30
+    --param max-inline-insns-recursive-auto=0 --param early-inlining-insns=60""".split()
+CLANG = """--target=sparc-linux-gnu -mcpu=v8 -msoft-float -g1 -fno-pic -fno-pie -fno-jump-tables
+    -fno-optimize-sibling-calls -fno-asynchronous-unwind-tables -fno-stack-protector -fno-common -fno-strict-aliasing
+    -fwrapv -Wreturn-type -fno-vectorize -fno-slp-vectorize -fno-unroll-loops -mllvm -disable-sparc-delay-filler
+    -mllvm -sparc-reserve-app-registers""".split()
+# C++ without what needs tables: no exceptions, no types at run time, one thread.
+PLUS = "-fno-exceptions -fno-rtti -fno-threadsafe-statics -nostdinc++".split()
+# The headers are those of runtime/include alone, and the compiler's own for C++ behind them.
+HEADERS = ["-nostdinc", "-isystem", f"{TOP}/runtime/include", "-idirafter", f"{TOP}/runtime"]
+PLUS_HEADERS = ["-isystem", f"{TOP}/runtime/cxx/include"]
+# All files and the library become one assembly, in which only what main reaches is left.
+WHOLE = """-flto -flto-partition=none -fwhole-program -nostdlib -static -save-temps -Wl,-e,main
+    -Wl,--unresolved-symbols=ignore-all""".split()
+# What a compiler's last passes may call in the place of something else, and what ends a run: it stays up to there, and
+# goes where nothing calls it.
+KEPT = """memcpy memmove memset memcmp memchr mempcpy strlen strcpy stpcpy strcat strchr strcmp strncmp puts putchar
+    fputc fputs fwrite calloc abort exit""".split()
+# What clang calls of mathematics in the place of its own operations.
+KEPT_MATH = """fabs floor ceil trunc rint nearbyint round sqrt copysign fmin fmax fmod fabsf floorf ceilf truncf rintf
+    nearbyintf roundf sqrtf copysignf fminf fmaxf fmodf""".split()
+
+
+def limited(words, seconds=SECONDS, **how):
+    """Runs a command that may take so many seconds of processor; returns how it ended, and whether it took them."""
+    limit = ["sh", "-c", f'ulimit -t {seconds}; exec "$@"', "sh"]
+    ran = subprocess.run([*limit, *words], stderr=subprocess.PIPE, text=True, errors="replace", check=False, **how)
+    return ran, ran.returncode in (-9, -24, 137, 152) or "CPU time limit" in ran.stderr
+
+
+def found_compiler():
+    """The compiler that is installed."""
+    if shutil.which(GCC):
+        return GCC
+    if shutil.which("clang"):
+        targets = subprocess.run(["clang", "--print-targets"], stdout=subprocess.PIPE, text=True, check=False).stdout
+        if re.search(r"^ *sparc ", targets, re.M):
+            return "clang"
+    raise Fault(125, "no compiler for SPARC: install the Debian package gcc-sparc64-linux-gnu")
+
+
+def compiler_of(request):
+    """The compiler that is asked for, or installed."""
+    path = os.environ.get("CC_SPARC") or found_compiler()
+    if not shutil.which(path):
+        raise Fault(125, f"{request.name}: CC_SPARC: {path} isn't there")
+    return (Clang if "clang" in os.path.basename(path) else Gcc)(path, request)
+
+
+class Compiler:
+    """What both have in common."""
+
+    target, size_level, library_flags = [], "-Os", []
+
+    def __init__(self, path, request):
+        self.path, self.request = path, request
+        if request.is_plus and not shutil.which(self.plus):
+            raise Fault(125, f"{request.name}: no compiler of C++ for SPARC: {self.plus} isn't there: install the "
+                        "Debian package g++-sparc64-linux-gnu")
+
+    @functools.cached_property
+    def plus(self):
+        """The compiler of C++ beside that of C."""
+        return re.sub(r"gcc(?=(-\d+)?$)", "g++", re.sub(r"clang(?=(-\d+)?$)", "clang++", self.path))
+
+    @functools.cached_property
+    def plus_headers(self):
+        """The folders of C++'s own headers: the compiler's, or, where it has none for SPARC, those of g++."""
+        for words in ([self.plus, *self.target], ["sparc64-linux-gnu-g++", "-m32"]):
+            if shutil.which(words[0]):
+                told = subprocess.run([*words, "-E", "-v", "-x", "c++", os.devnull], stdout=subprocess.DEVNULL,
+                                      stderr=subprocess.PIPE, text=True, check=False).stderr
+                listed = told.partition("> search starts here:")[2].partition("End of search")[0].split()
+                folders = [os.path.normpath(it) for it in listed if "/c++/" in it]
+                if any(os.path.exists(f"{it}/array") for it in folders):
+                    return [word for it in folders for word in ("-isystem", it)]
+        return []
+
+    def front(self, source):
+        """The words before all others to compile a source; as c++, C is C++, but for that of the library."""
+        kind = ["-x", "c++"] if self.request.name == "c++" and source in self.request.files else []
+        if not is_plus(source) and not kind:
+            return [self.path, *self.target, *HEADERS]
+        return [self.plus, *kind, *self.target, *PLUS, *PLUS_HEADERS, *HEADERS, *self.plus_headers]
+
+    def words(self, source, level, flags, *more):
+        """The words to compile a source."""
+        return [*self.front(source), level, *self.for_size(level), *flags, *more, source]
+
+    def for_size(self, level):
+        """What makes less code beside the level."""
+        return self.library_flags if level in ("-Os", "-Oz") else []
+
+    def called(self, source, level, flags, *more):
+        """Compiles a source; returns how it ended."""
+        ran, is_long = limited(self.words(source, level, flags, *more))
+        if is_long:
+            raise Fault(2, f"{self.request.name}: {source}: the compiler took more than {SECONDS} seconds: give it "
+                        "smaller functions, or compile by -O1")
+        return ran
+
+    def each(self, work):
+        """Compiles each source by itself, side by side; returns the paths of what is made."""
+        sources = [it for it in self.request.files if ending_of(it) != ".s"]
+        made = [f"{work}/{number}-{os.path.basename(it)}{self.ending}" for number, it in enumerate(sources)]
+
+        def compiled(source, path):
+            more = [*self.kind, *self.dependencies(f"{path}.d"), "-o", path]
+            return self.called(source, self.request.level, self.request.flags, *more)
+        with concurrent.futures.ThreadPoolExecutor() as lanes:
+            ran = list(lanes.map(compiled, sources, made))
+        self.told = "".join(it.stderr for it in ran)
+        if any(it.returncode for it in ran):
+            raise Fault(2, self.told.rstrip("\n"))
+        return made
+
+    def dependencies(self, path):
+        """The words that write down what a source includes."""
+        request = self.request
+        if not request.dependencies:
+            return []
+        target = [] if "-MT" in request.flags or "-MQ" in request.flags else ["-MT", request.out or "out"]
+        return [request.dependencies, "-MF", path, *target]
+
+
+class Gcc(Compiler):
+    """gcc: objects that hold its own form, which it makes one assembly of as it links."""
+
+    target, ending = PLAIN + SHAPED, ".o"
+    kind = ["-c", "-flto"]
+    # (an address of a variable in a register that is kept over calls would have to be tested, where it is a constant)
+    library_flags = ["-fno-gcse", "-fno-move-loop-invariants"]
+
+    @property
+    def archiver(self):
+        """What makes libraries of such objects."""
+        return re.sub(r"gcc(?=(-\d+)?$)", "gcc-ar", self.path)
+
+    def library(self, runtime):
+        """The library's objects in an archive, so that a name of the program's goes before one of the library's."""
+        archive, objects = runtime.place("library.a"), runtime.objects(self.ending, *self.kind)
+        if not os.path.exists(archive):
+            subprocess.run([self.archiver, "rcs", f"{archive}.{os.getpid()}", *objects], check=True)
+            os.replace(f"{archive}.{os.getpid()}", archive)
+        return [archive]
+
+    def whole(self, objects, library, work):
+        """Makes one assembly of all; returns its path."""
+        path = self.plus if self.request.is_plus else self.path
+        kept = [f"-Wl,-u,{name}" for name in KEPT]
+        level = [self.request.level, *self.for_size(self.request.level)]
+        words = [path, *level, *self.target, *WHOLE, *kept, "-o", "whole", *objects, *library]
+        ran, is_long = limited(words, cwd=work)
+        made = sorted(it for it in os.listdir(work) if it.startswith("whole.lto.o") and it.endswith(".s"))
+        if is_long:
+            raise Fault(2, f"{self.request.name}: the compiler took more than {SECONDS} seconds for all files at once: "
+                        "give it smaller functions, or compile by -O1")
+        if ran.returncode or len(made) != 1:
+            wrong = self.unassembled(ran.stderr, f"{work}/{made[0]}") if len(made) == 1 else []
+            raise Fault(2, self.told, *wrong or [self.named(ran.stderr, objects, work).strip()])
+        self.told += self.named(ran.stderr, objects, work)
+        os.rename(f"{work}/{made[0]}", f"{work}/program.s")
+        return f"{work}/program.s"
+
+    def unassembled(self, text, path):
+        """What the assembler doesn't take, which only a program itself can have written, by lines of C."""
+        with open(path, encoding="utf-8", errors="replace") as file:
+            assembly = Assembly(file.read())
+        lines = []
+        for number, why in re.findall(r"\.s:(\d+): Error: (.*)", text):
+            place, function = assembly.place(int(number)), assembly.functions.get(int(number))
+            where = f"{self.source_of(place[0])}:{place[1]}" if place else self.request.files[0]
+            lines.append(f"{where}: refused: {function}: inline assembly isn't taken: write it in C: {why}")
+        return lines
+
+    def source_of(self, path):
+        """The path of a source as the words of the call have it."""
+        same = [it for it in self.request.files if os.path.basename(it) == os.path.basename(path)]
+        return same[0] if len(same) == 1 else path
+
+    def named(self, text, objects, work):
+        """What the linker told, with sources in the place of objects, and paths as the words of the call have them."""
+        sources = [it for it in self.request.files if ending_of(it) != ".s"]
+        for path, source in zip(objects, sources):
+            text = re.sub(re.escape(path) + r"( \(symbol from plugin\))?", source, text)
+            text = text.replace(os.path.relpath(os.path.abspath(source), os.path.realpath(work)), source)
+        lines = [re.sub(r"^\S*/ld: ", "", it) for it in text.splitlines()]
+        of_tools = r"collect2: |lto-wrapper: |compilation terminated|error: lto-wrapper|.* defaulting to "
+        return "\n".join(it for it in lines if not re.match(of_tools, it))
+
+
+class Clang(Compiler):
+    """clang: files of LLVM's form, which an empty source is compiled with."""
+
+    target, ending, size_level = CLANG, ".bc", "-Oz"
+    kind = ["-c", "-emit-llvm", "-Xclang", "-disable-llvm-passes"]
+
+    def library(self, runtime):
+        """The library as one file of LLVM's form."""
+        path, parts = runtime.place("library.bc"), runtime.objects(self.ending, *self.kind)
+        if not os.path.exists(path):
+            draft = f"{path}.{os.getpid()}"
+            subprocess.run([*self.linked("-mlink-bitcode-file", parts), *self.kind, "-O2", "-x", "c", os.devnull,
+                            "-o", draft], check=True)
+            os.replace(draft, path)
+        return [path]
+
+    def linked(self, how, paths):
+        """The words to compile something with such files."""
+        return [self.path, *self.target, *(word for it in paths for word in ("-Xclang", how, "-Xclang", it))]
+
+    def whole(self, objects, library, work):
+        """Makes one assembly of all; returns its path."""
+        # (clang gives no function of the library that is called by its own late passes alone)
+        with open(f"{work}/kept.c", "w", encoding="ascii") as file:
+            for name in [*KEPT, *KEPT_MATH]:
+                file.write(f"void {name}(void);\n__attribute__((used, noinline, optnone)) ")
+                file.write(f"static void __keep_{name}(void) {{ {name}(); }}\n")
+        words = [*self.linked("-mlink-bitcode-file", objects),
+                 *(word for it in library for word in ("-Xclang", "-mlink-builtin-bitcode", "-Xclang", it))]
+        ran, is_long = limited([*words, self.request.level, "-w", "-fno-builtin", "-S", f"{work}/kept.c", "-o",
+                                f"{work}/program.s"])
+        if is_long or ran.returncode:
+            long = f"{self.request.name}: the compiler took more than {SECONDS} seconds for all files at once"
+            raise Fault(2, self.told + (long if is_long else ran.stderr.strip()))
+        return f"{work}/program.s"

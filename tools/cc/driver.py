@@ -1,0 +1,234 @@
+"""./cc and ./c++: from sources to an image that is accepted."""
+import dataclasses
+import os
+import re
+import shutil
+import subprocess
+import sys
+import tempfile
+
+from assembly import LAST, Assembly, started, without_traps
+from compilers import TOP, compiler_of, limited
+from fault import Fault
+from request import ending_of, request_of
+from runs import Comparison, run_image
+from runtime import Runtime
+from telling import Teller, demangled
+
+# So many seconds of processor ./fit may take.
+SECONDS = 300
+# What fit says of code that is compiled for size then, and of code that is compiled more plainly.
+TOO_LARGE = re.compile(r"refused: (?:\w+: )?(the blocks of [a-z ]+ would be|more than \d+ (words|labels|registers))")
+TOO_DENSE = re.compile(r"refused: (?:\w+: )?(no place for a test|condition codes of several|no register is left)")
+LIMITS = "a program has at most 4096 blocks, 65536 words and 256 functions"
+USAGE = f"{TOP}/tools/cc/usage"
+MAIN = re.compile(r"^[\w\s*]*?\bmain\s*\(([^)]*)\)", re.M)
+
+
+def say(*lines):
+    """Tells lines on standard error."""
+    print("".join(f"{line}\n" for line in lines if line), end="", file=sys.stderr)
+
+
+class Build:
+    """One way from the sources to a source that ./fit made, in a folder for work."""
+
+    def __init__(self, request, work):
+        self.request, self.work = request, work
+        self.source, self.image = f"{work}/fitted.s", f"{work}/out.img"
+        self.compiler = compiler_of(request)
+        self.has_parameters = self.parameters_of_main()
+
+    def parameters_of_main(self):
+        """Where main has parameters, and what they are; None where it hasn't."""
+        for path in self.request.files:
+            with open(path, encoding="utf-8", errors="replace") as file:
+                text = "" if ending_of(path) == ".s" else file.read()
+            found = MAIN.search(text)
+            if found and found[1].strip() not in ("", "void"):
+                line = text[: found.start(1)].count("\n") + 1
+                return f"{path}:{line}: note: main is called as program without words: argc is 1, argv[1] is NULL"
+        return None
+
+    def assembled(self):
+        """Makes the assembly of all; returns the paths of its files."""
+        runtime = Runtime(self.compiler, self.work)
+        objects = self.compiler.each(self.work)
+        library = self.compiler.library(runtime)
+        path = self.compiler.whole(objects, library, self.work)
+        say(self.compiler.told.rstrip("\n"))
+        self.write_dependencies(objects)
+        with open(path, encoding="utf-8", errors="surrogateescape") as file:
+            text = file.read()
+        last = LAST.search(text)
+        if last:
+            raise Fault(2, f"{self.request.name}: refused: {last[1]}: an __attribute__((destructor)) isn't taken: tell "
+                        "atexit of the function")
+        text = started(text, self.has_parameters)
+        self.assembly = Assembly(text)
+        traps = without_traps(self.assembly)
+        with open(path, "w", encoding="utf-8", errors="surrogateescape") as file:
+            file.write(self.assembly.text())
+        self.teller = Teller(self.request, self.assembly)
+        say(*(self.trap(it) for it in traps), self.has_parameters)
+        written = [it for it in self.request.files if ending_of(it) == ".s"]
+        return [*written, path, *runtime.helpers()]
+
+    def trap(self, number):
+        """What is told of a trap that a compiler put in."""
+        path, line, function = self.teller.place("program.s", number)
+        return demangled(f"{path}:{line}: note: {function}: the compiler sees that C defines nothing here, as where a "
+                         "null pointer is read or a value isn't returned: a run ends here as by abort")
+
+    def write_dependencies(self, objects):
+        """Writes which files the sources include, in one file for all."""
+        request = self.request
+        if request.dependencies:
+            texts = []
+            for it in objects:
+                with open(f"{it}.d", encoding="utf-8", errors="surrogateescape") as file:
+                    texts.append(file.read())
+            target = request.depends or os.path.splitext(request.out or "a")[0] + ".d"
+            with open(target, "w", encoding="utf-8", errors="surrogateescape") as file:
+                file.write("".join(texts))
+
+    def fitted(self):
+        """Compiles and fits; returns how ./fit ended."""
+        self.made = self.assembled()
+        words = [f"{TOP}/fit", *self.made, "-o", self.source, *self.request.fitting]
+        ran, is_long = limited(words, SECONDS)
+        if is_long:
+            raise Fault(2, f"{self.request.name}: ./fit took more than {SECONDS} seconds of processor: compile by -Os, "
+                        "or write __attribute__((noinline)) before the greatest functions")
+        self.ran = ran
+        return ran
+
+    def keep(self):
+        """Leaves what was made where --keep says."""
+        folder = self.request.keep
+        if folder:
+            os.makedirs(folder, exist_ok=True)
+            for path in filter(os.path.exists, [*self.made, self.source]):
+                shutil.copy(path, folder)
+
+    def refuse(self):
+        """Ends where ./fit made nothing."""
+        text = self.ran.stderr
+        refusals = [it for it in text.splitlines() if "refused: " in it]
+        notes = self.teller.notes(text)
+        lines = [*notes, self.teller.refusal(refusals[-1])] if refusals else [*notes] if notes else [text.strip()]
+        raise Fault(self.ran.returncode, *lines)
+
+
+def assembled(source, image):
+    """What ./sandbox tells of a source, or of its image; nothing where both are accepted."""
+    for words in (["asm", source, image], ["verify", image]):
+        ran = subprocess.run([f"{TOP}/sandbox", *words], stdout=subprocess.PIPE, stderr=subprocess.STDOUT, text=True,
+                             errors="replace", check=False)
+        if ran.returncode:
+            return ran.stdout.strip()
+    return ""
+
+
+def image_by(request, work):
+    """Makes an image in a folder for work; returns the build, and what ./sandbox tells."""
+    os.makedirs(work, exist_ok=True)
+    build = Build(request, work)
+    ran = build.fitted()
+    return build, "" if ran.returncode else assembled(build.source, build.image)
+
+
+def again_for(build, told):
+    """At which level to compile again, and why; nothing where that asks for nothing else."""
+    said = build.ran.stderr.strip()
+    why = said.splitlines()[-1].rpartition("refused: ")[2] if said else ""
+    if told.endswith(": A3"):
+        return build.compiler.size_level, LIMITS
+    if TOO_LARGE.search(said):
+        return build.compiler.size_level, why
+    return ("-O1", why) if TOO_DENSE.search(said) else (None, None)
+
+
+def image_of(request, work):
+    """Makes the image in the folder for work, at another level where that does it; returns its path."""
+    build, told = image_by(request, work)
+    level, why = again_for(build, told)
+    if level and level != request.level:
+        size = "for size" if level == build.compiler.size_level else "more plainly"
+        say(f"{request.name}: compiled again {size}, by {level}, since {why}")
+        build, told = image_by(dataclasses.replace(request, level=level), f"{work}/again")
+    build.keep()
+    if build.ran.returncode:
+        build.refuse()
+    if told.endswith(": A3"):
+        raise Fault(2, f"{request.name}: refused: {LIMITS}: fewer or smaller functions are wanted")
+    say(*build.teller.notes(build.ran.stderr))
+    if told:
+        raise Fault(1, *fault_of(build, told))
+    return build.image
+
+
+def fault_of(build, told):
+    """The lines that tell of a source or an image of ./fit's that isn't accepted."""
+    with open(build.source, encoding="utf-8", errors="replace") as file:
+        source = file.read()
+    line = re.search(r"\bline (\d+):", told)
+    word = re.search(r"\b(?:at|word) (?:0x)?([0-9A-Fa-f]{8})\b", told)
+    number = None
+    if line:
+        number = sum(re.match(r"\s+[a-z]", it) is not None for it in source.splitlines()[: int(line[1])]) - 1
+    elif word and int(word[1], 16) >= 0x40000:
+        number = (int(word[1], 16) - 0x40000) // 4
+    return build.teller.fault_of_fit(told, source, number)
+
+
+def preprocess(request):
+    """Calls the compiler for -E, -M and -MM; returns the status."""
+    compiler, status = compiler_of(request), 0
+    out = ["-o", request.out] if request.out else []
+    depends = ["-MF", request.depends] if request.depends else []
+    more = [request.prints, *depends, *([request.dependencies] if request.dependencies else []), *out]
+    for it in request.files:
+        ran = subprocess.run(compiler.words(it, request.level, request.flags, *more), check=False)
+        status = max(status, 2 if ran.returncode else 0)
+    return status
+
+
+def perform(request):
+    """Does what was asked for; returns the status."""
+    if request.prints:
+        return preprocess(request)
+    with tempfile.TemporaryDirectory() as work:
+        image = image_of(request, work)
+        # (what a run or a comparison prints goes to standard output alone)
+        print("accepted", file=sys.stderr if request.runs or request.inputs else sys.stdout)
+        if request.out:
+            shutil.copyfile(image, request.out)
+        status = Comparison(request, image, work).all() if request.inputs else 0
+        return run_image(request, image) if request.runs else status
+
+
+def usage_of(name):
+    """How cc, or c++, is called."""
+    with open(USAGE, encoding="utf-8") as file:
+        text = file.read()
+    return text.replace("FILE.c", "FILE.cc").replace("Usage: cc", "Usage: c++").replace("\n       cc", "\n       c++") \
+        if name == "c++" else text
+
+
+def main(name, words):
+    """Does what the words ask for; returns the status."""
+    try:
+        if "--help" in words or "-h" in words:
+            print(usage_of(name), end="")
+            return 0
+        return perform(request_of(name, words))
+    except Fault as fault:
+        usage = [*usage_of(name).splitlines()[:3], f"{name} --help tells more"] if fault.status == 3 else []
+        say(*fault.lines, *usage)
+        return fault.status
+    except OSError as error:
+        say(f"{name}: {error.filename}: {error.strerror}")
+        return 4
+    except KeyboardInterrupt:
+        return 130

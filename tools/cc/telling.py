@@ -1,0 +1,145 @@
+"""What is told of tests, refusals and faults: by file, line and function of C, and what to write."""
+import collections
+import glob
+import os
+import re
+import shutil
+import subprocess
+
+from compilers import TOP
+
+# So many notes are told line by line.
+FEW = 10
+NOTE = re.compile(r"([^:\n]+):(\d+): note: (.*)")
+REFUSED = re.compile(r"(?:([^:\n]+):(?:(\d+):)? )?refused: (.*)", re.S)
+# What to write in the place of what is refused, where the refusal doesn't say it.
+ADVICE = (
+    (r"an array of a size that isn't constant", "write the greatest size that there may be"),
+    (r"the address of its frame in a form", "write an array of a constant size"),
+    (r"bytes of data", "write smaller tables, or ask for less by --arena and --stack"),
+    (r"the blocks of [a-z ]+ would be", "compile by -Os, or write __attribute__((noinline)) before functions"),
+    (r"words of code|would be \d+, above 65536", "compile by -Os"),
+    (r"isn't defined", "it is neither in the sources that are named nor in the library: name its source"),
+    (r"there is no function main", "one of the sources has to have it"),
+    (r"the instruction .* isn't known|an instruction that sandboxed code|the operands of",
+     "inline assembly isn't taken: write it in C"),
+    (r"one of %g5 to %g7", "inline assembly that names these isn't taken: write it in C"),
+    (r"functions whose addresses are taken|more than \d+ functions", "write fewer of them, or compile by -Os"),
+)
+
+
+def demangled(text):
+    """A text with names of C++ as they stand in the source, where there is what tells them."""
+    if "_Z" not in text or not shutil.which("c++filt"):
+        return text
+    return subprocess.run(["c++filt"], input=text, stdout=subprocess.PIPE, text=True, check=False).stdout
+
+
+class Teller:
+    """Tells what ./fit said of a program."""
+
+    def __init__(self, request, assembly):
+        self.request, self.assembly = request, assembly
+        self.paths = {}
+        self.library = {os.path.basename(it) for it in glob.glob(f"{TOP}/runtime/**/*.*", recursive=True)}
+        for path in [*assembly.files.values(), *request.files]:
+            self.paths.setdefault(os.path.basename(path), set()).add(self.shown(path))
+
+    def shown(self, path):
+        """A path as the words of the call have it."""
+        same = [it for it in self.request.files if os.path.basename(it) == os.path.basename(path)]
+        return same[0] if len(same) == 1 and not path.startswith(TOP) else os.path.normpath(path)
+
+    def path(self, name):
+        """The path of the one file of that name; the name where there are several."""
+        paths = self.paths.get(os.path.basename(name), set())
+        return min(paths) if len(paths) == 1 else name
+
+    def place(self, name, number):
+        """A file and a line of C: those that a line of assembly comes from, where it is one of a compiler's."""
+        if not name.endswith(".s") or name in self.request.files:
+            return self.path(name), number, None
+        place = self.assembly.place(number)
+        function = self.assembly.functions.get(number)
+        return (self.path(place[0]), place[1], function) if place else (self.request.files[0], None, function)
+
+    def notes(self, text):
+        """The notes: those on the program line by line where they are few, else how many stand in each function; those
+        on the library counted."""
+        found = NOTE.findall(text)
+        if self.request.notes:
+            return [f"{self.path(name)}:{line}: note: {why}" for name, line, why in found]
+        own = [it for it in found if not self.is_library(it[0])]
+        lines = [f"{self.path(name)}:{line}: note: {why}" for name, line, why in own]
+        if len(own) > FEW:
+            lines = [f"{self.request.name}: {len(own)} tests were added ({self.counted(own)}): --notes tells each"]
+        if len(found) > len(own):
+            rest = len(found) - len(own)
+            lines.append(f"{self.request.name}: {rest} tests were added in the library: --notes tells each")
+        return lines
+
+    def is_library(self, name):
+        """Whether a file of that name is the library's, or one of C++'s headers."""
+        base = os.path.basename(name)
+        if any(os.path.basename(it) == base for it in self.request.files):
+            return False
+        return base in self.library or "/c++/" in self.path(name)
+
+    def counted(self, found):
+        """How many notes stand in each function."""
+        counts = collections.Counter(self.function(name, int(line)) for name, line, _ in found)
+        told = [f"{name} {count}" for name, count in counts.most_common(FEW)]
+        rest = [count for _, count in counts.most_common()[FEW:]]
+        return ", ".join([*told, f"{len(rest)} more {sum(rest)}"] if rest else told)
+
+    def function(self, name, line):
+        """The function that a line of C stands in, as well as the text tells; else the file's name."""
+        try:
+            with open(self.path(name), encoding="utf-8", errors="replace") as file:
+                lines = file.read().splitlines()[:line]
+        except OSError:
+            return name
+        for text in reversed(lines):
+            text = re.sub(r"__attribute__\(\(.*?\)\)\s*", "", text)
+            head = re.match(r"(?!typedef|#|//|/\*| \*)[A-Za-z_][^;={}]*?(\w+)\s*\((?!.*;\s*$)", text)
+            if head and head[1] not in ("if", "for", "while", "switch", "__attribute__", "sizeof", "return"):
+                return head[1]
+        return name
+
+    def refusal(self, text):
+        """A refusal with its line of C, its function, and what to write."""
+        found = REFUSED.search(text)
+        if not found:
+            return text.strip()
+        name, line, why = found.groups()
+        why = re.sub(r"\b__main\b", "main", why.strip())
+        advice = next((said for pattern, said in ADVICE if re.search(pattern, why)), None)
+        why += f": {advice}" if advice and advice not in why else ""
+        if not name:
+            return demangled(f"{self.request.name}: refused: {why}")
+        path, line, function = self.place(name, int(line) if line else 0)
+        where = f"{path}:{line}" if line else path
+        inside = f"{function}: " if function and not why.startswith(f"{function}:") else ""
+        return demangled(f"{where}: refused: {inside}{why}")
+
+    def fault_of_fit(self, what, source, word=None):
+        """What ./fit made that isn't accepted: never the program's fault."""
+        place = place_of_word(source, word)
+        name = self.request.name
+        where = f"{self.path(place[0])}:{place[1]}: " if place else ""
+        return (f"{where}{name}: a fault of ./fit's, and not of the program: what it made of this line isn't accepted: "
+                f"{what}", f"{name}: nothing is made; another -O level may do; --keep FOLDER has what to report")
+
+
+def place_of_word(source, word):
+    """The file and the line of C that a word of an image comes from, by the comments of its source."""
+    if word is None:
+        return None
+    place, count = None, -1
+    for line in source.splitlines():
+        found = re.search(r"! (\S+\.\w+):(\d+)$", line)
+        place = (found[1], int(found[2])) if found else place
+        count += re.match(r"\s+[a-z]", line) is not None
+        if count == word:
+            break
+    return place
