@@ -1,0 +1,1 @@
+/* libmd's configuration: nothing is asked for. */

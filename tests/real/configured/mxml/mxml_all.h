@@ -1,0 +1,11 @@
+/* All of mxml that reads and writes a document. */
+#include "config.h"
+#include "mxml-attr.c"
+#include "mxml-entity.c"
+#include "mxml-file.c"
+#include "mxml-get.c"
+#include "mxml-node.c"
+#include "mxml-private.c"
+#include "mxml-search.c"
+#include "mxml-set.c"
+#include "mxml-string.c"
