@@ -370,8 +370,9 @@ def try_size(to, _options):
         return
     source, kept = put(f"{to.work}/loop.c", in_one_loop(programs())), f"{to.work}/loop"
     made = run([CC, source, "-o", f"{to.work}/loop.img", "--keep", kept], seconds=240)
-    to.tally.check("one loop", made.status == 0, f"wanted an image, came {made}")
-    measured(to, "all in one loop", [f"{kept}/0-loop.s", f"{kept}/plug.s"], SECONDS_LONG)
+    if to.tally.check("one loop", made.status == 0, f"wanted an image, came {made}"):
+        files = sorted(it for it in os.listdir(kept) if it.endswith(".s") and it != "fitted.s")
+        measured(to, "all in one loop", [f"{kept}/{it}" for it in files], SECONDS_LONG)
 
 
 PARTS = {"examples": try_examples, "features": try_features, "faults": try_faults, "size": try_size,

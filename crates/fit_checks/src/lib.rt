@@ -5,10 +5,12 @@
 mod asks;
 mod cuts;
 mod forms;
+mod naming;
 mod plans;
 mod settling;
 mod sweep;
 mod undefined;
+mod upper;
 
 pub use asks::{Asking, NotShown, UnshownAccess, asks_of, needed_alignment};
 pub use cuts::{

@@ -9,15 +9,17 @@ use crate::cuts::{
     spare_register,
 };
 use crate::forms::check_forms;
+use crate::naming::name_derived;
 use crate::plans::{SUM, Test, TestKind, TestPlan, TestWay, plan_of, subtracting, take_division};
 use crate::undefined::clear_undefined;
-use fit_code::{Block, End, Fault, Function, Heap, NO_LINE, Program, Reason};
+use crate::upper::write_upper;
+use fit_code::{Block, End, Fault, Function, Heap, NO_LINE, Program, Reason, with_operands};
 use fit_graph::{enter, range_in};
 use fit_ranges::Ranges;
 use sbx_domain::State;
 use sbx_range::excludes_zero;
 use std::alloc::{AllocError, Global};
-use v8_formats::{Instr, Operand, Three, decode, encode};
+use v8_formats::{Instr, Operand, Three};
 
 /// What tests are made by.
 #[derive(Clone, Copy)]
@@ -29,7 +31,11 @@ pub struct TestOptions {
 }
 
 /// As many rounds as settling may take, and in so many of them tests that aren't needed go.
-const ROUNDS: u32 = 1_000;
+const ROUNDS: u32 = 250;
+
+/// As many blocks as a function of an image may have. While tests are put in there may be four times as many: some go
+/// again, or end up in one block.
+const MOST_BLOCKS: u64 = 4_096;
 
 const DROPS: u32 = 4;
 
@@ -186,9 +192,7 @@ fn join_address(blocks: &mut [Block], ask: &Ask, access: &UnshownAccess) -> Opti
         && rs1.number() != SUM
     {
         let (rd, step) = (register(SUM), &mut blocks[ask.block].steps[ask.place]);
-        // its word says one register, an immediate, and 0
-        let parts = (SUM as u32) << 14 | 1 << 13;
-        step.instr = decode(encode(&step.instr) & !0x7_ffff | parts);
+        step.instr = with_operands(&step.instr, rd, Operand::Immediate(0));
         return Some(Instr::Add(Three { rd, rs1, operand2 }));
     }
     None
@@ -237,6 +241,22 @@ fn is_needless(test: &Test, ranges: &Ranges) -> bool {
         }
         None => false,
     }
+}
+
+/// A fault of the first function that has far more blocks than it may have.
+fn check_blocks(program: &Program) -> Result<(), Fault> {
+    for function in program.functions.as_slice() {
+        let count = function.blocks.len() as u64;
+        if count > 4 * MOST_BLOCKS {
+            let reason = Reason::TooGreat {
+                what: "the blocks of a function",
+                count,
+                most: MOST_BLOCKS,
+            };
+            return Err(Fault::new(function.line, reason));
+        }
+    }
+    Ok(())
 }
 
 impl Tests {
@@ -308,6 +328,11 @@ impl Tests {
         ranges: &mut Ranges,
         state: &mut State,
     ) -> Result<(), Fault> {
+        write_upper(&mut self.memory, program, &mut self.changed);
+        if !self.changed.is_empty() {
+            ranges.renew(program, self.changed.as_slice(), state)?;
+            self.changed.clear();
+        }
         for _ in 0..ROUNDS {
             clear_undefined(&mut self.memory, program, ranges, &mut self.changed);
             if self.changed.is_empty() {
@@ -398,9 +423,9 @@ impl Tests {
         }
     }
 
-    /// Puts tests into a program, of which these are the ranges, until nothing is left that isn't shown. Tells what
-    /// can't be tested, where a division by 0 is one of any function, and of what there is more than there may be.
-    fn settle(
+    /// Puts tests into a program, of which these are the ranges, round by round: until nothing is left that isn't
+    /// shown, or can't be tested, or there is more of something than there may be.
+    fn settle_rounds(
         &mut self,
         program: &mut Program,
         ranges: &mut Ranges,
@@ -427,7 +452,20 @@ impl Tests {
             if self.refused.is_err() | self.memory.is_refused | self.changed.is_empty() {
                 break;
             }
+            check_blocks(&*program)?;
         }
+        Ok(())
+    }
+
+    /// Puts tests into a program, of which these are the ranges, until nothing is left that isn't shown. Tells what
+    /// can't be tested, where a division by 0 is one of any function, and of what there is more than there may be.
+    fn settle(
+        &mut self,
+        program: &mut Program,
+        ranges: &mut Ranges,
+        state: &mut State,
+    ) -> Result<(), Fault> {
+        self.settle_rounds(program, ranges, state)?;
         if self.memory.is_refused {
             return Err(Fault::from(AllocError));
         }
@@ -472,6 +510,7 @@ pub fn add_tests(
         refused: Ok(()),
     };
     tests.define(program, ranges, state)?;
+    name_derived(&mut tests.memory, program, &*ranges, state);
     let functions = program.functions.as_mut_slice();
     for number in 0..functions.len() {
         tests.shorten(&mut functions[number], ranges, number, state);

@@ -51,7 +51,7 @@ fn written_of(memory: &mut Heap, functions: &[Function]) -> Vec<u32> {
 
 /// The registers that are live behind the steps of a block of a function of so many results, each of which has a bit.
 fn live_at_end(function: &Function, results: u8, block: &Block, live: &[LocationSet]) -> u32 {
-    let mut registers = read_at_end(function, results, &block.end);
+    let mut registers = 0;
     let ways = block.end.ways();
     for way in 0..2 {
         if let Some(to) = ways[way]
@@ -60,7 +60,11 @@ fn live_at_end(function: &Function, results: u8, block: &Block, live: &[Location
             registers |= live[to].registers();
         }
     }
-    registers
+    if let Some(slot) = &block.slot {
+        let effects = effects_of(function.frame, slot);
+        registers = registers & !effects.writes | effects.reads;
+    }
+    registers | read_at_end(function, results, &block.end)
 }
 
 /// Lists, from the last call of a block on, the globals that are live behind a call.
@@ -125,8 +129,8 @@ fn load_of(register: u8, word: Option<u16>) -> Option<Instr> {
     }
 }
 
-/// Defines what a call has lost behind it: it is 0 there or, where the callee leaves it alone, what was kept of it in its
-/// word, if it has one.
+/// Defines what a call has lost behind it: it is 0 there or, where the callee leaves it alone, what was kept of it in
+/// its word, if it has one.
 fn define_behind(
     memory: &mut Heap,
     function: &mut Function,

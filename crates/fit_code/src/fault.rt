@@ -24,14 +24,9 @@ pub enum Naming {
     NotDefined,
     /// The address of a function as a number.
     AddressOfFunction,
-    /// Functions that call each other in a round.
-    Recursion,
     /// There is no function to begin at.
     NoEntry,
 }
-
-/// What is told of a call through a register.
-pub const CALL_THROUGH_POINTER: &str = "a call through a pointer: name the function, by a switch";
 
 /// What is told of a jump through a register that is no return.
 pub const JUMP_THROUGH_POINTER: &str = "a jump through a register: compile without tables of jumps";

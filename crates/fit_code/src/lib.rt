@@ -5,10 +5,12 @@
 mod code;
 mod fault;
 mod memory;
+mod operands;
 mod ways;
 
 pub use code::{Block, End, Function, NO_LINE, Object, Program, Region, SourceLine, Step};
-pub use fault::{CALL_THROUGH_POINTER, Fault, JUMP_THROUGH_POINTER, Naming, Reason};
+pub use fault::{Fault, JUMP_THROUGH_POINTER, Naming, Reason};
 pub use memory::Heap;
+pub use operands::{fields_of, with_operands, with_target};
 pub use sbx_parts::Range;
 pub use ways::{hull, opposite};

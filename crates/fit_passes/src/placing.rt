@@ -71,6 +71,16 @@ pub(crate) fn counts_down(blocks: &[Block], at: usize) -> bool {
     false
 }
 
+/// A block with another end, to which its steps go.
+fn moved_block(memory: &Heap, block: &mut Block, end: End) -> Block {
+    Block {
+        steps: mem::replace(&mut block.steps, Vec::new(memory.alloc)),
+        end,
+        slot: block.slot,
+        line: block.line,
+    }
+}
+
 /// Puts a block behind those that are placed, if it isn't one of them, and behind it what follows: the block that it
 /// goes on to, if that isn't placed. A branch whose next block stands elsewhere is turned, if it isn't a meter's;
 /// behind one both of whose blocks stand elsewhere comes a block that jumps to the next one.
@@ -103,12 +113,7 @@ fn follow(
                 jump = Some(next);
             }
         }
-        let moved = Block {
-            steps: mem::replace(&mut block.steps, Vec::new(memory.alloc)),
-            end,
-            slot: block.slot,
-            line,
-        };
+        let moved = moved_block(memory, block, end);
         memory.push(placed, moved);
         if let Some(next) = jump {
             push_block(memory, placed, &[], (End::Jump(next), None), line);

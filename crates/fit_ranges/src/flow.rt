@@ -5,7 +5,7 @@ mod known;
 use crate::flow::known::{BlockRanges, replace, touched_in};
 use fit_code::{End, Function, Heap, hull};
 use fit_graph::{
-    FunctionShape, Growth, Means, Thresholds, cells_of, enter, go_along, join, range_in,
+    FunctionShape, Growth, LocationSet, Means, Thresholds, cells_of, enter, go_along, join, range_in,
     return_from, run_step, run_to_call, successors_in,
 };
 use sbx_domain::State;
@@ -113,6 +113,17 @@ pub fn at<T>(lists: &[Vec<T>], place: usize) -> &[T] {
     }
 }
 
+/// What was live where the blocks of the function of a number begin, and the ways that led to them, where functions had
+/// these shapes; of no blocks where there is no such function.
+fn known_before(shapes: &[FunctionShape], number: usize) -> (&[LocationSet], &[Vec<usize>]) {
+    if number < shapes.len() {
+        let shape = &shapes[number];
+        (shape.live.as_slice(), shape.sources.as_slice())
+    } else {
+        (&[], &[])
+    }
+}
+
 impl FunctionRanges {
     /// Nothing is known, and of no function.
     pub fn nothing(alloc: Global) -> FunctionRanges {
@@ -151,16 +162,7 @@ impl FunctionRanges {
         changed: &[(usize, usize)],
     ) {
         let live = shape.live.as_slice();
-        let live_before = if number < before.len() {
-            before[number].live.as_slice()
-        } else {
-            &[]
-        };
-        let sources_before = if number < before.len() {
-            before[number].sources.as_slice()
-        } else {
-            &[]
-        };
+        let (live_before, sources_before) = known_before(before, number);
         self.pending.blocks = memory.repeat(false, live.len());
         for (function, block) in changed {
             if *function == number {

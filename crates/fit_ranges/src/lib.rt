@@ -7,7 +7,7 @@ mod origin;
 mod ranges;
 
 pub use origin::{
-    Origin, Trace, WordBounds, bounds_in_constants, bounds_of, end_of, operands_of, origin_of,
-    trace_of,
+    Origin, Trace, WordBounds, bounds_in_constants, bounds_of, end_of, object_at, operands_of,
+    origin_of, trace_of,
 };
 pub use ranges::Ranges;

@@ -3,11 +3,10 @@
 mod objects;
 mod trace;
 
-use crate::origin::objects::object_at;
 use crate::origin::trace::OperandRanges;
 use fit_code::{Block, Program, Step};
 use fit_graph::{Effects, effects_in};
-pub use objects::{WordBounds, bounds_in_constants, bounds_of, end_of};
+pub use objects::{WordBounds, bounds_in_constants, bounds_of, end_of, object_at};
 use sbx_range::{Range, is_single};
 pub use trace::{Trace, operands_of, trace_of};
 use v8_formats::{Instr, Operand};
@@ -202,6 +201,20 @@ fn is_zero(range: &Option<Range>) -> bool {
     }
 }
 
+/// The sum of the parts of a step's address, of whose operands this is known; nothing where it has none.
+fn parts_of<'p>(
+    setting: (&'p Program, bool),
+    frame: u32,
+    step: &Step,
+    operands: OperandRanges,
+) -> Option<AddressSum<'p>> {
+    let (first, second) = operands_of(frame, &step.instr)?;
+    let mut sum = AddressSum::nothing(setting, step.object);
+    sum.add(Operand::Register(first), 1, operands[0]);
+    sum.add(second, 1, operands[1]);
+    Some(sum)
+}
+
 /// What the address of the access at a place of a block is worked out from, as far back as one register stands for
 /// it. Nothing where it is worked out from several, or is a number. The setting says whether there may be words that
 /// are meant but for their high bits: it isn't worked out past a shift that pushes such bits out.
@@ -216,13 +229,7 @@ pub fn origin_of(
     if place >= steps.len() {
         return None;
     }
-    let Some((first, second)) = operands_of(frame, &steps[place].instr) else {
-        return None;
-    };
-    let operands = trace.at(place);
-    let mut sum = AddressSum::nothing(setting, steps[place].object);
-    sum.add(Operand::Register(first), 1, operands[0]);
-    sum.add(second, 1, operands[1]);
+    let mut sum = parts_of(setting, frame, &steps[place], trace.at(place))?;
     let mut found = sum.origin(place);
     let mut is_known = true;
     for earlier in (0..place).rev() {

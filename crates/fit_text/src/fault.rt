@@ -3,7 +3,7 @@ use fit_code::{Fault, Reason, SourceLine};
 use std::fmt::{self, Error, Formatter, Write};
 
 /// What stands before a name that is refused, and what behind it, of each `Naming` in their order.
-static NAMINGS: [(&str, &str); 11] = [
+static NAMINGS: [(&str, &str); 10] = [
     ("the name ", " can't be read"),
     ("the section ", " isn't known"),
     ("the directive ", " isn't known"),
@@ -16,7 +16,6 @@ static NAMINGS: [(&str, &str); 11] = [
         "the address of the function ",
         " is taken: name it, by a switch",
     ),
-    ("recursion: ", ""),
     ("there is no function ", ""),
 ];
 

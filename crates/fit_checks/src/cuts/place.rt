@@ -1,9 +1,9 @@
 //! What is in use between two steps of a block, and codes that are, set again behind.
 use crate::cuts::cut::push_instrs;
 use crate::cuts::words::{by_immediate, register};
-use fit_code::{Block, End, Heap, Step};
+use fit_code::{Block, End, Heap, SourceLine, Step, fields_of, with_operands, with_target};
 use fit_graph::effects_of;
-use v8_formats::{Cond, Instr, Operand, Three, bits_of, decode, encode, three_of};
+use v8_formats::{Cond, Instr, Operand, Three, bits_of, encode};
 
 /// The registers, each of which has a bit.
 const REGISTERS: u64 = 0xffff_ffff;
@@ -134,8 +134,8 @@ pub fn move_reader(frame: u32, block: &mut Block, place: usize, what: u64) -> bo
     true
 }
 
-/// Moves the WRY whose word is in use at a place to right before the first step from there on that reads Y, so that Y is
-/// free at the place; says whether it could: nothing between writes what WRY reads.
+/// Moves the WRY whose word is in use at a place to right before the first step from there on that reads Y, so that Y
+/// is free at the place; says whether it could: nothing between writes what WRY reads.
 pub fn move_writer(frame: u32, block: &mut Block, place: usize) -> bool {
     let steps = block.steps.as_slice();
     let Some(writer) = last_writer(frame, &steps[..place.min(steps.len())], Y) else {
@@ -169,11 +169,6 @@ pub fn move_writer(frame: u32, block: &mut Block, place: usize) -> bool {
     }
     true
 }
-
-/// The bits of a word in which its destination stands, and those of its operands.
-const DESTINATION: u32 = 0x3e00_0000;
-
-const OPERANDS: u32 = 0x0007_ffff;
 
 /// The globals that compilers leave alone, from the last choice on.
 const GLOBALS: [u8; 3] = [4, 3, 2];
@@ -236,8 +231,11 @@ pub fn spare_register(memory: &mut Heap, blocks: &[Block], number: usize) -> u8 
     }
     let mut named = live_behind_block(&blocks[number], live.as_slice());
     for step in blocks[number].steps.as_slice() {
-        let (reads, writes) = use_of(0, step);
-        named |= reads | writes;
+        // codes aren't in use over a call, which loses globals
+        if step.callee.is_none() {
+            let (reads, writes) = use_of(0, step);
+            named |= reads | writes;
+        }
     }
     let mut spare = 0;
     for global in GLOBALS {
@@ -248,9 +246,9 @@ pub fn spare_register(memory: &mut Heap, blocks: &[Block], number: usize) -> u8 
     spare
 }
 
-/// The word of an instruction that reads one register in the place of another one.
-fn reading(word: u32, other: u8, from: u32) -> u32 {
-    let Three { rd, rs1, operand2 } = three_of(word);
+/// An instruction that reads one register in the place of another one.
+fn reading(instr: &Instr, other: u8, from: u32) -> Instr {
+    let Three { rs1, operand2, .. } = fields_of(instr);
     let (mut first, mut second) = (rs1, operand2);
     if rs1.number() as u32 == from {
         first = register(other);
@@ -260,12 +258,7 @@ fn reading(word: u32, other: u8, from: u32) -> u32 {
     {
         second = Operand::Register(register(other));
     }
-    let changed = encode(&Instr::Add(Three {
-        rd,
-        rs1: first,
-        operand2: second,
-    }));
-    word & !OPERANDS | changed & OPERANDS
+    with_operands(instr, first, second)
 }
 
 /// Lets the step at a place of a block read another register, into which it is moved before, in the place of the one
@@ -273,8 +266,7 @@ fn reading(word: u32, other: u8, from: u32) -> u32 {
 fn keep_operand(memory: &mut Heap, block: &mut Block, place: usize, (spare, lost): (u8, u32)) {
     if place < block.steps.len() {
         let step = block.steps[place];
-        let instr = decode(reading(encode(&step.instr), spare, lost));
-        block.steps[place].instr = instr;
+        block.steps[place].instr = reading(&step.instr, spare, lost);
         let moved = Instr::Or(by_immediate(spare, (lost % 32) as u8, 0));
         let before = Step {
             instr: moved,
@@ -283,6 +275,27 @@ fn keep_operand(memory: &mut Heap, block: &mut Block, place: usize, (spare, lost
         };
         memory.is_refused |= block.steps.insert(place, before).is_err();
     }
+}
+
+/// The step that keeps the carry in a register, and the one that sets it again from there.
+fn steps_of_carry(spare: u8, line: SourceLine) -> [Step; 2] {
+    let kept = Step {
+        instr: Instr::Addx(by_immediate(spare, 0, 0)),
+        line,
+        callee: None,
+        object: None,
+        slot: None,
+    };
+    let compare = Instr::SubCc(Three {
+        rd: register(0),
+        rs1: register(0),
+        operand2: Operand::Register(register(spare)),
+    });
+    let set = Step {
+        instr: compare,
+        ..kept
+    };
+    [kept, set]
 }
 
 /// Keeps the carry of a block's codes in a spare register over a place, up to the first step from there on that reads
@@ -314,23 +327,8 @@ pub fn keep_carry(
     if (reads & CODES == 0) | !is_last || matches!(steps[reader].instr, Instr::MulsCc(_)) {
         return false;
     }
-    let (line, carry) = (steps[reader].line, register(spare));
-    let step = Step {
-        instr: Instr::SubCc(Three {
-            rd: register(0),
-            rs1: register(0),
-            operand2: Operand::Register(carry),
-        }),
-        line,
-        callee: None,
-        object: None,
-        slot: None,
-    };
-    let kept = Step {
-        instr: Instr::Addx(by_immediate(spare, 0, 0)),
-        ..step
-    };
-    memory.is_refused |= block.steps.insert(reader, step).is_err();
+    let [kept, set] = steps_of_carry(spare, steps[reader].line);
+    memory.is_refused |= block.steps.insert(reader, set).is_err();
     let behind = setter.place.saturating_add(1).min(block.steps.len());
     memory.is_refused |= block.steps.insert(behind, kept).is_err();
     true
@@ -361,7 +359,7 @@ pub fn set_codes_again(
             Cond::Equal | Cond::NotEqual | Cond::Negative | Cond::Positive
         );
         let again = if is_compare & (lost == 0) {
-            Some(decode(word & !DESTINATION))
+            Some(with_target(&setter.instr, register(0)))
         } else if is_kept & asks_signs {
             let number = result.trailing_zeros().min(31) as u8;
             Some(Instr::SubCc(by_immediate(0, number, 0)))

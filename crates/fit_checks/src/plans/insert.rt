@@ -5,7 +5,9 @@ use crate::cuts::{
 };
 use crate::plans::plan::{SUM, Test, TestWay};
 use fit_code::{Block, End, Heap, Step};
+use fit_graph::effects_of;
 use v8_formats::{Cond, Instr, Operand, Reg, Three, Two};
+use v8_meaning::{Operation, operation_of};
 
 /// The registers that tests work with.
 const NUMBER: u8 = 5;
@@ -90,36 +92,54 @@ fn is_sign_shift(operand: Operand) -> bool {
     }
 }
 
-/// What puts the sign of a word into Y again behind steps of a block, the last of which that writes Y puts it there
-/// from a register that was written since: it is worked out in a scratch register. Else why that can't be.
-fn sign_again(frame: u32, steps: &[Step], writer: &Writer) -> Result<[Step; 2], &'static str> {
-    let (put, kept) = (writer.instr, writer.written);
-    let Instr::WriteY(fields) = put else {
-        return Err(NO_UPPER_WORD);
-    };
-    // gcc names the register first, clang %g0
-    if writer.place >= steps.len() || !(is_zero(fields.operand2) | (fields.rs1 == Reg::G0)) {
-        return Err(NO_UPPER_WORD);
+/// Whether a step may write memory.
+fn writes_memory(step: &Step) -> bool {
+    match operation_of(&step.instr) {
+        Operation::Transfer(transfer, _) => transfer.writes_memory(),
+        _ => step.callee.is_some(),
     }
-    let Some(sign) = last_writer(frame, &steps[..writer.place], writer.reads) else {
-        return Err(NO_UPPER_WORD);
-    };
-    let (made, is_changed) = (
-        sign.instr,
-        (sign.written | sign.writes | kept) & sign.reads != 0,
-    );
-    let Instr::Sra(shift) = made else {
-        return Err(NO_UPPER_WORD);
-    };
-    if is_changed || !is_sign_shift(shift.operand2) {
-        return Err(NO_UPPER_WORD);
+}
+
+/// Whether what the step at a place loads is the same behind all steps: a word of the frame that none of them writes,
+/// or what lies in memory, if none of them writes that.
+fn loads_kept_word(frame: u32, steps: &[Step], place: usize) -> bool {
+    if place >= steps.len() {
+        return false;
     }
-    let step = steps[writer.place];
-    let again = Instr::Sra(Three {
-        rd: register(REST),
-        rs1: shift.rs1,
-        operand2: shift.operand2,
-    });
+    let word = effects_of(frame, &steps[place].instr).word_read;
+    let mut is_kept = true;
+    for at in place..steps.len() {
+        is_kept &= match word {
+            Some(_) => effects_of(frame, &steps[at].instr).word_written != word,
+            None => !writes_memory(&steps[at]),
+        };
+    }
+    is_kept
+}
+
+/// What leaves in a scratch register, behind steps of a block, what the one at a place has left in another one: a sign,
+/// or a word that is loaded and is the same yet. Nothing where it is something else.
+fn made_again(frame: u32, steps: &[Step], place: usize) -> Option<Instr> {
+    if place >= steps.len() {
+        return None;
+    }
+    match &steps[place].instr {
+        Instr::Sra(fields) if is_sign_shift(fields.operand2) => Some(Instr::Sra(Three {
+            rd: register(REST),
+            rs1: fields.rs1,
+            operand2: fields.operand2,
+        })),
+        Instr::Load(fields) if loads_kept_word(frame, steps, place) => Some(Instr::Load(Three {
+            rd: register(REST),
+            rs1: fields.rs1,
+            operand2: fields.operand2,
+        })),
+        _ => None,
+    }
+}
+
+/// Steps that leave a word in a scratch register by an instruction, and put it into Y, in the place of another one.
+fn steps_of_sign(again: Instr, step: Step) -> [Step; 2] {
     let write = Instr::WriteY(Two {
         rs1: register(REST),
         operand2: Operand::Immediate(0),
@@ -132,7 +152,31 @@ fn sign_again(frame: u32, steps: &[Step], writer: &Writer) -> Result<[Step; 2], 
         instr: write,
         ..step
     };
-    Ok([first, second])
+    [first, second]
+}
+
+/// What puts the sign of a word into Y again behind steps of a block, the last of which that writes Y puts it there
+/// from a register that was written since: it is worked out, or loaded, in a scratch register. Else why that can't be.
+fn sign_again(frame: u32, steps: &[Step], writer: &Writer) -> Result<[Step; 2], &'static str> {
+    let (put, kept) = (writer.instr, writer.written);
+    let Instr::WriteY(fields) = put else {
+        return Err(NO_UPPER_WORD);
+    };
+    // gcc names the register first, clang %g0
+    if writer.place >= steps.len() || !(is_zero(fields.operand2) | (fields.rs1 == Reg::G0)) {
+        return Err(NO_UPPER_WORD);
+    }
+    let Some(sign) = last_writer(frame, &steps[..writer.place], writer.reads) else {
+        return Err(NO_UPPER_WORD);
+    };
+    let is_changed = (sign.written | sign.writes | kept) & sign.reads != 0;
+    let Some(again) = made_again(frame, steps, sign.place) else {
+        return Err(NO_UPPER_WORD);
+    };
+    if is_changed {
+        return Err(NO_UPPER_WORD);
+    }
+    Ok(steps_of_sign(again, steps[writer.place]))
 }
 
 /// Takes the division at a place out of a block, and the WRY whose word it finds in Y: where nothing else reads that
@@ -167,10 +211,9 @@ pub fn take_division(
             let [sign, write] = sign_again(frame, &steps[..place], &writer)?;
             memory.copy(&[sign, write, division])
         };
-        let sets_codes = use_of(frame, &division).1 & CODES != 0;
         if is_shared {
             steps[place] = write;
-        } else if sets_codes & (asked & CODES != 0) {
+        } else if use_of(frame, &division).1 & asked & CODES != 0 {
             steps[place] = compare_of_result(&division, &end)?;
         } else {
             steps.remove(place);

@@ -87,7 +87,9 @@ const NO_BOUNDS: WordBounds = WordBounds {
 };
 
 /// How it is seen that a word of which this is known lies in bounds, where it has to be a multiple of 2 to a power that
-/// isn't known, if that is above 0. The numbers that the word is compared with have to be signed words.
+/// isn't known, if that is above 0. The numbers that the word is compared with have to be signed words. The first one
+/// is a multiple of whatever the word is known to be a multiple of: that stays known where it is subtracted and given
+/// back, so that no test takes from what another one has shown.
 fn way_in(range: Range, bounds: WordBounds, alignment: u8) -> TestWay {
     let WordBounds { lo, hi, object } = bounds;
     let (least, greatest) = (range.lo as i64, range.hi as i64);
@@ -97,19 +99,19 @@ fn way_in(range: Range, bounds: WordBounds, alignment: u8) -> TestWay {
     if (lo <= least) & (greatest <= hi) {
         return TestWay::Known;
     }
-    let is_from_0 = (lo == 0) | (lo < 0) & (least >= 0);
-    let first = if is_from_0 {
+    let first = if (lo < 0) & (least >= 0) {
         0
     } else {
         // such a multiple that isn't below, and of 8 where no object is known
         let power = if object.is_none() {
             3
         } else {
-            alignment.min(3)
+            alignment.max(range.alignment).min(3)
         };
         let low = (1i64 << power).saturating_sub(1);
         lo.saturating_add(low) & !low
     };
+    let is_from_0 = first == 0;
     match (
         i32::try_from(first),
         i32::try_from(hi.saturating_sub(first)),
@@ -130,7 +132,7 @@ fn plan_by(program: &Program, access: &UnshownAccess, origin: &Origin) -> TestPl
     let trailing = origin.times.trailing_zeros().min(3) as u8;
     let needed = needed_alignment(access.size).saturating_sub(trailing);
     let alignment = if known.alignment < needed { needed } else { 0 };
-    let bounds = bounds_of(program, origin, size);
+    let bounds = bounds_of(program, origin, size, access.writes);
     let way = way_in(known, bounds, alignment);
     let is_known = matches!(way, TestWay::Known);
     let mut constants = None;

@@ -1,6 +1,7 @@
 //! Where the words of an address's register have to lie.
 use crate::origin::Origin;
 use fit_code::{Object, Program, Region};
+use sbx_range::is_single;
 
 /// The numbers of a register with which an access lies where it has to: from `lo` to `hi`, both as signed words; none
 /// where `hi` is below `lo`.
@@ -23,8 +24,8 @@ pub fn end_of(object: &Object) -> i64 {
     i64::from(object.start).saturating_add(object.bytes.len().min(0x7fff_ffff) as i64)
 }
 
-/// The object that an address belongs to: the one in which it lies, or outside of which, but by whose name, instructions
-/// name it, as that behind its last byte. Nothing where that are two.
+/// The object that an address belongs to: the one in which it lies, or outside of which, but by whose name,
+/// instructions name it, as that behind its last byte. Nothing where that are two.
 pub fn object_at(program: &Program, address: i64) -> Option<usize> {
     let word = (address.cast_unsigned() & 0xffff_ffff) as u32;
     let mut found = None;
@@ -55,6 +56,38 @@ fn least_object(program: &Program, origin: &Origin) -> Option<usize> {
     let (objects, next) = (program.objects.as_slice(), number.saturating_add(1));
     let greatest = address_with(origin, range.hi);
     if next < objects.len() && i64::from(objects[next].start) <= greatest {
+        None
+    } else {
+        Some(number)
+    }
+}
+
+/// Whether an object lies among the constants.
+fn is_constant(program: &Program, number: usize) -> bool {
+    let objects = program.objects.as_slice();
+    let mut is_constant = false;
+    if number < objects.len() {
+        let address = objects[number].start;
+        for region in program.regions.as_slice() {
+            let is_in = address.wrapping_sub(region.start) < region.length;
+            is_constant |= region.readonly & is_in;
+        }
+    }
+    is_constant
+}
+
+/// The object that an access has to lie in, if one is known. A store by a pointer that is found among the constants is
+/// held to none of them: it ends the run, as any pointer's there does.
+fn object_of(program: &Program, origin: &Origin, writes: bool) -> Option<usize> {
+    if origin.object.is_some() {
+        return origin.object;
+    }
+    let number = least_object(program, origin)?;
+    let are_several = match origin.range {
+        Some(range) => !is_single(range),
+        None => true,
+    };
+    if writes & are_several && is_constant(program, number) {
         None
     } else {
         Some(number)
@@ -93,10 +126,10 @@ fn bounds_between(
     }
 }
 
-/// Where the word of an origin's register may lie for an access of so many bytes: that it lies in the object that its
-/// base names, else in the data that may be written.
-pub fn bounds_of(program: &Program, origin: &Origin, size: i64) -> WordBounds {
-    let named = origin.object.or(least_object(program, origin));
+/// Where the word of an origin's register may lie for an access of so many bytes, which writes or doesn't: that it lies
+/// in the object that its base names, else in the data that may be written.
+pub fn bounds_of(program: &Program, origin: &Origin, size: i64, writes: bool) -> WordBounds {
+    let named = object_of(program, origin, writes);
     let objects = program.objects.as_slice();
     let addresses = match named {
         Some(number) if number < objects.len() => {
