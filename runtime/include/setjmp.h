@@ -1,20 +1,22 @@
-/* The types and the names alone, for sources that need them to be compiled: a call of setjmp or longjmp is refused by
-   the compiler. A function returns to where it was called from, and nowhere else. */
+/* longjmp cuts the stack back to the function that called setjmp, and returns from that call again. Once that function
+   has returned, nothing is defined. */
 #ifndef GEYSERPAN_SETJMP_H
 #define GEYSERPAN_SETJMP_H
-
-#include <stdio.h>
 
 #ifdef __cplusplus
 extern "C" {
 #endif
 
-typedef int jmp_buf[4];
+typedef int jmp_buf[16];
+typedef jmp_buf sigjmp_buf;
 
-#define __NO_JUMP __REFUSED("no jump out of a function is here: return a status, and test it")
-int setjmp(jmp_buf) __NO_JUMP;
-void longjmp(jmp_buf, int) __NO_JUMP;
-#undef __NO_JUMP
+int setjmp(jmp_buf) __attribute__((returns_twice));
+void longjmp(jmp_buf, int) __attribute__((noreturn));
+#define setjmp(buffer) setjmp(buffer)
+#define _setjmp(buffer) setjmp(buffer)
+#define _longjmp(buffer, value) longjmp(buffer, value)
+#define sigsetjmp(buffer, mask) setjmp(buffer)
+#define siglongjmp(buffer, value) longjmp(buffer, value)
 
 #ifdef __cplusplus
 }

@@ -2,12 +2,6 @@
 
 # A source, and what is told of it; the status is 2.
 REFUSED = {
-    "room.c": ("int main(void) {\n    int n = 3;\n    volatile int m = n;\n    char room[m];\n    room[0] = 1;\n"
-               "    return room[m - 1];\n}\n",
-               "refused: main: an array of a size that isn't constant: write the greatest size that there may be"),
-    "jump.c": ("#include <setjmp.h>\nstatic jmp_buf to;\nint main(void) { return setjmp(to); }\n",
-               "jump.c:3:25: error: call to ‘setjmp’ declared with attribute error: no jump out of a function is "
-               "here: return a status, and test it"),
     "hours.c": ("#include <time.h>\nint main(void) { return 0; }\n",
                 "hours.c:1:\n<time.h> is not here: a program of a sandbox has no clock; pass what it needs in its "
                 "input"),

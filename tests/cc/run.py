@@ -96,10 +96,10 @@ def try_page(author):
     author.called(0, "accepted", author.at("lower.c"), "-o", author.at("short.img"), "--turns", "20000")
     length = len(run([SANDBOX, "run", author.at("short.img")], b"y\n" * 2500).out)
     author.tally.check("--turns 20000", length < 2000, f"wanted fewer than 2000 bytes, came {length}")
-    author.called(2, "room.c:5: refused: main: an array of a size that isn't constant", author.at("room.c"), "-o",
-                  author.at("room.img"))
+    author.called(2, "sum.c:3: refused: checksum isn't defined", author.at("sum.c"), "-o", author.at("sum.img"))
+    author.puts(author.makes("accepted", "sums.c"), b"6\na ) is missing\na number is missing\n", b"1+(2+3)\n(1+2\n4+\n")
     author.called(2, "ask for more", author.at("lower.c"), "-o", author.at("few.img"), "--turns", "1")
-    author.has_none("strict.img", "room.img", "few.img")
+    author.has_none("strict.img", "sum.img", "few.img")
 
 
 def try_sources(author):

@@ -62,6 +62,6 @@ class Runtime:
         return self.all([*glob.glob(f"{TOP}/runtime/libc/*.c"), *plus], *words)
 
     def helpers(self):
-        """What a compiler calls of itself: arithmetic of 64 bits and of floating point."""
+        """What a compiler calls of itself: arithmetic of 64 bits and of floating point; and what no C can say."""
         sources = [*glob.glob(f"{TOP}/runtime/soft/*.c"), f"{TOP}/runtime/integer.c", f"{TOP}/runtime/plug.c"]
-        return self.all(sources, ".s", "-S")
+        return [*self.all(sources, ".s", "-S"), f"{TOP}/runtime/jumps.s"]

@@ -14,7 +14,7 @@ NOTE = re.compile(r"([^:\n]+):(\d+): note: (.*)")
 REFUSED = re.compile(r"(?:([^:\n]+):(?:(\d+):)? )?refused: (.*)", re.S)
 # What to write in the place of what is refused, where the refusal doesn't say it.
 ADVICE = (
-    (r"an array of a size that isn't constant", "write the greatest size that there may be"),
+    (r"an array of a size that isn't constant", "write the greatest size that there may be, or smaller functions"),
     (r"the address of its frame in a form", "write an array of a constant size"),
     (r"bytes of data", "write smaller tables, or ask for less by --arena and --stack"),
     (r"the blocks of [a-z ]+ would be", "compile by -Os, or write __attribute__((noinline)) before functions"),

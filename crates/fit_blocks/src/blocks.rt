@@ -170,8 +170,8 @@ impl Builder<'_, '_> {
         }
     }
 
-    /// Pushes what leaves the pointer of the call at a place in the register for that. It is a fault where the call's slot
-    /// changes the pointer.
+    /// Pushes what leaves the pointer of the call at a place in the register for that. It is a fault where the call's
+    /// slot changes the pointer.
     fn pass_pointer(&mut self, place: usize) {
         let points = self.points;
         if place < points.len() {

@@ -23,7 +23,11 @@ fn number_of(register: Reg, state: &State) -> Option<i32> {
         0 => Some(0),
         number => {
             let range = state.range(u16::from(number))?;
-            if is_single(range) { Some(range.lo) } else { None }
+            if is_single(range) {
+                Some(range.lo)
+            } else {
+                None
+            }
         }
     }
 }

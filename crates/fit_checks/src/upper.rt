@@ -168,11 +168,7 @@ fn write_again(
 
 /// Lets each block of a program that reads Y write it before, where that may be, and adds the blocks that are others
 /// then to `changed`.
-pub fn write_upper(
-    memory: &mut Heap,
-    program: &mut Program,
-    changed: &mut Vec<(usize, usize)>,
-) {
+pub fn write_upper(memory: &mut Heap, program: &mut Program, changed: &mut Vec<(usize, usize)>) {
     let functions = program.functions.as_mut_slice();
     for number in 0..functions.len() {
         let function = &mut functions[number];

@@ -33,8 +33,8 @@ fn escaped(text: &[u8]) -> (u8, usize) {
     }
 }
 
-/// Appends the bytes of strings that stand one behind the other, each in its quotes. False where one has none, and where
-/// `\x` is in it, which isn't read, or a backslash that ends it.
+/// Appends the bytes of strings that stand one behind the other, each in its quotes. False where one has none, and
+/// where `\x` is in it, which isn't read, or a backslash that ends it.
 pub fn push_strings(memory: &mut Heap, text: &[u8], out: &mut Vec<u8>) -> bool {
     let mut rest = text;
     let mut is_open = false;

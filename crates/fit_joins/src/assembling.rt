@@ -28,6 +28,8 @@ pub struct Placed {
     pub first: usize,
     pub entry: usize,
     pub back: usize,
+    /// The number of the block where the run ends because the soft stack is full, if it has one.
+    pub full: usize,
     /// Where the number of its return stands in what is kept.
     pub number_at: u32,
     /// How often it is called.
@@ -92,37 +94,55 @@ fn place_all(
     let (mut first, mut address) = (0usize, start);
     let mut all = Vec::new(memory.alloc);
     for (number, function) in functions.iter().enumerate() {
-        let mut placed = Placed {
-            framed: function.framed,
-            line: line_of(function),
-            first,
-            entry: first,
-            back: 0,
-            number_at: RETURN,
-            calls: 0,
-            keep: Keep::Record { object, address },
-        };
+        let keep = Keep::Record { object, address };
+        let mut placed = place_at(function, first, keep);
         if number < parts.len() && number < calls.len() && parts[number].is_joined {
-            let (is_soft, is_caller) = (parts[number].is_soft, parts[number].is_caller);
             placed.calls = calls[number];
-            placed.keep = keep_of(is_soft, pointer, (object, address));
+            placed.keep = keep_of(parts[number].is_soft, pointer, (object, address));
+            extra = place_ways(&mut placed, &parts[number], number == 0, extra);
             first = first.saturating_add(function.blocks.len());
-            if is_caller {
-                placed.number_at = CALLER_RETURN;
-            }
-            if is_soft & !is_caller & (number > 0) {
-                placed.entry = extra;
-                extra = extra.saturating_add(2);
-            }
-            if number > 0 {
-                placed.back = extra;
-                extra = extra.saturating_add(1);
-            }
             address = address.saturating_add(RECORD as u32);
         }
         memory.push(&mut all, placed);
     }
     all
+}
+
+/// Where a function stands that is called from no place so far.
+fn place_at(function: &Function, first: usize, keep: Keep) -> Placed {
+    Placed {
+        framed: function.framed,
+        line: line_of(function),
+        first,
+        entry: first,
+        back: 0,
+        full: 0,
+        number_at: RETURN,
+        calls: 0,
+        keep,
+    }
+}
+
+/// Says where the blocks stand by which control comes into a function and goes back from it, from a number on; gives
+/// the next number.
+fn place_ways(placed: &mut Placed, part: &Part, is_first: bool, from: usize) -> usize {
+    let mut next = from;
+    if part.is_caller {
+        placed.number_at = CALLER_RETURN;
+    }
+    if part.is_soft & !part.is_caller & !is_first {
+        placed.entry = next;
+        placed.full = next.saturating_add(1);
+        next = next.saturating_add(2);
+    } else if part.is_moving {
+        placed.full = next;
+        next = next.saturating_add(1);
+    }
+    if !is_first {
+        placed.back = next;
+        next = next.saturating_add(1);
+    }
+    next
 }
 
 /// Adds the objects that joined functions work with: what they keep, so many, and the soft stack, with room behind it
@@ -229,14 +249,63 @@ fn vec_of_lists(memory: &mut Heap, count: usize) -> Vec<Vec<usize>> {
     lists
 }
 
-/// Splits the blocks of the functions that are joined at their calls; `symbols` has the functions' names.
-fn split_all(stops: &mut Stops, functions: &mut [Function], parts: &[Part], symbols: &[usize]) {
+/// Splits the blocks of the functions that are joined at their calls, and where they move what points into the soft
+/// stack; `symbols` has the functions' names.
+fn split_all(
+    stops: &mut Stops,
+    functions: &mut [Function],
+    parts: &[Part],
+    symbols: &[usize],
+    pointer: u8,
+) {
     for (number, function) in functions.iter_mut().enumerate() {
         if number < parts.len() && number < symbols.len() && parts[number].is_joined {
             stops.symbol = symbols[number];
-            split_at_calls(stops, function, parts);
+            split_at_calls(stops, function, parts, register(pointer));
         }
     }
+}
+
+/// The register that points into a soft stack, 0 where there is none; and the bytes of the first function's frame.
+fn pointer_and_frame(stack: &Option<SoftStack>) -> (u8, u32) {
+    match stack {
+        Some(stack) if stack.is_kept => (stack.register.number(), SAVE_AREA),
+        Some(stack) => (stack.register.number(), SAVE_AREA + 8),
+        None => (0, SAVE_AREA),
+    }
+}
+
+/// The blocks of the functions of a program that are joined, where they stand so; `symbols` has the functions' names.
+fn joined_blocks(
+    stops: &mut Stops,
+    program: &mut Program,
+    (parts, placed): (&[Part], &[Placed]),
+    stack: Option<StackPlace>,
+    symbols: &[usize],
+) -> Vec<Block> {
+    let (shapes, counts) = live_in(&mut stops.memory, program);
+    let sites = vec_of_lists(&mut stops.memory, parts.len());
+    let mut joiner = Joiner {
+        memory: stops.memory,
+        parts,
+        counts: counts.as_slice(),
+        placed,
+        stack,
+        number: 0,
+        fault: None,
+        blocks: Vec::new(stops.memory.alloc),
+        sites,
+    };
+    joiner.join_all(program.functions.as_mut_slice(), shapes.as_slice());
+    joiner.push_all();
+    joiner.end_all();
+    stops.memory = joiner.memory;
+    let blocks = joiner.blocks;
+    if let Some((number, line, what)) = joiner.fault {
+        stops.symbol = symbols.get(number).copied().unwrap_or(0);
+        stops.form(line, what);
+    }
+    blocks
 }
 
 /// Joins the functions of a program that are to be joined to the first one, which has a window and is one of them.
@@ -250,48 +319,25 @@ pub fn join(
     stack: &Option<SoftStack>,
 ) -> Vec<Function> {
     let alloc = layout.stops.memory.alloc;
-    split_all(&mut layout.stops, functions.as_mut_slice(), parts, symbols);
-    let (pointer, frame) = match stack {
-        Some(stack) if stack.is_kept => (stack.register.number(), SAVE_AREA),
-        Some(stack) => (stack.register.number(), SAVE_AREA + 8),
-        None => (0, SAVE_AREA),
-    };
+    let (pointer, frame) = pointer_and_frame(stack);
+    let stops = &mut layout.stops;
+    split_all(stops, functions.as_mut_slice(), parts, symbols, pointer);
     let (record, stack) = add_objects(layout, parts, stack);
-    let mut memory = layout.stops.memory;
-    let placed = place_all(&mut memory, functions.as_slice(), parts, record, pointer);
+    let stops = &mut layout.stops;
+    let placed = place_all(
+        &mut stops.memory,
+        functions.as_slice(),
+        parts,
+        record,
+        pointer,
+    );
     let mut program = Program {
         functions,
         objects: Vec::new(alloc),
         regions: Vec::new(alloc),
         files: Vec::new(alloc),
     };
-    let (shapes, counts) = live_in(&mut memory, &program);
-    let sites = vec_of_lists(&mut memory, parts.len());
-    let mut joiner = Joiner {
-        memory,
-        parts,
-        counts: counts.as_slice(),
-        placed: placed.as_slice(),
-        stack,
-        number: 0,
-        fault: None,
-        blocks: Vec::new(alloc),
-        sites,
-    };
-    joiner.join_all(program.functions.as_mut_slice(), shapes.as_slice());
-    joiner.push_all();
-    joiner.end_all();
-    layout.stops.memory = joiner.memory;
-    let blocks = joiner.blocks;
-    if let Some((number, line, what)) = joiner.fault {
-        layout.stops.symbol = symbols.get(number).copied().unwrap_or(0);
-        layout.stops.form(line, what);
-    }
-    assembled(
-        &mut layout.stops.memory,
-        program.functions,
-        parts,
-        blocks,
-        frame,
-    )
+    let all = (parts, placed.as_slice());
+    let blocks = joined_blocks(stops, &mut program, all, stack, symbols);
+    assembled(&mut stops.memory, program.functions, parts, blocks, frame)
 }

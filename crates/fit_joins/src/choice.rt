@@ -1,5 +1,5 @@
 //! Which functions become parts of the first one.
-use crate::places::Part;
+use crate::places::{Part, WayBack};
 use fit_code::{Block, Function, Heap, Program};
 use fit_fuel::bounds_of;
 use fit_graph::{Graph, successors_in};
@@ -148,8 +148,9 @@ fn count_joined(parts: &[Part]) -> usize {
 }
 
 /// Chooses which functions of a program are to be parts of the first one: those whose frames lie on the soft stack,
-/// those with loops that a counter doesn't bound, or with any loops where none is to go without the meter, and all that
-/// call one of these. `callees` has for each function those that it calls, each of which stands behind it but in a round.
+/// those that keep a way back or go by one, those with loops that a counter doesn't bound, or with any loops where none
+/// is to go without the meter, and all that call one of these. `callees` has for each function those that it calls,
+/// each of which stands behind it but in a round.
 pub fn choose(
     memory: &mut Heap,
     program: &mut Program,
@@ -158,7 +159,7 @@ pub fn choose(
     state: &mut State,
 ) {
     for part in parts.iter_mut() {
-        part.is_joined = part.is_soft;
+        part.is_joined = part.is_soft || !matches!(part.way_back, WayBack::Own);
     }
     join_callers(parts, callees);
     // what a function that is joined gives the others isn't known, so that one may lose its bounds then

@@ -1,14 +1,18 @@
 //! Joining functions to the first one.
 use crate::assembling::Placed;
 use crate::keeping::{BASE, KEPT, Keep, NUMBER, push_number, push_step};
-use crate::places::Part;
-use crate::returning::{StackPlace, push_entry, push_giving, push_halves, push_open};
+use crate::moving::{moves, push_moved, push_way, way_moved};
+use crate::places::{Part, WayBack};
+use crate::returning::{
+    StackPlace, push_entry, push_full, push_giving, push_halves, push_open, push_within,
+};
 use crate::splitting::joined_callee;
+use fit_blocks::bit_of;
 use fit_checks::register;
 use fit_code::{Block, End, Function, Heap, SourceLine, Step};
 use fit_graph::{Effects, FunctionShape, RegisterCounts, effects_in};
-use std::mem;
-use v8_formats::{Instr, Operand, Reg, Three};
+use std::{mem, slice};
+use v8_formats::{Cond, Instr, Operand, Reg, Three};
 
 /// Where the word of the first function's frame stands that keeps what points into the soft stack over a CALL.
 const FIRST_WORD: u32 = 64;
@@ -30,6 +34,20 @@ const UNWRITTEN: u32 = 0x00ff_3f1e;
 
 /// Locals and ins.
 const WINDOW: u32 = 0xffff_0000;
+
+/// The outs in which what keeps a way back is told where, and in which that is told behind it.
+const KEPT_AT: u8 = 8;
+
+const CAME_BY: u8 = 9;
+
+/// How the steps of a block end.
+#[derive(Clone, Copy)]
+enum LastStep {
+    /// By a call of a function that is joined, at a line.
+    Called(usize, SourceLine),
+    /// By a move of the soft stack's pointer.
+    Moved,
+}
 
 /// Functions that are joined, as far as that is done.
 #[derive(Drop)]
@@ -79,6 +97,11 @@ fn moved(end: End, by: usize) -> End {
     }
 }
 
+/// Pushes a step as it is.
+fn push_same(memory: &mut Heap, steps: &mut Vec<Step>, step: &Step) {
+    memory.take(steps.extend_from_slice(slice::from_ref(step)));
+}
+
 impl Joiner<'_> {
     /// Notes what can't be joined.
     fn note(&mut self, line: SourceLine, what: &'static str) {
@@ -99,8 +122,8 @@ impl Joiner<'_> {
         }
     }
 
-    /// Pushes what stands before a function's first step: what it may ask for though nothing was written to it is cleared,
-    /// and the first one sets what points into the soft stack.
+    /// Pushes what stands before a function's first step: what it may ask for though nothing was written to it is
+    /// cleared, and the first one sets what points into the soft stack.
     fn push_first(&mut self, steps: &mut Vec<Step>, number: usize, live: u32, line: SourceLine) {
         if number >= self.parts.len() || number >= self.placed.len() {
             return;
@@ -154,6 +177,37 @@ impl Joiner<'_> {
         }
     }
 
+    /// Where a function keeps words over a call of one that is joined: what keeps its way back is told in an out where,
+    /// and says it in another one behind.
+    fn keep_over(&self, caller: usize, callee: usize, told: u8) -> Keep {
+        let is_kept = match self.parts.get(callee) {
+            Some(part) => matches!(part.way_back, WayBack::Kept),
+            None => false,
+        };
+        match self.placed.get(caller) {
+            Some(placed) if !is_kept => placed.keep,
+            _ => Keep::Soft(register(told)),
+        }
+    }
+
+    /// Where the function stands that keeps its way back, if there is one.
+    fn kept_way(&self) -> Option<Placed> {
+        for (number, part) in self.parts.iter().enumerate() {
+            if matches!(part.way_back, WayBack::Kept) {
+                return self.placed.get(number).copied();
+            }
+        }
+        None
+    }
+
+    /// Whether a function goes back by a way that was kept.
+    fn goes_by_kept(&self, number: usize) -> bool {
+        match self.parts.get(number) {
+            Some(part) => matches!(part.way_back, WayBack::Replaced),
+            None => false,
+        }
+    }
+
     /// Pushes a call of a function that is joined, over which some registers are kept.
     fn push_call(
         &mut self,
@@ -174,7 +228,7 @@ impl Joiner<'_> {
             framed,
             ..
         } = placed[callee];
-        let own = placed[caller].keep;
+        let own = self.keep_over(caller, callee, KEPT_AT);
         let memory = &mut self.memory;
         own.push_moves(memory, steps, (true, kept), line);
         if calls > 1 && callee < self.sites.len() {
@@ -195,8 +249,8 @@ impl Joiner<'_> {
         }
     }
 
-    /// Pushes what a return does with a function's results: its ins, or what RESTORE with these fields gives, become its
-    /// caller's outs.
+    /// Pushes what a return does with a function's results: its ins, or what RESTORE with these fields gives, become
+    /// its caller's outs.
     fn push_results(
         &mut self,
         steps: &mut Vec<Step>,
@@ -238,6 +292,10 @@ impl Joiner<'_> {
                 }
                 End::Jump(back)
             }
+            End::Exit if self.goes_by_kept(number) => match self.kept_way() {
+                Some(kept) => End::Jump(kept.back),
+                None => End::Exit,
+            },
             other => moved(other, first),
         }
     }
@@ -284,14 +342,26 @@ impl Joiner<'_> {
     }
 
     /// Lets the block behind a call begin with what its function kept over that, of the registers that are live there.
-    fn come_back(&mut self, block: &mut Block, caller: usize, live: u32, line: SourceLine) {
-        if caller >= self.placed.len() {
+    fn come_back(
+        &mut self,
+        block: &mut Block,
+        (caller, callee): (usize, usize),
+        live: u32,
+        line: SourceLine,
+    ) {
+        if caller >= self.parts.len() {
             return;
         }
-        let keep = self.placed[caller].keep;
+        let keep = self.keep_over(caller, callee, CAME_BY);
+        let base = self.parts[caller].base;
         let memory = &mut self.memory;
         let mut front = Vec::new(memory.alloc);
         keep.push_moves(memory, &mut front, (false, live & KEPT), line);
+        if let Some(place) = &self.stack
+            && live & bit_of(base) != 0
+        {
+            push_within(memory, &mut front, place, base, line);
+        }
         push_clears(memory, &mut front, live & OUTS, line);
         memory.take(front.append(&mut block.steps));
         block.steps = front;
@@ -317,6 +387,92 @@ impl Joiner<'_> {
         behind
     }
 
+    /// Pushes a step, behind which some registers are live; tells it where it ends its block.
+    fn join_step(&mut self, steps: &mut Vec<Step>, step: &Step, live: u32) -> Option<LastStep> {
+        if let Some(callee) = joined_callee(self.parts, step) {
+            return Some(LastStep::Called(callee, step.line));
+        }
+        if self.push_pointer_moved(steps, step) {
+            return Some(LastStep::Moved);
+        }
+        if !self.push_way_moved(steps, step) {
+            self.push_kept(steps, step, live);
+        }
+        None
+    }
+
+    /// Pushes what stands for a step that moves the soft stack's pointer; says whether it does.
+    fn push_pointer_moved(&mut self, steps: &mut Vec<Step>, step: &Step) -> bool {
+        match &self.stack {
+            Some(place) if moves(step, place.stack.register) => {
+                push_moved(&mut self.memory, steps, step, place);
+                true
+            }
+            _ => false,
+        }
+    }
+
+    /// Pushes what stands for a step that moves a way back; says whether it does.
+    fn push_way_moved(&mut self, steps: &mut Vec<Step>, step: &Step) -> bool {
+        let moved = way_moved(step);
+        let Some(moved) = moved else {
+            return false;
+        };
+        let line = step.line;
+        if let Some(at) = self.way_kept_at() {
+            push_way(&mut self.memory, steps, at, moved, line);
+        }
+        true
+    }
+
+    /// Where the number of the way back stands that is kept.
+    fn way_kept_at(&self) -> Option<(Keep, u32)> {
+        match self.kept_way() {
+            Some(kept) => Some((kept.keep, kept.number_at)),
+            None => None,
+        }
+    }
+
+    /// Pushes a step that stays as it is: with what is to be kept where it is a call, behind which some registers are
+    /// live.
+    fn push_kept(&mut self, steps: &mut Vec<Step>, step: &Step, live: u32) {
+        if step.callee.is_none() {
+            push_same(&mut self.memory, steps, step);
+            return;
+        }
+        self.push_pointer(steps, true, step.line);
+        push_same(&mut self.memory, steps, step);
+        self.push_behind(steps, live, step.line);
+    }
+
+    /// The end of a block of a function by its last step, behind which it goes on to another one of its blocks.
+    fn leave(
+        &mut self,
+        steps: &mut Vec<Step>,
+        blocks: &mut [Block],
+        (number, behind): (usize, usize),
+        last: &LastStep,
+        shape: &FunctionShape,
+    ) -> End {
+        match *last {
+            LastStep::Called(callee, line) => {
+                let live = self.live_at(shape, behind);
+                if behind < blocks.len() {
+                    self.come_back(&mut blocks[behind], (number, callee), live, line);
+                }
+                self.call_from(steps, (number, callee, behind), live, line)
+            }
+            LastStep::Moved => match self.placed.get(number) {
+                Some(placed) => End::Branch {
+                    cond: Cond::GreaterUnsigned,
+                    taken: placed.full,
+                    next: placed.first.saturating_add(behind),
+                },
+                None => End::Exit,
+            },
+        }
+    }
+
     /// Joins a block of a function of this shape.
     fn join_block(
         &mut self,
@@ -335,30 +491,14 @@ impl Joiner<'_> {
             let live = self.live_at(shape, 0);
             self.push_first(&mut steps, number, live, line);
         }
-        let mut called = None;
+        let mut last = None;
         for step in old.as_slice() {
             let live = behind.pop().unwrap_or(0);
-            match joined_callee(self.parts, step) {
-                Some(callee) => called = Some((callee, step.line)),
-                None => {
-                    let (line, is_call) = (step.line, step.callee.is_some());
-                    if is_call {
-                        self.push_pointer(&mut steps, true, line);
-                    }
-                    self.memory.push(&mut steps, *step);
-                    if is_call {
-                        self.push_behind(&mut steps, live, line);
-                    }
-                }
-            }
+            last = self.join_step(&mut steps, step, live);
         }
-        let end = match (called, end) {
-            (Some((callee, at)), End::Jump(behind)) => {
-                let live = self.live_at(shape, behind);
-                if behind < blocks.len() {
-                    self.come_back(&mut blocks[behind], number, live, at);
-                }
-                self.call_from(&mut steps, (number, callee, behind), live, at)
+        let end = match (last, end) {
+            (Some(last), End::Jump(behind)) => {
+                self.leave(&mut steps, blocks, (number, behind), &last, shape)
             }
             _ => self.end_of(&mut steps, number, end, line),
         };
@@ -403,7 +543,7 @@ impl Joiner<'_> {
     pub fn push_all(&mut self) {
         let parts = self.parts;
         for (number, part) in parts.iter().enumerate() {
-            if part.is_joined & (number > 0) {
+            if part.is_joined {
                 self.push_ways(number, part);
             }
         }
@@ -425,11 +565,18 @@ impl Joiner<'_> {
         let (memory, blocks) = (&mut self.memory, &mut self.blocks);
         let mut steps = Vec::new(memory.alloc);
         if part.is_soft
-            && !part.is_caller
+            && !part.is_caller & (number > 0)
             && let Some(place) = &self.stack
         {
             push_entry(memory, blocks, place, (part.frame, first), line);
-            push_giving(memory, &mut steps, place, part.frame, line);
+            if part.base == Reg::G0 {
+                push_giving(memory, &mut steps, place, part.frame, line);
+            }
+        } else if part.is_moving {
+            push_full(memory, blocks, line);
+        }
+        if number == 0 {
+            return;
         }
         if calls > 1 {
             keep.push_base(memory, &mut steps, line);
@@ -442,6 +589,9 @@ impl Joiner<'_> {
     /// Lets a function go back to the places that it was called from.
     fn end_back(&mut self, number: usize) {
         if number >= self.placed.len() || number >= self.sites.len() {
+            return;
+        }
+        if self.goes_by_kept(number) {
             return;
         }
         let Placed { back, line, .. } = self.placed[number];

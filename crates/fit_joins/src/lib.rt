@@ -1,11 +1,12 @@
-//! Functions that call each other in a round, and those whose loops take from the meter, as parts of the first function:
-//! a call between them is no CALL, but a jump, behind which the return finds its way back by a number.
+//! Functions that call each other in a round, and those whose loops take from the meter, as parts of the first
+//! function: a call between them is no CALL, but a jump, behind which the return finds its way back by a number.
 #![tactic(auto)]
 
 mod assembling;
 mod choice;
 mod joining;
 mod keeping;
+mod moving;
 mod places;
 mod pointing;
 mod returning;
@@ -14,6 +15,6 @@ mod splitting;
 
 pub use assembling::join;
 pub use choice::choose;
-pub use places::{Part, SoftStack, stack_register};
+pub use places::{Part, SoftStack, WayBack, stack_register};
 pub use pointing::caller_of;
 pub use rounds::{callees_of, in_rounds};

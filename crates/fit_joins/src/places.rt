@@ -5,6 +5,17 @@ use fit_code::{End, Function};
 use fit_graph::{Effects, effects_in, effects_of};
 use v8_formats::{Instr, Reg};
 
+/// What a function does with the way back to its caller.
+#[derive(Clone, Copy, PartialEq, Eq)]
+pub enum WayBack {
+    /// It returns by it.
+    Own,
+    /// It moves it from %o7 to another register, too, as `setjmp` does.
+    Kept,
+    /// It moves another one to %o7, and goes back by that, as `longjmp` does: the run's end stands for that.
+    Replaced,
+}
+
 /// How a function of the program is put into the image.
 #[derive(Clone, Copy)]
 pub struct Part {
@@ -16,6 +27,11 @@ pub struct Part {
     pub is_caller: bool,
     /// The bytes of its frame there, a multiple of 8.
     pub frame: u32,
+    /// Whether it moves what points into the soft stack, but to take its frame and give it back; and the register that
+    /// holds where its frame lies then, if one does, else %g0.
+    pub is_moving: bool,
+    pub base: Reg,
+    pub way_back: WayBack,
 }
 
 /// A stack in the data, for frames of functions that may be called again before they return.

@@ -100,8 +100,9 @@ fn parting(
 }
 
 /// What calls functions through pointers, those whose addresses are taken, by their numbers in the source: a function
-/// without a window that is given a pointer in a register of its own, and the line of the call in the base register. It looks for the
-/// function by halves, calls it with what stands in the outs, and returns; where it finds none the run ends.
+/// without a window that is given a pointer in a register of its own, and the line of the call in the base register. It
+/// looks for the function by halves, calls it with what stands in the outs, and returns; where it finds none the run
+/// ends.
 pub fn caller_of(memory: &mut Heap, taken: &[usize]) -> Function {
     let mut blocks = Vec::new(memory.alloc);
     let mut open = Vec::new(memory.alloc);

@@ -25,7 +25,7 @@ impl StackPlace {
     }
 
     /// How far the register may be from the start.
-    fn mask(&self) -> u32 {
+    pub fn mask(&self) -> u32 {
         self.stack.bytes.saturating_sub(8)
     }
 }
@@ -90,9 +90,7 @@ pub fn push_entry(
         line,
     };
     memory.push(blocks, entry);
-    let word = FULL | line.number.min(0xffff);
-    let instrs = number_in(8, word.cast_signed());
-    push_block(memory, blocks, &instrs, (End::Exit, None), line);
+    push_full(memory, blocks, line);
 }
 
 /// Pushes what gives back a frame of so many bytes, and makes it seen that the register points into the soft stack.
@@ -105,6 +103,17 @@ pub fn push_giving(
 ) {
     let pointer = place.stack.register;
     push_moving(memory, steps, (false, pointer, frame), line);
+    push_within(memory, steps, place, pointer, line);
+}
+
+/// Pushes what makes it seen that a register points into the soft stack, as it does.
+pub fn push_within(
+    memory: &mut Heap,
+    steps: &mut Vec<Step>,
+    place: &StackPlace,
+    pointer: Reg,
+    line: SourceLine,
+) {
     push_number(memory, steps, NUMBER, place.mask(), line);
     let masked = Instr::And(Three {
         rd: pointer,
@@ -115,6 +124,13 @@ pub fn push_giving(
     push_number(memory, steps, NUMBER, place.start, line);
     let whole = moving(false, pointer, Operand::Register(register(NUMBER)));
     push_step(memory, steps, whole, None, line);
+}
+
+/// Pushes the block where a run ends because the soft stack is full.
+pub fn push_full(memory: &mut Heap, blocks: &mut Vec<Block>, line: SourceLine) {
+    let word = FULL | line.number.min(0xffff);
+    let instrs = number_in(8, word.cast_signed());
+    push_block(memory, blocks, &instrs, (End::Exit, None), line);
 }
 
 /// Where control goes by the numbers of places from one to before another: there, where it is one, else to a new block

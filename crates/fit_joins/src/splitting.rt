@@ -1,9 +1,11 @@
-//! A call of a function that is joined ends its block.
+//! A call of a function that is joined ends its block, and so does what moves the soft stack's pointer.
+use crate::moving::moves;
 use crate::places::Part;
 use fit_blocks::Stops;
 use fit_checks::{CODES, Y, use_of};
 use fit_code::{Block, End, Function, Step};
 use std::mem;
+use v8_formats::Reg;
 
 /// The function that a step calls, if it is joined.
 pub fn joined_callee(parts: &[Part], step: &Step) -> Option<usize> {
@@ -13,20 +15,22 @@ pub fn joined_callee(parts: &[Part], step: &Step) -> Option<usize> {
     }
 }
 
-/// The place behind the first call of a block of a function that is joined.
-fn place_behind(parts: &[Part], steps: &[Step]) -> Option<usize> {
+/// The place behind the first step of a block that is to be its last one, and what is lost by that of codes and Y: a
+/// call of a function that is joined, and what moves the soft stack's pointer.
+fn place_behind(parts: &[Part], steps: &[Step], pointer: Reg) -> Option<(usize, u64)> {
     for (place, step) in steps.iter().enumerate() {
         if joined_callee(parts, step).is_some() {
-            return Some(place.saturating_add(1));
+            return Some((place.saturating_add(1), CODES | Y));
+        } else if moves(step, pointer) {
+            return Some((place.saturating_add(1), CODES));
         }
     }
     None
 }
 
-/// Whether what stands behind a call asks for the codes, or for Y, as they were before it: a callee may have changed
-/// both.
-fn asks_back(steps: &[Step], end: &End) -> bool {
-    let mut open = CODES | Y;
+/// Whether steps, or the end behind them, ask for codes, or Y, that were lost before.
+fn asks_back(steps: &[Step], end: &End, lost: u64) -> bool {
+    let mut open = lost;
     let mut is_asked = false;
     for step in steps {
         let (reads, writes) = use_of(0, step);
@@ -36,9 +40,9 @@ fn asks_back(steps: &[Step], end: &End) -> bool {
     is_asked | (matches!(end, End::Branch { .. }) & (open & CODES != 0))
 }
 
-/// Lets each call of a function that is joined be the last step of its block, which goes on to a block of its own. It
-/// is a fault where codes or Y are asked for behind such a call.
-pub fn split_at_calls(stops: &mut Stops, function: &mut Function, parts: &[Part]) {
+/// Lets each call of a function that is joined, and each move of the soft stack's pointer, be the last step of its
+/// block, which goes on to a block of its own. It is a fault where codes or Y that are lost there are asked for behind.
+pub fn split_at_calls(stops: &mut Stops, function: &mut Function, parts: &[Part], pointer: Reg) {
     // each block that is made is looked at again, and has fewer steps
     for number in 0..usize::MAX {
         let next = function.blocks.len();
@@ -46,11 +50,14 @@ pub fn split_at_calls(stops: &mut Stops, function: &mut Function, parts: &[Part]
             break;
         }
         let block = &mut function.blocks[number];
-        if let Some(place) = place_behind(parts, block.steps.as_slice()) {
+        if let Some((place, lost)) = place_behind(parts, block.steps.as_slice(), pointer) {
             let steps = block.steps.as_slice();
             let rest = &steps[place.min(steps.len())..];
-            if asks_back(rest, &block.end) {
-                stops.form(block.line, "condition codes, or Y, over a call");
+            if asks_back(rest, &block.end, lost) {
+                stops.form(
+                    block.line,
+                    "condition codes, or Y, over a call or a change of the stack",
+                );
             }
             let behind = Block {
                 steps: stops.memory.copy(rest),

@@ -232,6 +232,24 @@ pub fn leaves_for_soft(memory: &mut Heap, function: &Function, callees: Callees)
     false
 }
 
+/// The access that an instruction makes, or that of no bytes to a sum; and the register that the sum goes to.
+fn access_or_sum(instr: &Instr) -> Option<(MemoryAccess, Option<Reg>)> {
+    match *instr {
+        Instr::Add(fields) if fields.rd != Reg::SP => {
+            let access = MemoryAccess {
+                fields,
+                bytes: 0,
+                stores: false,
+            };
+            Some((access, Some(fields.rd)))
+        }
+        _ => {
+            let access = access_of(instr)?;
+            Some((access, None))
+        }
+    }
+}
+
 /// What a step of a function, by its block and its place there, has to do with arguments in memory: an access to them,
 /// and a sum that is the address of the function's own. `number` is the function's own in the source, `room` what it
 /// takes from %sp without a window; of those that have a soft frame it has nothing to do with such that lie there, and
@@ -248,19 +266,8 @@ pub fn argument_of(
     step: &Step,
     callees: Callees,
 ) -> Result<Option<ReachedPlace>, &'static str> {
-    let (access, made) = match step.instr {
-        Instr::Add(fields) if fields.rd != Reg::SP => {
-            let access = MemoryAccess {
-                fields,
-                bytes: 0,
-                stores: false,
-            };
-            (access, Some(fields.rd))
-        }
-        _ => match access_of(&step.instr) {
-            Some(access) => (access, None),
-            None => return Ok(None),
-        },
+    let Some((access, made)) = access_or_sum(&step.instr) else {
+        return Ok(None);
     };
     let base = if framed { Reg::FP } else { Reg::SP };
     if let Some(offset) = argument_at(&access, base, i64::from(room)) {

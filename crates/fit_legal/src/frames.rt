@@ -4,6 +4,10 @@
 use crate::arguments::{
     BYTES, Callees, ReachedPlace, argument_of, in_object, scratch, with_operands,
 };
+use crate::moving::{
+    UNKNOWN_FORM, arguments_end, free_local, hold_base, is_by_frame, is_moving, push_by_pointer,
+    push_moving,
+};
 use crate::places::{
     FRAME, SAVE_AREA, STACK, STACK_POINTER, address_made, by_scratch, place_accessed, word_place,
     word_step,
@@ -13,8 +17,6 @@ use fit_code::{Block, End, Function, Heap, Step};
 use fit_gas::{owned, word_of};
 use v8_formats::{Instr, Operand, Three, Upper};
 use v8_word::Reg;
-
-const UNKNOWN_FORM: &str = "the address of its frame in a form that isn't known";
 
 const UNKNOWN_SIZE: &str = "an array of a size that isn't constant";
 
@@ -33,12 +35,21 @@ enum FrameWay {
     Object(usize, u32),
     /// Those that use a frame of so many bytes, on the soft stack.
     Soft(u32),
+    /// Those that use a frame of so many bytes by %fp, with the object of a number in its place.
+    ObjectByFrame(usize, u32),
+    /// Accesses by %sp from so many bytes on, behind the arguments in memory of those that it calls.
+    Behind(i64),
+    /// Those that use a frame of so many bytes on the soft stack, whose pointer moves on in it: a register holds where
+    /// it was before.
+    Moving(u32, Reg),
 }
 
 /// The functions whose frames lie on the soft stack, and what points into it.
 #[derive(Clone, Copy)]
 pub struct SoftFrames<'s> {
     pub register: Reg,
+    /// The function that a run begins at, by its number in the source.
+    pub first: usize,
     pub callees: Callees<'s>,
 }
 
@@ -94,7 +105,7 @@ fn reached(step: &Step, object: usize, size: u32) -> Result<Option<ReachedPlace>
 
 /// Pushes a step of a function whose frame of some size lies on the soft stack, into which a register points; says
 /// whether it is of a form that is known.
-fn push_softened(
+pub fn push_softened(
     memory: &mut Heap,
     steps: &mut Vec<Step>,
     step: &Step,
@@ -144,7 +155,7 @@ fn push_offset(memory: &mut Heap, steps: &mut Vec<Step>, step: &Step, number: i6
 }
 
 /// Pushes what leaves in a register the word of another one and a number.
-fn push_address(
+pub fn push_address(
     memory: &mut Heap,
     steps: &mut Vec<Step>,
     step: &Step,
@@ -187,65 +198,127 @@ fn use_of(stops: &mut Stops, function: &Function, size: u32) -> (bool, bool) {
     (is_used, is_more)
 }
 
-/// Pushes what stands for a step of a function, by its block and its place there: nothing where it takes room from %sp.
+/// Pushes what stands for a step of a function that stays in its frame, or whose frame lies on the soft stack: nothing
+/// where it takes room from %sp. Says whether it is one of these.
+fn push_in_frame(
+    layout: &mut Layout,
+    steps: &mut Vec<Step>,
+    (framed, way): (bool, &FrameWay),
+    step: &Step,
+    soft: &SoftFrames,
+) -> bool {
+    let memory = &mut layout.stops.memory;
+    let is_known = match *way {
+        FrameWay::Behind(from) => {
+            push_by_pointer(memory, steps, step, soft.register, from);
+            true
+        }
+        FrameWay::Moving(size, base) => {
+            push_moving(memory, steps, step, (soft.register, base), size)
+        }
+        FrameWay::Arguments(_, _) => return false,
+        _ if takes_room(framed, step) => true,
+        FrameWay::Soft(size) => push_softened(memory, steps, step, soft.register, size),
+        FrameWay::Spills(size) => {
+            push_spilled(memory, steps, step, size);
+            true
+        }
+        FrameWay::Object(_, _) | FrameWay::ObjectByFrame(_, _) => return false,
+    };
+    if !is_known {
+        layout.stops.form(step.line, UNKNOWN_FORM);
+    }
+    true
+}
+
+/// Pushes a step, by %sp where it spills words.
+fn push_spilled(memory: &mut Heap, steps: &mut Vec<Step>, step: &Step, size: u32) {
+    let (first, second) = spilled(step, size);
+    let pushed = match second {
+        Some(second) => steps.extend_from_slice(&[first, second]),
+        None => steps.extend_from_slice(&[first]),
+    };
+    memory.take(pushed);
+}
+
+/// What a step of a function, by its block and its place there, reaches in the data, where its frame lies there.
+///
+/// # Errors
+/// Those of `reached` and `argument_of`.
+fn reached_in(
+    memory: &mut Heap,
+    blocks: &[Block],
+    (framed, way): (bool, &FrameWay),
+    at: (usize, usize),
+    step: &Step,
+    soft: &SoftFrames,
+) -> Result<Option<ReachedPlace>, &'static str> {
+    match *way {
+        FrameWay::Arguments(_, _) if takes_room(framed, step) => Ok(None),
+        FrameWay::ObjectByFrame(_, _) if !is_by_frame(step) => Ok(None),
+        FrameWay::Object(object, size) | FrameWay::ObjectByFrame(object, size) => {
+            reached(step, object, size)
+        }
+        FrameWay::Arguments(number, room) => {
+            let function = (framed, room);
+            argument_of(memory, blocks, function, number, at, step, soft.callees)
+        }
+        _ => Ok(None),
+    }
+}
+
+/// Pushes what stands for a step of a function that reaches something in the data.
+fn push_reached(
+    layout: &mut Layout,
+    steps: &mut Vec<Step>,
+    way: &FrameWay,
+    step: &Step,
+    found: &ReachedPlace,
+) {
+    let (whose, offset, made, _) = *found;
+    let object = match *way {
+        FrameWay::Arguments(_, _) => layout.arguments_of(whose, BYTES, step.line),
+        _ => whose,
+    };
+    let address = layout.address(object, offset);
+    layout.name_outside(object, address);
+    let placed = in_object(object, address, step, made);
+    let memory = &mut layout.stops.memory;
+    memory.take(steps.extend_from_slice(&placed));
+    if let Some(moved) = found.3 {
+        memory.take(steps.extend_from_slice(&[moved]));
+    }
+}
+
+/// Pushes what stands for a step of a function, by its block and its place there.
 fn push_placed(
     layout: &mut Layout,
     steps: &mut Vec<Step>,
     blocks: &[Block],
-    (framed, way): (bool, FrameWay),
+    (framed, way): (bool, &FrameWay),
     at: (usize, usize),
     step: &Step,
     soft: &SoftFrames,
 ) {
-    let found = match way {
-        FrameWay::Arguments(_, _) if takes_room(framed, step) => Ok(None),
-        _ if takes_room(framed, step) => return,
-        FrameWay::Soft(size) => {
-            if !push_softened(&mut layout.stops.memory, steps, step, soft.register, size) {
-                layout.stops.form(step.line, UNKNOWN_FORM);
-            }
-            return;
+    if !push_in_frame(layout, steps, (framed, way), step, soft) {
+        let memory = &mut layout.stops.memory;
+        match reached_in(memory, blocks, (framed, way), at, step, soft) {
+            Ok(Some(found)) => push_reached(layout, steps, way, step, &found),
+            Ok(None) => layout.stops.memory.push(steps, *step),
+            Err(what) => layout.stops.form(step.line, what),
         }
-        FrameWay::Spills(size) => {
-            let (first, second) = spilled(step, size);
-            layout.stops.memory.push(steps, first);
-            if let Some(second) = second {
-                layout.stops.memory.push(steps, second);
-            }
-            return;
-        }
-        FrameWay::Object(object, size) => reached(step, object, size),
-        FrameWay::Arguments(number, room) => {
-            let memory = &mut layout.stops.memory;
-            argument_of(
-                memory,
-                blocks,
-                (framed, room),
-                number,
-                at,
-                step,
-                soft.callees,
-            )
-        }
-    };
-    match found {
-        Ok(Some((whose, offset, made, moved))) => {
-            let object = match way {
-                FrameWay::Arguments(_, _) => layout.arguments_of(whose, BYTES, step.line),
-                _ => whose,
-            };
-            let address = layout.address(object, offset);
-            layout.name_outside(object, address);
-            let memory = &mut layout.stops.memory;
-            let placed = in_object(object, address, step, made);
-            memory.is_refused |= steps.extend_from_slice(&placed).is_err();
-            if let Some(moved) = moved {
-                memory.push(steps, moved);
-            }
-        }
-        Ok(None) => layout.stops.memory.push(steps, *step),
-        Err(what) => layout.stops.form(step.line, what),
     }
+}
+
+/// How a function's frame is put in order.
+#[derive(Clone, Copy)]
+pub struct PlacedFrame {
+    /// How many bytes it has on the soft stack.
+    pub bytes: u32,
+    /// Whether what points there is moved otherwise than to take the frame and give it back; and the register that
+    /// holds where the frame lies then, if one does, else %g0.
+    pub is_moving: bool,
+    pub base: Reg,
 }
 
 /// Puts the steps of a function otherwise.
@@ -257,7 +330,7 @@ fn place_steps(layout: &mut Layout, function: &mut Function, way: FrameWay, soft
         if number < blocks.len() {
             for (place, step) in blocks[number].steps.as_slice().iter().enumerate() {
                 let at = (number, place);
-                push_placed(layout, &mut steps, blocks, (framed, way), at, step, soft);
+                push_placed(layout, &mut steps, blocks, (framed, &way), at, step, soft);
             }
         }
         let blocks = function.blocks.as_mut_slice();
@@ -292,25 +365,32 @@ fn room_of(stops: &mut Stops, function: &Function) -> Option<u32> {
     }
 }
 
-/// The object in the data for a frame of so many bytes.
-fn frame_object(layout: &mut Layout, function: &Function, size: u32) -> FrameWay {
+/// The object in the data for a frame of so many bytes, at a multiple of some.
+fn frame_object(layout: &mut Layout, function: &Function, size: u32, align: u32) -> FrameWay {
     let mut name = owned(&mut layout.stops.memory, "frame of ");
     let pushed = name.push_str(function.name.as_str());
     layout.stops.memory.take(pushed);
-    let object = layout.add(name, 8, &[], size as usize, function.line);
+    let object = layout.add(name, align, &[], size as usize, function.line);
     FrameWay::Object(object, size)
 }
 
-/// Puts a function's frame in order, by its number in the source: steps that only spill words by %sp, else an object in
-/// the data in its place, or the soft stack. Before that, what it does with arguments in memory. Gives the bytes that it
-/// has on the soft stack. These are faults: an array whose size isn't constant; an argument that is stored for more
-/// functions than one; an address in the frame in a form that isn't known; an access outside of it.
+/// Puts a function's frame in order, by its number in the source and what its address is a multiple of: steps that only
+/// spill words by %sp, else an object in the data in its place, or the soft stack. Before that, what it does with
+/// arguments in memory. Says what it has on the soft stack. These are faults: an array whose size isn't constant; an
+/// argument that is stored for more functions than one; an address in the frame in a form that isn't known; an access
+/// outside of it.
 pub fn place_frame(
     layout: &mut Layout,
     function: &mut Function,
-    number: usize,
+    (number, align): (usize, u32),
     soft: &SoftFrames,
-) -> u32 {
+) -> PlacedFrame {
+    if align > 8 && soft.callees.is_soft(number) {
+        layout.stops.form(function.line, UNKNOWN_FORM);
+    }
+    if is_moving(function) {
+        return place_moving(layout, function, number, soft);
+    }
     let room = room_of(&mut layout.stops, function);
     let arguments = FrameWay::Arguments(number, room.unwrap_or(0));
     place_steps(layout, function, arguments, soft);
@@ -323,25 +403,85 @@ pub fn place_frame(
     } else if stays | !is_used {
         FrameWay::Spills(size)
     } else {
-        frame_object(layout, function, size)
+        frame_object(layout, function, size, align)
     };
     place_steps(layout, function, way, soft);
     if function.framed & !stays {
         function.frame = SAVE_AREA;
     }
-    if is_soft {
-        size.saturating_add(7) & !7
-    } else {
-        0
+    PlacedFrame {
+        bytes: if is_soft { whole(size) } else { 0 },
+        is_moving: false,
+        base: Reg::G0,
     }
+}
+
+/// The next multiple of 8.
+fn whole(size: u32) -> u32 {
+    size.saturating_add(7) & !7
+}
+
+/// The same of a function that moves what points into the soft stack otherwise. Its own frame lies there as well, and a
+/// register holds where; that of the function that a run begins at is an object.
+fn place_moving(
+    layout: &mut Layout,
+    function: &mut Function,
+    number: usize,
+    soft: &SoftFrames,
+) -> PlacedFrame {
+    let mut placed = PlacedFrame {
+        bytes: 0,
+        is_moving: true,
+        base: Reg::G0,
+    };
+    if function.framed {
+        let behind = FrameWay::Behind(arguments_end(function));
+        place_steps(layout, function, behind, soft);
+        place_steps(layout, function, FrameWay::Arguments(number, 0), soft);
+        placed.bytes = whole(function.frame);
+        if number == soft.first {
+            place_first(layout, function, soft);
+        } else {
+            placed.base = base_of_frame(layout, function, soft.register);
+        }
+    }
+    let way = FrameWay::Moving(placed.bytes, placed.base);
+    place_steps(layout, function, way, soft);
+    if placed.base != Reg::G0 {
+        let registers = (soft.register, placed.base);
+        hold_base(&mut layout.stops.memory, function, registers, placed.bytes);
+    }
+    if function.framed {
+        function.frame = SAVE_AREA;
+    }
+    placed
+}
+
+/// Puts an object in the place of what the function that a run begins at has in its frame.
+fn place_first(layout: &mut Layout, function: &mut Function, soft: &SoftFrames) {
+    if let FrameWay::Object(object, size) = frame_object(layout, function, function.frame, 8) {
+        let way = FrameWay::ObjectByFrame(object, size);
+        place_steps(layout, function, way, soft);
+    }
+}
+
+/// The register that is to hold where a function's frame lies; it is a fault where there is none.
+fn base_of_frame(layout: &mut Layout, function: &Function, other: Reg) -> Reg {
+    let base = free_local(function, other);
+    if base == Reg::G0 {
+        let what = "no register is left for the frame of an array of a size that isn't constant";
+        layout.stops.form(function.line, what);
+    }
+    base
 }
 
 /// Puts an object in the data in the place of what a function still has in its frame.
 pub fn empty_frame(layout: &mut Layout, function: &mut Function) {
     if function.framed & (function.frame > SAVE_AREA) {
-        let way = frame_object(layout, function, function.frame);
+        let way = frame_object(layout, function, function.frame, 8);
         let none = SoftFrames {
             register: Reg::G0,
+            first: 0,
             callees: Callees {
                 are_soft: &[],
                 bytes: &[],

@@ -5,6 +5,7 @@ mod arguments;
 mod calls;
 mod endless;
 mod frames;
+mod moving;
 mod places;
 mod programs;
 mod ways;

@@ -4,15 +4,18 @@ use crate::arguments::{Callees, argument_bytes, leaves_for_soft};
 use crate::calls::order_of_calls;
 use crate::endless::end_behind_calls;
 use crate::frames::{SoftFrames, empty_frame, place_frame};
+use crate::moving::{end_by_kept, moves_stack, take_alignment, way_back_of};
 use crate::ways::free_way_back;
 use fit_blocks::{
-    Layout, Obstacle, Stops, bit_of, function_of, give_one_entry, layout_of, operands_read,
-    push_plain, repeat_compares, result_register, step_of,
+    Layout, Obstacle, Stops, bit_of, function_of, give_one_entry, layout_of, name_of,
+    operands_read, push_plain, repeat_compares, result_register, step_of,
 };
 use fit_code::{End, Fault, Function, NO_LINE, Program};
 use fit_gas::Assembly;
 use fit_graph::{Effects, effects_of};
-use fit_joins::{Part, SoftStack, callees_of, caller_of, choose, in_rounds, join, stack_register};
+use fit_joins::{
+    Part, SoftStack, WayBack, callees_of, caller_of, choose, in_rounds, join, stack_register,
+};
 use sbx_domain::State;
 use std::alloc::Global;
 use v8_formats::{Instr, Operand, Three};
@@ -36,7 +39,7 @@ fn put_plainly(
     stops: &mut Stops,
     function: &mut Function,
     order: &[usize],
-    (is_first, pointer): (bool, Reg),
+    (is_first, pointer, held): (bool, Reg, u32),
 ) {
     let what = "a register that holds a frame or the way back";
     let (framed, frame) = (function.framed, function.frame);
@@ -50,7 +53,7 @@ fn put_plainly(
             } else {
                 0
             };
-            if named & HELD != 0 {
+            if named & held != 0 {
                 stops.form(step.line, what);
             } else if !framed & (named & of_window != 0) {
                 stops.form(step.line, "a local or an in register without a SAVE before");
@@ -182,7 +185,8 @@ fn soft_of(
             };
             let leaves = leaves_for_soft(&mut stops.memory, function, known);
             let takes = number < bytes.len() && bytes[number] > 0;
-            are_soft[number] |= rounds[place] | leaves | (is_taken & takes);
+            let is_moving = function.framed && moves_stack(function);
+            are_soft[number] |= rounds[place] | leaves | (is_taken & takes) | is_moving;
             if (place == 0) & rounds[place] {
                 let what = "a call of the function that a run begins at";
                 stops.form(functions[place].line, what);
@@ -192,15 +196,15 @@ fn soft_of(
     softs
 }
 
-/// What points into the soft stack, of so many bytes, if a function's frame lies there. It is a fault where no register
-/// is left for that.
+/// What points into the soft stack, of so many bytes, if something lies there. It is a fault where no register is left
+/// for that.
 fn stack_of(
     stops: &mut Stops,
     functions: &[Function],
-    are_soft: &[bool],
+    has_frames: bool,
     bytes: u32,
 ) -> Option<SoftStack> {
-    if !are_soft.contains(&true) {
+    if !has_frames {
         return None;
     }
     match stack_register(functions) {
@@ -219,6 +223,74 @@ fn stack_of(
     }
 }
 
+/// The registers that hold frames and ways back, and that a function may not name, each of which has a bit.
+fn held_in(way_back: &WayBack) -> u32 {
+    match way_back {
+        WayBack::Own => HELD,
+        WayBack::Kept | WayBack::Replaced => HELD & !bit_of(Reg::O7),
+    }
+}
+
+/// What is known of a function before its frame is placed.
+#[derive(Clone, Copy)]
+struct Traits {
+    way_back: WayBack,
+    /// What the address of its frame is a multiple of.
+    align: u32,
+}
+
+/// What is known of each function; `symbols` has their names.
+fn traits_of(layout: &mut Layout, functions: &mut [Function], symbols: &[usize]) -> Vec<Traits> {
+    let source = layout.source;
+    let mut traits = Vec::new(layout.stops.memory.alloc);
+    for (function, symbol) in functions.iter_mut().zip(symbols.iter()) {
+        let found = Traits {
+            way_back: way_back_of(function, name_of(source, *symbol)),
+            align: take_alignment(&mut layout.stops.memory, function),
+        };
+        layout.stops.memory.push(&mut traits, found);
+    }
+    traits
+}
+
+/// Whether a function keeps its way back.
+fn keeps_way(traits: &[Traits]) -> bool {
+    let mut keeps = false;
+    for it in traits {
+        keeps |= matches!(it.way_back, WayBack::Kept);
+    }
+    keeps
+}
+
+/// Makes a function legal, by its place among those of these numbers in the source; says how it is put into the image.
+fn legalize_one(
+    layout: &mut Layout,
+    function: &mut Function,
+    (order, place): (&[usize], usize),
+    traits: &Traits,
+    soft: &SoftFrames,
+) -> Part {
+    let pointed = layout.source.codes.len();
+    let number = order.get(place).copied().unwrap_or(0);
+    free_way_back(function, soft.register);
+    let placed = place_frame(layout, function, (number, traits.align), soft);
+    let way_back = traits.way_back;
+    let held = held_in(&way_back);
+    let stops = &mut layout.stops;
+    put_plainly(stops, function, order, (place == 0, soft.register, held));
+    end_by_kept(function, &way_back);
+    repeat_compares(stops, function, soft.register);
+    Part {
+        is_joined: false,
+        is_soft: soft.callees.is_soft(number),
+        is_caller: number == pointed,
+        frame: placed.bytes,
+        is_moving: placed.is_moving,
+        base: placed.base,
+        way_back,
+    }
+}
+
 /// Makes the functions of these numbers in the source, with these symbols there, legal, up to what stops it. Says of
 /// each how it is put into the image.
 fn legalize(
@@ -226,24 +298,14 @@ fn legalize(
     functions: &mut [Function],
     (order, symbols): (&[usize], &[usize]),
     soft: &SoftFrames,
+    traits: &[Traits],
 ) -> Vec<Part> {
-    let pointed = layout.source.codes.len();
     let mut parts = Vec::new(layout.stops.memory.alloc);
     for (place, function) in functions.iter_mut().enumerate() {
-        if layout.stops.first.is_none() && place < order.len() && place < symbols.len() {
+        if layout.stops.first.is_none() && place < symbols.len() && place < traits.len() {
             layout.stops.symbol = symbols[place];
-            free_way_back(function, soft.register);
-            let frame = place_frame(layout, function, order[place], soft);
-            let stops = &mut layout.stops;
-            put_plainly(stops, function, order, (place == 0, soft.register));
-            repeat_compares(stops, function);
-            let part = Part {
-                is_joined: false,
-                is_soft: soft.callees.is_soft(order[place]),
-                is_caller: order[place] == pointed,
-                frame,
-            };
-            stops.memory.push(&mut parts, part);
+            let part = legalize_one(layout, function, (order, place), &traits[place], soft);
+            layout.stops.memory.push(&mut parts, part);
         }
     }
     parts
@@ -306,50 +368,43 @@ fn functions_of(
 ) -> (Vec<Function>, Option<SoftStack>) {
     let mut functions = read_all(layout, order);
     let symbols = symbols_of(layout, order);
+    let traits = traits_of(layout, functions.as_mut_slice(), symbols.as_slice());
     let callees = calls_of(layout, functions.as_slice(), order);
     let list = bytes_of(layout, functions.as_slice(), order);
     let bytes_taken = list.as_slice();
-    let softs = soft_of(
-        layout,
-        functions.as_slice(),
-        order,
-        callees.as_slice(),
-        bytes_taken,
-    );
+    let called = callees.as_slice();
+    let softs = soft_of(layout, functions.as_slice(), order, called, bytes_taken);
     let are_soft = softs.as_slice();
     layout.stops.symbol = symbols.as_slice().first().copied().unwrap_or(0);
-    let stack = stack_of(
-        &mut layout.stops,
-        functions.as_slice(),
-        are_soft,
-        plan.stack,
-    );
+    let has_frames = are_soft.contains(&true) | keeps_way(traits.as_slice());
+    let stops = &mut layout.stops;
+    let stack = stack_of(stops, functions.as_slice(), has_frames, plan.stack);
     let soft = SoftFrames {
         register: stack.map_or(Reg::G0, |stack| stack.register),
+        first: order.first().copied().unwrap_or(0),
         callees: Callees {
             are_soft,
             bytes: bytes_taken,
         },
     };
     let numbers = (order, symbols.as_slice());
-    let parts = legalize(layout, functions.as_mut_slice(), numbers, &soft);
+    let traits = traits.as_slice();
+    let parts = legalize(layout, functions.as_mut_slice(), numbers, &soft, traits);
     end_behind_calls(&mut layout.stops, functions.as_mut_slice());
     if layout.stops.first.is_none() {
-        functions = joined(
-            layout,
-            functions,
-            parts,
-            (callees.as_slice(), plan.has_bounds),
-            symbols.as_slice(),
-            &stack,
-        );
+        let calls = (called, plan.has_bounds);
+        functions = joined(layout, functions, parts, calls, symbols.as_slice(), &stack);
     }
-    if let Some(function) = functions.get(FUNCTIONS) {
-        let many = Obstacle::TooMany("functions", 256);
-        layout.stops.note(function.line, many);
-    }
+    check_count(&mut layout.stops, functions.as_slice());
     layout.end_region(false);
     (functions, stack)
+}
+
+/// It is a fault where there are more functions than an image may have.
+fn check_count(stops: &mut Stops, functions: &[Function]) {
+    if let Some(function) = functions.get(FUNCTIONS) {
+        stops.note(function.line, Obstacle::TooMany("functions", 256));
+    }
 }
 
 /// A program that is legal.

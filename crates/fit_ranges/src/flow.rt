@@ -5,8 +5,8 @@ mod known;
 use crate::flow::known::{BlockRanges, replace, touched_in};
 use fit_code::{End, Function, Heap, hull};
 use fit_graph::{
-    FunctionShape, Growth, LocationSet, Means, Thresholds, cells_of, enter, go_along, join, range_in,
-    return_from, run_step, run_to_call, successors_in,
+    FunctionShape, Growth, LocationSet, Means, Thresholds, cells_of, enter, go_along, join,
+    range_in, return_from, run_step, run_to_call, successors_in,
 };
 use sbx_domain::State;
 use sbx_range::{Cell, Range, all};

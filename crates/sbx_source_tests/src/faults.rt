@@ -16,8 +16,8 @@ static REFUSED: [(&str, &str); 19] = [
         "t.s:6: refused: g isn't defined",
     ),
     (
-        " save %sp,-96,%sp\n sub %sp,%i0,%sp\n ret\n restore",
-        "t.s:6: refused: main: an array of a size that isn't constant",
+        " save %sp,-96,%sp\n xor %sp,%i0,%sp\n ret\n restore",
+        "t.s:6: refused: main: the address of its frame in a form that isn't known",
     ),
     (
         " save %sp,-96,%sp\n ret\n nop",

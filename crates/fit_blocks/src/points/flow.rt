@@ -10,8 +10,8 @@ const NOT_ALLOWED: Obstacle = Obstacle::Form("an instruction that sandboxed code
 /// The registers that tests and meters work with, %g5 to %g7, a bit a register. Compilers leave them alone.
 const WORKING: u32 = 7 << 5;
 
-/// What a jump does, which has to be a return, to 8 or 12 bytes behind a call, whose address a register holds; or a call
-/// through a pointer.
+/// What a jump does, which has to be a return, to 8 or 12 bytes behind a call, whose address a register holds; or a
+/// call through a pointer.
 fn jump(fields: &Three) -> Result<ControlFlow, Obstacle> {
     let framed = fields.rs1 == Reg::I7;
     let goes_behind = matches!(fields.operand2, Operand::Immediate(8 | 12));

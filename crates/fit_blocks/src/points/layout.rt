@@ -146,6 +146,19 @@ impl Layout<'_> {
         self.stops.memory.push(&mut self.regions, region);
     }
 
+    /// Adds all objects of the source, the constants first, which are a region of their own.
+    fn add_regions(&mut self) {
+        self.add_all(true);
+        if !self.objects.is_empty() {
+            self.end_region(true);
+            if self.end > LAST {
+                let line = self.line;
+                self.stops.note(line, TOO_MANY);
+            }
+        }
+        self.add_all(false);
+    }
+
     /// The word that stands for the address of a function of the source, which is taken.
     fn take(&mut self, function: usize, line: SourceLine) -> u32 {
         let mut place = self.taken.len();
@@ -271,15 +284,7 @@ pub fn layout_of(source: &Assembly) -> Layout<'_> {
         end: DATA + HEAD,
         line: NO_LINE,
     };
-    layout.add_all(true);
-    if !layout.objects.is_empty() {
-        layout.end_region(true);
-        if layout.end > LAST {
-            let line = layout.line;
-            layout.stops.note(line, TOO_MANY);
-        }
-    }
-    layout.add_all(false);
+    layout.add_regions();
     for fix in source.fixes.as_slice() {
         layout.fill(fix);
     }

@@ -129,8 +129,8 @@ fn is_led_to(points: &[Point], first: usize, last: usize) -> bool {
     is_led_to
 }
 
-/// The frame of a function, and where its instructions begin; what takes more room behind SAVE does nothing any more. It
-/// is a fault where the frame isn't known.
+/// The frame of a function, and where its instructions begin; what takes more room behind SAVE does nothing any more.
+/// It is a fault where the frame isn't known.
 pub fn frame_and_start(stops: &mut Stops, points: &mut [Point]) -> (Option<u32>, usize) {
     for place in 0..points.len() {
         if let Instr::Save(fields) = points[place].step.instr {
