@@ -4,6 +4,7 @@ use crate::engine::runs_on_engine;
 use crate::faults::LineFault;
 use crate::fields::bytes;
 use crate::flat::runs_flat;
+use crate::native::runs_as_program;
 use crate::pieces::runs_in_pieces;
 use crate::runs::{Run, run_in};
 use crate::verdicts::{Verdict, is_spelled, verdict_on};
@@ -58,13 +59,14 @@ fn judged(alloc: Global, field: &str, wanted: &str) -> Result<(bool, Option<Acce
     Ok((agrees, accepted_of(verdict)))
 }
 
-/// Whether the runs of an image on a board, on the fast flat machine, at once and in pieces, and on the plain one are a
-/// line's.
+/// Whether the runs of an image on a board, on the fast flat machine, at once and in pieces, as a program of the little
+/// language, and on the plain flat machine are a line's.
 fn runs_so(alloc: Global, accepted: &Accepted, run: &Run) -> Result<bool, LineFault> {
     Ok(
         runs_on_board(alloc, accepted, run)?
             && runs_on_engine(alloc, accepted, run)?
             && runs_in_pieces(alloc, accepted, run)?
+            && runs_as_program(alloc, accepted, run)?
             && runs_flat(alloc, accepted.image(), run)?,
     )
 }

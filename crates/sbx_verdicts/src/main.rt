@@ -11,7 +11,7 @@
 //! counts. Bytes are hexadecimal, and `-` where there are none. A line that begins with `#` is a comment.
 //!
 //! A run is compared on a board of as many windows, on the fast flat machine, which counts for as many, at once and
-//! byte by byte, and twice on the plain one.
+//! byte by byte, as a program of the little language that native code is made of, and twice on the plain flat machine.
 //!
 //! Then it does with each program of `examples` what the sandbox's commands do, and prints what they tell.
 #![tactic(auto)]
@@ -23,6 +23,7 @@ mod examples;
 mod faults;
 mod fields;
 mod flat;
+mod native;
 mod pieces;
 mod runs;
 mod verdicts;

@@ -1,0 +1,14 @@
+//! A program of the little language as C: a line a statement, with the words of the header `geyserpan_native.h`.
+#![tactic(auto)]
+
+mod data;
+mod expressions;
+mod points;
+mod programs;
+mod statements;
+#[cfg(test)]
+mod tests;
+mod text;
+
+pub use programs::{ImageNote, write_program};
+pub use text::ProgramText;

@@ -1,0 +1,96 @@
+//! A small program's lines; an array of the most bytes.
+use crate::{ImageNote, write_program};
+use native_lang::{BlockEnd, Expr, NativeProgram, NumberWidth, Operator, ProgramBlock, Stmt};
+use std::alloc::{AllocError, Global};
+
+/// Whether a text has a part.
+fn has(text: &[u8], part: &str) -> bool {
+    for at in 0..text.len() {
+        if text[at..].starts_with(part.as_bytes()) {
+            return true;
+        }
+    }
+    false
+}
+
+/// A loop that gets a byte, stores it and puts it out, until the input's end.
+fn echo(alloc: Global) -> Result<NativeProgram, AllocError> {
+    let byte = Box::new(alloc, Expr::Variable(8))?;
+    let end = Box::new(alloc, Expr::Number(0xffff_ffff))?;
+    let is_end = Expr::Binary(Operator::Equal, byte, end);
+    let mut first = Vec::new(alloc);
+    first.push(Stmt::Get(8))?;
+    let mut second = Vec::new(alloc);
+    second.push(Stmt::Store(NumberWidth::Byte, Expr::Number(0x8_0000), Expr::Variable(8)))?;
+    second.push(Stmt::Put(Expr::Variable(8)))?;
+    let mut blocks = Vec::new(alloc);
+    blocks.push(ProgramBlock {
+        statements: first,
+        end: BlockEnd::If(is_end, 2, 1),
+    })?;
+    blocks.push(ProgramBlock {
+        statements: second,
+        end: BlockEnd::Goto(0),
+    })?;
+    blocks.push(ProgramBlock {
+        statements: Vec::new(alloc),
+        end: BlockEnd::Exit(Expr::Number(0)),
+    })?;
+    let mut data = Vec::new(alloc);
+    data.push(9)?;
+    Ok(NativeProgram { blocks, data })
+}
+
+/// The lines that the loop has to be.
+const LINES: &str = "L0:;
+    HEAD(1, NO_CODES);
+    GET(2, NO_CODES, x8);
+    if ((WORD)(x8 == 4294967295u)) goto L2;
+L1:;
+    STORE8(524288u, x8);
+    PUT(3, NO_CODES, x8);
+    goto L0;
+L2:;
+    EXIT(0u);
+";
+
+fn try_echo(alloc: Global) -> Result<bool, AllocError> {
+    let program = echo(alloc)?;
+    let named = ImageNote {
+        image: &[1, 2],
+        stack_bytes: 4096,
+    };
+    let text = write_program(alloc, &program, &named)?;
+    let bytes = text.as_bytes();
+    Ok(
+        has(bytes, LINES)
+            && has(
+                bytes,
+                "#define GP_STACK_BYTES 4096u\n#define GP_IMAGE {1,2,}\n",
+            )
+            && has(bytes, "    RESUME(3);\nSTEP_RESUMES\n")
+            && has(bytes, "gp_start[] = {\n    9,\n    0};\n"),
+    )
+}
+
+#[test]
+fn the_lines_of_a_loop(rt: HostRuntime) {
+    assert!(rt; matches!(try_echo(rt.alloc()), Ok(true)));
+}
+
+fn try_most(alloc: Global) -> Result<bool, AllocError> {
+    let mut program = echo(alloc)?;
+    program.data.resize(0x8_0000, 255)?;
+    let named = ImageNote {
+        image: &[],
+        stack_bytes: 65_536,
+    };
+    let text = write_program(alloc, &program, &named)?;
+    // four bytes each, and the ends of 16,384 lines
+    Ok(text.as_bytes().len() > 4 * 0x8_0000 + 5 * 16_384)
+}
+
+#[test]
+fn an_array_of_the_most_bytes(rt: HostRuntime) {
+    assert!(rt; matches!(try_most(rt.alloc()), Ok(true)));
+}
