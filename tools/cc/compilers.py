@@ -115,7 +115,12 @@ class Compiler:
 
     def words(self, source, level, flags, *more):
         """The words to compile a source."""
-        return [*self.front(source), level, *self.for_size(level), *flags, *more, source]
+        return [*self.front(source), level, *self.for_size(level), *self.telling, *flags, *more, source]
+
+    @property
+    def telling(self):
+        """What makes a compiler tell of variables."""
+        return ["-g"] if self.request.debugs else []
 
     def for_size(self, level):
         """What makes less code beside the level."""
@@ -172,6 +177,10 @@ class Gcc(Compiler):
         if not os.path.exists(archive):
             subprocess.run([self.archiver, "rcs", f"{archive}.{os.getpid()}", *objects], check=True)
             os.replace(f"{archive}.{os.getpid()}", archive)
+        if self.request.debugs:
+            # (what the compiler told of the library's sources is left beside the archive by its name)
+            os.symlink(archive, f"{runtime.work}/library.a")
+            archive = f"{runtime.work}/library.a"
         return [archive]
 
     def whole(self, objects, library, work):
@@ -179,7 +188,7 @@ class Gcc(Compiler):
         path = self.plus if self.request.is_plus else self.path
         kept = [f"-Wl,-u,{name}" for name in KEPT]
         level = [self.request.level, *self.for_size(self.request.level)]
-        words = [path, *level, *self.target, *WHOLE, *kept, "-o", "whole", *objects, *library]
+        words = [path, *level, *self.target, *self.telling, *WHOLE, *kept, "-o", "whole", *objects, *library]
         ran, is_long = limited(words, cwd=work)
         made = sorted(it for it in os.listdir(work) if it.startswith("whole.lto.o") and it.endswith(".s"))
         if is_long:

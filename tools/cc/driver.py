@@ -15,6 +15,9 @@ from runs import Comparison, run_image
 from runtime import Runtime
 from telling import Teller, demangled
 
+sys.path.insert(0, f"{TOP}/tools/debug")
+from origins import Origins, bare
+
 # So many seconds of processor ./fit may take.
 SECONDS = 300
 # What fit says of code that is compiled for size then, and of code that is compiled more plainly.
@@ -56,6 +59,7 @@ class Build:
         objects = self.compiler.each(self.work)
         library = self.compiler.library(runtime)
         path = self.compiler.whole(objects, library, self.work)
+        self.program = path
         say(self.compiler.told.rstrip("\n"))
         self.write_dependencies(objects)
         with open(path, encoding="utf-8", errors="surrogateescape") as file:
@@ -95,13 +99,27 @@ class Build:
     def fitted(self):
         """Compiles and fits; returns how ./fit ended."""
         self.made = self.assembled()
-        words = [f"{TOP}/fit", *self.made, "-o", self.source, *self.request.fitting]
+        self.origins = Origins(self.made, self.work) if self.request.is_traced else None
+        given = self.origins.marked if self.origins else self.made
+        words = [f"{TOP}/fit", *given, "-o", self.source, *self.request.fitting]
         ran, is_long = limited(words, SECONDS)
         if is_long:
             raise Fault(2, f"{self.request.name}: ./fit took more than {SECONDS} seconds of processor: compile by -Os, "
                         "or write __attribute__((noinline)) before the greatest functions")
         self.ran = ran
+        if self.origins:
+            self.unmark()
         return ran
+
+    def unmark(self):
+        """Takes the marks of rows from what ./fit made and told, and keeps the map that they give."""
+        notes, self.ran.stderr = self.ran.stderr, bare(self.ran.stderr)
+        if self.ran.returncode == 0:
+            with open(self.source, encoding="utf-8", errors="surrogateescape") as file:
+                source = file.read()
+            self.mapped = self.origins.map_of(source, notes, self.teller.shown)
+            with open(self.source, "w", encoding="utf-8", errors="surrogateescape") as file:
+                file.write(bare(source))
 
     def keep(self):
         """Leaves what was made where --keep says."""
@@ -150,7 +168,7 @@ def again_for(build, told):
 
 
 def image_of(request, work):
-    """Makes the image in the folder for work, at another level where that does it; returns its path."""
+    """Makes the image in the folder for work, at another level where that does it; returns how it was made."""
     build, told = image_by(request, work)
     level, why = again_for(build, told)
     if level and level != request.level:
@@ -165,7 +183,7 @@ def image_of(request, work):
     say(*build.teller.notes(build.ran.stderr))
     if told:
         raise Fault(1, *fault_of(build, told))
-    return build.image
+    return build
 
 
 def fault_of(build, told):
@@ -194,18 +212,30 @@ def preprocess(request):
     return status
 
 
+def left_beside(build):
+    """Leaves beside the image what gdb and `inspect` read of it, where that is asked for; tells what lacks."""
+    request, stem = build.request, os.path.splitext(build.request.out)[0]
+    if not (request.maps or request.debugs):
+        return []
+    from left import leave  # (which reads the image by ./inspect)
+    why = leave(build, f"{stem}.map", f"{stem}.elf" if request.debugs else None)
+    return [f"{request.name}: {stem}.elf has lines and no variables: {why}"] if why else []
+
+
 def perform(request):
     """Does what was asked for; returns the status."""
     if request.prints:
         return preprocess(request)
     with tempfile.TemporaryDirectory() as work:
-        image = image_of(request, work)
+        build = image_of(request, work)
+        image = build.image
         # (what a run or a comparison prints goes to standard output alone)
         print("accepted", file=sys.stderr if request.runs or request.inputs else sys.stdout)
         if request.out:
             shutil.copyfile(image, request.out)
+            say(*left_beside(build))
         status = Comparison(request, image, work).all() if request.inputs else 0
-        return run_image(request, image) if request.runs else status
+        return run_image(request, image, build.mapped) if request.runs else status
 
 
 def usage_of(name):

@@ -31,9 +31,16 @@ class Request:
     inputs: list = dataclasses.field(default_factory=list)
     runs: bool = False
     notes: bool = False
+    maps: bool = False
+    debugs: bool = False
     prints: str = None
     depends: str = None
     dependencies: str = None
+
+    @property
+    def is_traced(self):
+        """Whether it is asked which line each word comes from."""
+        return self.maps or self.debugs or self.runs
 
     @property
     def is_plus(self):
@@ -95,8 +102,8 @@ class Words:
             request.fitting += [word, str(self.size_of_stack(word))]
         elif word in ("--strict", "--region"):
             request.fitting.append(word)
-        elif word in ("--run", "--notes"):
-            setattr(request, {"--run": "runs", "--notes": "notes"}[word], True)
+        elif word in ("--run", "--notes", "--map", "--debug"):
+            setattr(request, {"--run": "runs", "--notes": "notes", "--map": "maps", "--debug": "debugs"}[word], True)
         elif word == "--against":
             self.take_inputs()
         elif not word.startswith("-") or word == "-":
@@ -172,6 +179,8 @@ def request_of(name, words):
     request = reader.request
     if not request.files:
         raise reader.fault("no source is named")
+    if (request.maps or request.debugs) and not request.out:
+        raise reader.fault("--map and --debug leave files beside the image: -o OUT.img is wanted")
     if not (request.out or request.runs or request.inputs or request.prints):
         raise reader.fault("-o OUT.img, --run or --against is wanted")
     return request

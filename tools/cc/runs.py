@@ -9,22 +9,14 @@ from compilers import PLUS, TOP
 from fault import Fault
 from request import ending_of, is_plus
 
+sys.path.insert(0, f"{TOP}/tools/debug")
+from ends import ABORTED, end_told, told_of
+
 # The compiler for this machine, where a program is compared with itself.
 NATIVE = "-O1 -fwrapv -fno-strict-aliasing -w -DNATIVE".split()
 SECONDS = 60
 # So many turns of a run are followed for its exit word, at the most.
 MOST_TURNS = 9999999999
-# What the kinds of fit's tests say, by the high half of an exit word; the low half is the line.
-KINDS = {
-    1: "an index leaves its object",
-    2: "a pointer leaves the program's data, isn't aligned, or leads to a constant",
-    3: "a divisor is 0",
-    4: "the loops have used up their turns: ask for more by --turns",
-    5: "calls go too deep: ask for more by --stack",
-    9: "a call through a pointer that is no function's",
-}
-# The word of abort and of a failed assert.
-ABORTED = 0x00060000
 
 
 def end_of(image, given):
@@ -38,22 +30,17 @@ def end_of(image, given):
 
 def why_of(word, request):
     """An exit word in words."""
-    kind, line = word >> 16, word & 0xFFFF
-    if word == ABORTED:
-        return f"abort was called, or a test of the library's failed (exit word {word:08X})"
-    if kind not in KINDS:
-        return f"the exit word is {word} ({word:08X})"
-    place = f"{request.files[0]}:{line}" if len(request.files) == 1 else f"line {line}"
-    return f"{place}: the run ended in a test: {KINDS[kind]} (exit word {word:08X})"
+    place = f"{request.files[0]}:{word & 0xFFFF}" if len(request.files) == 1 else None
+    return told_of(word, place) or f"the exit word is {word} ({word:08X})"
 
 
-def run_image(request, image):
+def run_image(request, image, mapped):
     """Runs an image on standard input; returns the status."""
     given = sys.stdin.buffer.read()
     ran = subprocess.run([f"{TOP}/sandbox", "run", image], input=given, check=False)
-    word = end_of(image, given) if ran.returncode == 1 else None
-    if word is not None:
-        print(f"{request.name}: {why_of(word, request)}", file=sys.stderr)
+    told = end_told(image, given, mapped) if ran.returncode == 1 else None
+    if told is not None:
+        print(f"{request.name}: {told}", file=sys.stderr)
     return ran.returncode
 
 

@@ -17,7 +17,7 @@ class Runtime:
     """The parts of the library for one compiler and one size of the heap."""
 
     def __init__(self, compiler, work):
-        self.compiler, self.request = compiler, compiler.request
+        self.compiler, self.request, self.work = compiler, compiler.request, work
         version = subprocess.run([compiler.path, "--version"], stdout=subprocess.PIPE, check=False).stdout
         settings = (version, compiler.target, compiler.kind, compiler.size_level, compiler.library_flags, HEADERS,
                     PLUS, WORDS, self.request.arena, self.request.is_plus)

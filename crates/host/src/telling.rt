@@ -7,6 +7,7 @@ use bitflags::Flags;
 use sbx_run::{Accepted, budget};
 use serde_json::json;
 use std::alloc::{AllocError, Global};
+use std::fmt::{self, Display, Formatter};
 use std::io::Write;
 
 /// Writes a line on standard error by one call.
@@ -80,6 +81,35 @@ fn run_object(alloc: Global, path: &str, budget: u64, ran: &HostRun) -> Result<S
     .to_string(alloc)
 }
 
+/// What failed where an exit word is one of a test that `fit` adds; nothing is told of another word.
+#[derive(Clone, Copy)]
+struct TestWord(u32);
+
+impl TestWord {
+    /// What failed, by the number in the word's upper half.
+    fn name(&self) -> &'static str {
+        match self.0 / 0x1_0000 {
+            1 => "an index leaves its object",
+            2 => "a pointer leaves the data, isn't aligned, or leads to a constant",
+            3 => "a divisor is 0",
+            4 => "the loops have used up their turns",
+            5 => "calls go too deep",
+            9 => "a call through a pointer that is no function's",
+            _ => "",
+        }
+    }
+}
+
+impl Display for TestWord {
+    fn fmt<W: fmt::Write>(&self, f: &mut Formatter<W>) -> fmt::Result {
+        let (name, line) = (self.name(), self.0 % 0x1_0000);
+        if name.is_empty() {
+            return Ok(());
+        }
+        write!(f, ", as where a test fails, in line {line}: {name}")
+    }
+}
+
 /// Tells how the run of an image ended.
 pub fn tell_run(
     rt: &HostRuntime,
@@ -89,10 +119,11 @@ pub fn tell_run(
     ran: &HostRun,
 ) -> Result<(), HostFault<'static>> {
     let (alloc, status, turns) = (rt.alloc(), ran.told.status, ran.told.turns);
+    let test = TestWord(status);
     let line = match report {
-        Report::Lines => format!(in alloc; "exit word {status}, {turns} turns")?,
+        Report::Lines => format!(in alloc; "exit word {status}, {turns} turns{test}")?,
         Report::Faults if status == 0 => return Ok(()),
-        Report::Faults => format!(in alloc; "host: {path}: exit word {status}")?,
+        Report::Faults => format!(in alloc; "host: {path}: exit word {status}{test}")?,
         Report::Json => run_object(alloc, path, budget(accepted.image()), ran)?,
     };
     put_line(rt, line)

@@ -1,5 +1,5 @@
 -- A run told in words.
-use Rattle.std.specs.Prelude.{ℕ, List, ◌++◌, codes, slice_index}
+use Rattle.std.specs.Prelude.{ℕ, ◌/◌, ◌%◌, Bool, ◌==◌, ◌||◌, if◌then◌else◌, List, [], ◌++◌, codes, slice_index}
 use Rattle.std.specs.Fmt.{decimal}
 use Rattle.v8_board.specs.declared.outcome.Ending.{Ending}
 use Rattle.v8_board.specs.declared.outcome.Ending.TheVariants.{Exit, Trapped, ErrorMode, Limit}
@@ -18,8 +18,33 @@ trapped_text t place = codes "stopped by trap " ++ (trap_text t ++ (codes " of t
 abbrev pub error_text : ℕ → List ℕ
 error_text t = codes "error mode by trap " ++ trap_text t
 
+-- what failed, by the upper half of an exit word, where that is the number of a test that `fit` adds
+abbrev pub test_name : ℕ → List ℕ
+test_name kind =
+    if kind == 1 then codes "an index leaves its object"
+    else (if kind == 2 then codes "a pointer leaves the data, isn't aligned, or leads to a constant"
+    else (if kind == 3 then codes "a divisor is 0"
+    else (if kind == 4 then codes "the loops have used up their turns"
+    else (if kind == 5 then codes "calls go too deep"
+    else (if kind == 9 then codes "a call through a pointer that is no function's"
+    else codes "nothing that has a name")))))
+
+-- whether a test has this number
+abbrev pub is_test : ℕ → Bool
+is_test kind = (kind == 1) || ((kind == 2) || ((kind == 3) || ((kind == 4) || ((kind == 5) || (kind == 9)))))
+
+-- the line that an exit word of a test has behind it: nothing where the word is no test's
+abbrev pub test_text : ℕ → List ℕ
+test_text word =
+    if is_test (word / 65536)
+    then codes "\n  as where a test fails, in line " ++ (decimal (word % 65536) ++ (codes ": " ++ test_name (word / 65536)))
+    else []
+
+abbrev pub exit_text : ℕ → List ℕ
+exit_text word = codes "exit with the word " ++ (word_text word ++ test_text word)
+
 abbrev pub ending_text : Ending → ℕ → List ℕ
-ending_text (Exit word) place = codes "exit with the word " ++ word_text word
+ending_text (Exit word) place = exit_text word
 ending_text (Trapped t) place = trapped_text t place
 ending_text (ErrorMode t) place = error_text t
 ending_text Limit place = codes "none: it would go on behind the limit"

@@ -2,7 +2,17 @@
 ghost use Rattle.std.specs.Prelude.{◌≡◌, ◌++◌, OnOk, codes, string_bytes};
 ghost use Rattle.inspect_lines.specs.Faults.{status_text};
 ghost use Rattle.inspect_lines.specs.Output.{line_end};
-ghost use Rattle.inspect_run.specs.Reports.{counts_text, ending_text, error_text, run_text, trapped_text};
+ghost use Rattle.inspect_run.specs.Reports.{
+  counts_text,
+  ending_text,
+  error_text,
+  exit_text,
+  is_test,
+  run_text,
+  test_name,
+  test_text,
+  trapped_text,
+};
 
 use crate::pages::push_pages;
 use crate::run::Run;
@@ -30,12 +40,55 @@ fn push_error(out: &mut String, trap: TrapType) -> Result<(), AllocError>
     write!(out, "error mode by trap {trap}")
 }
 
+/// What failed, by the number of the test that `fit` added.
+fn test_name(kind: u32) -> &'static str
+    ensures { result.now ≡ test_name kind }
+{
+    match kind {
+        1 => "an index leaves its object",
+        2 => "a pointer leaves the data, isn't aligned, or leads to a constant",
+        3 => "a divisor is 0",
+        4 => "the loops have used up their turns",
+        5 => "calls go too deep",
+        9 => "a call through a pointer that is no function's",
+        _ => "nothing that has a name",
+    }
+}
+
+/// Whether a test that `fit` adds has this number.
+fn is_test(kind: u32) -> bool
+    ensures { result ≡ is_test kind }
+{
+    kind == 1 || kind == 2 || kind == 3 || kind == 4 || kind == 5 || kind == 9
+}
+
+/// What failed, in a line of its own, where an exit word is one of a test: its upper half is the number of that.
+fn push_test(out: &mut String, word: u32) -> Result<(), AllocError>
+    ensures { OnOk result (string_bytes out.new ≡ string_bytes out.old ++ test_text word) }
+{
+    let (kind, line) = (word / 0x1_0000, word % 0x1_0000);
+    if is_test(kind) {
+        let name = test_name(kind);
+        write!(out, "\n  as where a test fails, in line {line}: {name}")
+    } else {
+        Ok(())
+    }
+}
+
+/// An exit, and the test that its word tells of.
+fn push_exit(out: &mut String, word: u32) -> Result<(), AllocError>
+    ensures { OnOk result (string_bytes out.new ≡ string_bytes out.old ++ exit_text word) }
+{
+    write!(out, "exit with the word {word:08X}")?;
+    push_test(out, word)
+}
+
 /// How a run ended.
 fn push_ending(out: &mut String, ending: Ending, place: u32) -> Result<(), AllocError>
     ensures { OnOk result (string_bytes out.new ≡ string_bytes out.old ++ ending_text ending place) }
 {
     match ending {
-        Ending::Exit(word) => write!(out, "exit with the word {word:08X}"),
+        Ending::Exit(word) => push_exit(out, word),
         Ending::Trapped(trap) => push_trapped(out, trap, place),
         Ending::ErrorMode(trap) => push_error(out, trap),
         Ending::Limit => out.push_str("none: it would go on behind the limit"),

@@ -1,0 +1,162 @@
+"""Stops and steps, forward and back."""
+import os
+import random
+import re
+import time
+
+from mi import on_run
+from run import CC, EXAMPLES, put, run
+
+HERE = os.path.dirname(os.path.abspath(__file__))
+REGISTERS = [f"{kind}{number}" for kind in "goli" for number in range(8) if (kind, number) not in (("o", 6), ("i", 6))]
+STATE = "(" + ", ".join(f"${it}" for it in ("pc", "npc", "sp", "fp", "psr", "y", "turn")) + ")"
+
+
+def built_c(work, name, *words):
+    """The image of a program of this suite, made for gdb."""
+    image = work.at(f"{name}{''.join(words)}.img")
+    if not os.path.exists(image):
+        made = run([CC, f"{HERE}/programs/{name}.c", *words, "--debug", "-o", image])
+        work.tally.check(f"{name}.c {' '.join(words)} is made", made.status == 0, made.said)
+    return image
+
+
+def commands(work):
+    """The commands of docs/c.md on each count of windows."""
+    for windows in (4, 8, 32):
+        list_session(work, windows)
+        walk_session(work, windows)
+        chain_session(work, windows)
+    monitor_session(work)
+
+
+def asked(work, gdb, name, command, *wanted):
+    """Looks whether what a command tells has some texts."""
+    told = gdb.told(command)
+    for it in wanted:
+        work.tally.check(f"{name}: {command}", re.search(it, told) is not None, f"wanted {it}, came {told} {gdb.stop}")
+    return told
+
+
+def list_session(work, windows):
+    """From a bad pointer to the line that wrote it."""
+    name = f"list on {windows} windows"
+    with on_run(built_c(work, "list"), f"{HERE}/programs/list.in", windows) as gdb:
+        asked(work, gdb, name, "continue", r"list\.c:23: a pointer leaves", "c\nb\n")
+        asked(work, gdb, name, "backtrace", r"#0 .* main \(\) at list\.c:23")
+        asked(work, gdb, name, "print items[1]", r'name = "bartholo", next = 0x6d657')
+        asked(work, gdb, name, "watch -l items[1].next", "Hardware watchpoint")
+        asked(work, gdb, name, "reverse-continue", "Old value", "New value")
+        asked(work, gdb, name, "backtrace", r"#0 .* take \(it=.*<items\+12>\) at list\.c:13", r"#1 .* main \(\) at list\.c:20")
+        asked(work, gdb, name, "print n", "= 10")
+        asked(work, gdb, name, "print $turn", "= 362")
+        asked(work, gdb, name, "delete", "")
+        asked(work, gdb, name, "continue", r"list\.c:23: a pointer leaves")
+        asked(work, gdb, name, "continue", "")
+        work.tally.check(f"{name}: the end", 'reason="exited"' in gdb.stop, gdb.stop)
+
+
+def walk_session(work, windows):
+    """Breakpoints with conditions, and callers through calls that are jumps."""
+    name = f"walk on {windows} windows"
+    with on_run(built_c(work, "walk"), f"{HERE}/programs/walk.in", windows) as gdb:
+        asked(work, gdb, name, "break depth_of if at == 5", "Breakpoint")
+        asked(work, gdb, name, "continue", "")
+        told = asked(work, gdb, name, "backtrace", r"#0 .*depth_of \(at=5\)", r"#1 .*depth_of \(at=.*\) at walk\.c:1[23]",
+                     r"depth_of \(at=1\) at walk\.c:12\n#4 .*main \(\) at walk\.c:32")
+        work.tally.check(f"{name}: backtrace ends at main", "??" not in told, told)
+        asked(work, gdb, name, "print nodes[5]", r"left = 0, right = 0, key = 9")
+        asked(work, gdb, name, "delete", "")
+        asked(work, gdb, name, "break total_of", "Breakpoint")
+        asked(work, gdb, name, "continue", "")
+        asked(work, gdb, name, "reverse-continue", "")
+        asked(work, gdb, name, "print used", "= 0")
+
+
+def chain_session(work, windows):
+    """A hand-written program of twelve frames: callers through windows that are stored and such that aren't."""
+    name, folder = f"chain on {windows} windows", f"{EXAMPLES}/chain"
+    with on_run(f"{folder}/chain.img", None, windows, "--source", f"{folder}/chain.s") as gdb:
+        asked(work, gdb, name, "break *f11", "Breakpoint")
+        asked(work, gdb, name, "continue", "")
+        told = gdb.told("backtrace")
+        frames = len(re.findall(r"^#\d+", told, re.M))
+        work.tally.check(f"{name}: frames", frames >= 8 and "corrupt" not in told, told)
+        asked(work, gdb, name, "monitor windows", "window  3")
+
+
+def monitor_session(work):
+    """What `monitor` tells."""
+    with on_run(built_c(work, "list"), f"{HERE}/programs/list.in") as gdb:
+        asked(work, gdb, "monitor", "monitor goto 300", "of 552 turns are done|of 5")
+        asked(work, gdb, "monitor", "monitor turn", r"\d+ of \d+ turns are done")
+        asked(work, gdb, "monitor", "monitor why", r"list\.c:23: a pointer leaves")
+        asked(work, gdb, "monitor", "monitor turns on", "a step is a turn")
+        asked(work, gdb, "monitor", "monitor step 3", "turns are done")
+        asked(work, gdb, "monitor", "monitor turns off", "an instruction of the program")
+        asked(work, gdb, "monitor", "monitor raw on", "as it lies in RAM")
+        asked(work, gdb, "monitor", "monitor output", "")
+        asked(work, gdb, "monitor", "monitor nonsense", "monitor goto TURN")
+
+
+def state_of(gdb):
+    """Registers and some memory, as gdb tells them."""
+    gdb.told("maintenance flush register-cache")
+    return gdb.told("info registers") + gdb.told("x/32xw $sp") + gdb.told("x/8xw &items" if gdb.served else "x/8xw $pc")
+
+
+def back(work):
+    """Steps forward, then back, and goes to turns at random: what is seen at a turn is always the same."""
+    for windows in (4, 8, 32):
+        with on_run(built_c(work, "list"), f"{HERE}/programs/list.in", windows) as gdb:
+            seen = []
+            for _ in range(60):
+                seen.append((gdb.value("$turn"), state_of(gdb)))
+                gdb.told("stepi")
+            for turn, state in reversed(seen):
+                gdb.told("reverse-stepi")
+                work.tally.same(f"back to {turn} on {windows} windows", (gdb.value("$turn"), state_of(gdb)), (turn, state))
+            dice = random.Random(windows)
+            for turn, state in dice.sample(seen, 20):
+                gdb.told(f"monitor goto {dice.randrange(500)}")
+                gdb.told(f"monitor goto {turn}")
+                work.tally.same(f"goto {turn} on {windows} windows", state_of(gdb), state)
+
+
+def speed(work):
+    """Stops far away, and steps there."""
+    source = put(work.at("spin.c"), '#include "plug.h"\nint sum[4];\nint main(void) {\n    int end = get() << 16 | 1;\n'
+                 "    for (int i = 0; i < end; i++)\n        sum[i & 3] += i;\n    put(sum[1]);\n    return 0;\n}\n")
+    image = work.at("spin.img")
+    work.tally.check("spin.c is made", run([CC, source, "--debug", "-o", image]).status == 0)
+    for rounds, most in ((1, 600_000), *(((16, 10_000_000),) if work.is_long else ())):
+        given = put(work.at("spin.in"), bytes([rounds]))
+        with on_run(image, given, 8, "--limit", "20000000") as gdb:
+            steps(work, gdb, rounds << 16, most)
+
+
+def steps(work, gdb, rounds, least):
+    """Goes to the end of a run and back, and steps at both ends and in its middle; each step takes less than a
+    second."""
+    start = time.monotonic()
+    gdb.told("break 7")
+    gdb.told("continue")
+    total = int(gdb.value("$turn"))
+    work.tally.check(f"{rounds} rounds", total >= least, f"{total} turns")
+    print(f"  {total} turns: to the end in {time.monotonic() - start:.1f} s", flush=True)
+    for place in (total - 10, total // 2, 1000, total - 1000):
+        gdb.told(f"monitor goto {place}")
+        gdb.told("maintenance flush register-cache")
+        for command in ("stepi", "reverse-stepi", "step", "reverse-step"):
+            start = time.monotonic()
+            gdb.told(command)
+            taken = time.monotonic() - start
+            work.tally.check(f"{command} at {place} of {total}", taken < 1, f"{taken:.2f} s")
+    start = time.monotonic()
+    gdb.told("watch -l sum[1]")
+    gdb.told("reverse-continue")
+    print(f"  back to a watched store in {time.monotonic() - start:.2f} s", flush=True)
+    start = time.monotonic()
+    gdb.told("delete")
+    gdb.told("reverse-continue")
+    print(f"  back to the begin in {time.monotonic() - start:.1f} s", flush=True)

@@ -1,0 +1,115 @@
+"""The map of an image that ./cc made: which line of C, and which line of the compiler's assembly, each word of the code
+comes from, and the tests that ./fit added.
+
+A map is a text. Its first line has the SHA-256 of the image; then a line for each word, `00040010 0 123 name.c:7`: its
+address, the number of a file of assembly, a line of that, and the line of C; and one for each test, `test 0 123
+name.c:7
+the index into name (32 bytes)`, by the same numbers."""
+import bisect
+import collections
+import hashlib
+import re
+
+from loaded import CODE, Fault, bytes_of
+
+HEAD = re.compile(r"map of image ([0-9a-f]{64})")
+WORD = re.compile(r"([0-9A-F]{8}) (\d+) (\d+) (.+):(\d+)")
+TEST = re.compile(r"test (\d+) (\d+) (.+?):(\d+) (.*)")
+
+Origin = collections.namedtuple("Origin", "assembly row")  # the number of a file of assembly, and a line of it
+Place = collections.namedtuple("Place", "path line")
+Test = collections.namedtuple("Test", "origin place subject")
+
+
+class Map:
+    """What a map tells."""
+
+    def __init__(self):
+        self.words, self.tests = {}, []  # address to (origin, place); tests
+
+    def add(self, address, origin, place):
+        """Notes where a word comes from."""
+        self.words[address] = origin, place
+
+    def place(self, address):
+        """The line of C of a word; None where none is known."""
+        found = self.words.get(address)
+        return found and found[1]
+
+    def test_at(self, address):
+        """The test that a word belongs to; None where it belongs to none."""
+        found = self.words.get(address)
+        return next((it for it in self.tests if found and it.origin == found[0]), None)
+
+    def tests_in(self, line):
+        """The places of the tests in a line of any file."""
+        return sorted({it.place for it in self.tests if it.place.line == line})
+
+    def text(self, image):
+        """The map as a text, of an image with these bytes."""
+        lines = [f"map of image {hashlib.sha256(image).hexdigest()}"]
+        for address, (origin, place) in sorted(self.words.items()):
+            lines.append(f"{address:08X} {origin.assembly} {origin.row} {place.path}:{place.line}")
+        for test in self.tests:
+            (number, row), (path, line) = test.origin, test.place
+            lines.append(f"test {number} {row} {path}:{line} {test.subject}")
+        return "\n".join(lines) + "\n"
+
+
+def read(path, image):
+    """The map in a file, which has to be that of an image with these bytes."""
+    lines, found = bytes_of(path).decode("utf-8", "replace").splitlines(), Map()
+    head = HEAD.fullmatch(lines[0]) if lines else None
+    if head is None:
+        raise Fault(2, f"inspect: {path}: no map of ./cc's")
+    if head[1] != hashlib.sha256(image).hexdigest():
+        raise Fault(2, f"inspect: {path}: the map is another image's")
+    for line in lines[1:]:
+        word, test = WORD.fullmatch(line), TEST.fullmatch(line)
+        if word:
+            found.add(int(word[1], 16), Origin(int(word[2]), int(word[3])), Place(word[4], int(word[5])))
+        elif test:
+            origin, place = Origin(int(test[1]), int(test[2])), Place(test[3], int(test[4]))
+            found.tests.append(Test(origin, place, test[5]))
+    return found
+
+
+class Fitted:
+    """A source that ./fit made, word by word: where comments say that a word comes from, functions, and data by
+    name."""
+
+    COMMENT = re.compile(r"! (\S.*):(\d+)$")
+    OBJECT = re.compile(r"! (.+), at ([0-9A-F]{8})$")
+
+    def __init__(self, text):
+        self.rows = []  # of each word where it comes from, None where that isn't told, and its text
+        self.functions, self.objects = {}, []  # address to name; address, name, bytes
+        address, size = CODE, 0
+        for row in text.splitlines():
+            found = self.OBJECT.match(row)
+            if found:
+                self.objects.append([int(found[2], 16), found[1], 0])
+            elif row.startswith(".function"):
+                self.functions[address] = row.split()[1].split(",")[0]
+            elif row.startswith(("    .byte", "    .skip")) and self.objects:
+                size = row.count(",") + 1 if ".byte" in row else int(row.split()[1])
+                self.objects[-1][2] += size
+            elif re.match(r"    [a-z]", row):
+                comment = self.COMMENT.search(row)
+                self.rows.append(((comment[1], int(comment[2])) if comment else None, row.partition("!")[0]))
+                address += 4
+        self.end = address
+        self.without_gaps()
+
+    @property
+    def comments(self):
+        """Where each word comes from; None where that isn't told."""
+        return [it[0] for it in self.rows]
+
+    def without_gaps(self):
+        """Takes the zeros between two objects from the first one's size."""
+        starts = sorted(it[0] for it in self.objects)
+        for it in self.objects:
+            following = bisect.bisect_right(starts, it[0])
+            if following < len(starts):
+                it[2] = min(it[2], starts[following] - it[0])

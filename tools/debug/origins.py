@@ -1,0 +1,162 @@
+"""Which line of the compiler's assembly each word of an image comes from.
+
+./fit tells of a word the line of C that its instruction had. So each instruction is given a file of its own,
+`name.c#0.123`
+for row 123 of the assembly with the number 0, in a copy that ./fit reads: then it tells the row, too. Code and exit
+words
+stay what they are, since of a line they have its number alone; but divisions that have one line share a file, since
+their
+tests share an end."""
+import bisect
+import re
+import sys
+
+from loaded import CODE, TOP
+from maps import Fitted, Map, Origin, Place, Test
+
+sys.path.insert(0, f"{TOP}/tools/cc")
+from assembly import FILE, LABEL, PLACE, Assembly
+
+INSTRUCTION = re.compile(r"\s+([a-z]\w*)")
+DIVISION = re.compile(r"[us]div")
+BRANCH = re.compile(r"b(?!tst|set|clr|tog)|call\b")
+REGISTER = re.compile(r"%(?!hi|lo)\w+")
+# Conditions of branches that have two names, and those of the other ways.
+CONDITIONS = {"b": "ba", "bz": "be", "bnz": "bne", "bgeu": "bcc", "blu": "bcs"}
+OPPOSITES = {"be": "bne", "bg": "ble", "bge": "bl", "bgu": "bleu", "bcc": "bcs", "bpos": "bneg", "bvc": "bvs"}
+OPPOSITES |= {there: here for here, there in OPPOSITES.items()}
+MARK = re.compile(r"#(\d+)\.(\d+)")
+NOTE = re.compile(r"([^:\n]+):(\d+): note: (.*)")
+ROWS = re.compile(r"\s*\.loc\b", re.M)
+# The numbers of the files that are added begin here.
+FIRST = 1_000_000
+
+
+def instruction(line):
+    """The mnemonic of a line's instruction; None where it has none."""
+    found = INSTRUCTION.match(line)
+    return found and found[1]
+
+
+class Marked:
+    """A file of assembly, whose instructions are marked by their rows."""
+
+    def __init__(self, number, path, text):
+        self.number, self.path, self.lines = number, path, text.splitlines()
+        self.assembly = Assembly(text)
+        self.has_lines = ROWS.search(text) is not None
+        self.rows = [row for row, line in enumerate(self.lines, 1) if instruction(line)]
+        self.follows = dict(zip(self.rows, self.rows[1:]))
+        self.starts = [(row, line.partition(":")[0]) for row, line in enumerate(self.lines, 1)
+                       if LABEL.match(line) and not line.startswith(".L")]
+
+    def function(self, row):
+        """The name of the function that a row stands in, as the assembly has it."""
+        at = bisect.bisect_right(self.starts, (row, "\x7f")) - 1
+        return self.starts[at][1] if at >= 0 else None
+
+    def marked(self):
+        """The text for ./fit. One without lines of C stays as it is: there ./fit tells the row by itself."""
+        if not self.has_lines:
+            return "\n".join(self.lines) + "\n"
+        out, files, place, divisions = [], {}, None, {}
+        for row, line in enumerate(self.lines, 1):
+            file, told, label = FILE.match(line), PLACE.match(line), LABEL.match(line)
+            if file:
+                files[file[1]] = (file[3] or file[2]).rpartition("/")[2]
+            elif told and told[1] in files and int(told[2]) > 0:
+                place = files[told[1]], int(told[2])
+            elif label and not line.startswith(".L"):
+                place, divisions = None, {}
+            name = instruction(line)
+            if name:
+                path, number = place or (self.path.rpartition("/")[2], row)
+                mark = divisions.setdefault((path, number), row) if DIVISION.match(name) else row
+                out += [f'\t.file {FIRST + row} "{path}#{self.number}.{mark}"', f"\t.loc {FIRST + row} {number} 0"]
+            out.append(line)
+        return "\n".join(out) + "\n"
+
+    def labelled(self):
+        """The text for an assembler, in which each instruction has a label that tells its row."""
+        out = []
+        for row, line in enumerate(self.lines, 1):
+            out += [f".Lrow{self.number}.{row}:", line] if instruction(line) else [line]
+        return "\n".join(out) + "\n"
+
+
+def bare(text):
+    """A text without marks."""
+    return MARK.sub("", text)
+
+
+class Origins:
+    """The files of assembly of a program, and where its words come from."""
+
+    def __init__(self, paths, folder):
+        self.files, self.marked = [], []
+        for number, path in enumerate(paths):
+            with open(path, encoding="utf-8", errors="surrogateescape") as file:
+                self.files.append(Marked(number, path, file.read()))
+            self.marked.append(f"{folder}/{number}-{path.rpartition('/')[2]}" if self.files[-1].has_lines else path)
+            if self.files[-1].has_lines:
+                with open(self.marked[-1], "w", encoding="utf-8", errors="surrogateescape") as file:
+                    file.write(self.files[-1].marked())
+
+    def origin(self, name, line):
+        """The origin that a comment or a note of ./fit's tells of."""
+        mark = MARK.search(name)
+        if mark:
+            return Origin(int(mark[1]), int(mark[2]))
+        number = next((it.number for it in self.files if it.path == name), None)
+        return None if number is None else Origin(number, line)
+
+    def place(self, origin, name, line, shown):
+        """The line of C of an origin; `shown` gives a path as the author has it."""
+        found = origin and self.files[origin.assembly].assembly.place(origin.row)
+        return Place(shown(found[0]), found[1]) if found else Place(bare(name), line)
+
+    def map_of(self, source, notes, shown):
+        """The map of the image of a source that ./fit made of the marked files, with the notes that it told."""
+        mapped, last, behind, before = Map(), None, None, ""
+        for number, (comment, text) in enumerate(Fitted(source).rows):
+            if comment:
+                last = self.origin(*comment), comment
+            origin = last and last[0]
+            if origin and not comment:
+                origin = self.follower(origin, text, behind, before)
+            before = text
+            behind = origin if instruction(text) and BRANCH.match(instruction(text)) else None
+            if origin:
+                mapped.add(CODE + 4 * number, origin, self.place(origin, *last[1], shown))
+        for name, line, why in NOTE.findall(notes):
+            origin, (subject, is_test, _) = self.origin(name, int(line)), why.partition(" may be ")
+            if origin and is_test:
+                mapped.tests.append(Test(origin, self.place(origin, name, int(line), shown), subject))
+        return mapped
+
+    def follower(self, origin, text, branch, before):
+        """The origin of a word of which ./fit tells no line: that of the word before, but for a branch, a call, and
+        what
+        stands in its slot, where the compiler has such behind that. `branch` is the origin of a branch before the word,
+        `before` the text of what stands before it."""
+        marked = self.files[(branch or origin).assembly]
+        row = marked.follows.get((branch or origin).row)
+        if row is None:
+            return origin
+        theirs, following = marked.lines[(branch or origin).row - 1], marked.lines[row - 1]
+        if branch:
+            is_theirs = BRANCH.match(instruction(theirs))
+        else:
+            is_theirs = is_alike(text, following) and registers(before) == registers(theirs)
+        return Origin(marked.number, row) if is_theirs else origin
+
+
+def registers(text):
+    """The registers that an instruction names, but for %g0."""
+    return sorted(it for it in REGISTER.findall(text) if it != "%g0")
+
+
+def is_alike(text, theirs):
+    """Whether a branch may be another one, perhaps with its ways exchanged; or a call, another call."""
+    name, other = (CONDITIONS.get(it, it) for it in ((instruction(text) or "").partition(",")[0], instruction(theirs)))
+    return BRANCH.match(name) is not None and (name == other or OPPOSITES.get(name) == other)
