@@ -16,8 +16,8 @@
    - Threads. A handle is given to one call at a time. Between calls it may go to another thread, ordered by a lock or a join. Calls
      with different handles, and calls without any, run side by side in as many threads as you like: the library has no state of
      its own.
-   - No call from a signal handler, or from the forked child of a process that has threads; no longjmp out of one, and no
-     cancellation of a thread within one.
+   - No call from a signal handler; no longjmp out of one, and no cancellation of a thread within one. In the forked child of a process
+     that has threads a call is as malloc is there, since the library has no lock.
    - 64 KB of stack, an x86-64 processor with SSE4.2 and POPCNT (x86-64-v2), and malloc, realloc and free that are one allocator
      with blocks aligned to 16. Instead of these a host may define the three functions at the end.
 
@@ -30,7 +30,10 @@
    Where there are several reasons the first of these is told: WINDOWS, then NO_IMAGE or REFUSED, then SERVICES, then TURNS (only tested).
 
    An image declares its turns and its services, and the verifier holds it to them; it doesn't judge whether they are too many. That
-   is for you: give terms. */
+   is for you: give terms.
+
+   A run is a function of its image, its input and the count of windows: its output, its exit word, its turns, overflows and underflows
+   are the same wherever and how often it is made. So a run that was lost may be made again, or made twice and compared. */
 #ifndef GEYSERPAN_H
 #define GEYSERPAN_H
 #include <stddef.h>
@@ -62,14 +65,15 @@ enum geyserpan_status {
                                 rest of the report is that of the run */
     GEYSERPAN_ENDED = 8,     /* of step: the run has ended, what was written is all of its output, and done->exit is its exit word; a
                                 further step answers the same again, with nothing read or written (only tested) */
-    GEYSERPAN_WANTS = 9,     /* of step: the whole piece is read, it wasn't the last, and a byte is asked for: the board has failed for
-                                want of one; of the engine's step, the program's next turn takes one */
+    GEYSERPAN_WANTS = 9,     /* of step: the whole piece is read, and it wasn't the last. Of the engine's step, the program's next step
+                                takes a byte; of a board's, its port has failed, knows of no byte of input and holds none of output
+                                (that the program asks for one is only tested) */
     GEYSERPAN_FULL = 10,     /* of step: the room is full, and the program has put a byte out that isn't written, or puts it out next */
     GEYSERPAN_PAUSED = 11,   /* of step: all turns that were asked for are made; of the engine's, made or put by */
     GEYSERPAN_HANDLE = 12,   /* the handle of an image holds none, or that of a run holds no run; nothing is written, and of step and
                                 facts_of not `done` and `facts` either */
     GEYSERPAN_SOURCE = 13,   /* the source has a fault: why->number is the cause, 1 to 4 of X1 to X4, 5 to 9 of S1 to S5, 10 to 13 of A1
-                                to A4, and why->address the line */
+                                to A4, and why->address the line, at most 2^32 - 1 */
     GEYSERPAN_OUTPUT = 14,   /* the output is longer than the terms grant. Of run_image and once, which make the run to its end and then
                                 compare: report as with ROOM. Of step, which stops there: what is granted was written, and there is a
                                 byte more as with FULL; a further step answers the same with nothing read or written (only tested;
@@ -80,7 +84,7 @@ enum geyserpan_status {
 };
 
 /* What a program may ask for: to end, to read a byte of its input, to write a byte of its output. */
-enum geyserpan_service { GEYSERPAN_EXIT = 1, GEYSERPAN_GET = 2, GEYSERPAN_PUT = 4 };
+enum geyserpan_service { GEYSERPAN_EXIT = 1, GEYSERPAN_GET = 2, GEYSERPAN_PUT = 4, GEYSERPAN_ALL_SERVICES = 7 };
 
 /* What you grant: turns, at 40 million a second or so; bytes of output; services, as a sum of their numbers; and on how many register
    windows a run is made, 4 to 32, which changes turns and never the output. { 1000000, 65536, 7, 8 } is a fortieth of a second. Terms of

@@ -133,19 +133,30 @@ static uint32_t step(stepped run, uint64_t turns, const uint8_t *piece, size_t l
                      : geyserpan_engine_step(run.engine, turns, piece, length, last, to, most, done);
 }
 
+/* Whether a step did what the one before it ended for: behind WANTS it reads a byte of a piece, behind FULL it writes one, where it has
+   turns enough for a service. */
+static int is_answered(uint32_t before, int is_board, uint64_t turns, size_t piece, size_t most, const geyserpan_done *done)
+{
+    if (before == GEYSERPAN_WANTS && piece && turns >= (is_board ? 1 : 5))
+        return done->read > 0;
+    return before != GEYSERPAN_FULL || !most || turns < (is_board ? 0 : 5) || done->written > 0;
+}
+
 /* A run in pieces of so many bytes, rooms of so many, and so many turns a step. */
 static uint32_t in_pieces(stepped run, size_t piece, size_t most, uint64_t turns, size_t *length, geyserpan_done *done)
 {
     static const uint8_t none;
     size_t read = 0, written = 0;
     uint64_t made = 0;
-    uint32_t status;
+    uint32_t status = GEYSERPAN_OK;
     do {
         size_t next = input_length - read < piece ? input_length - read : piece;
         uint8_t *to = room + written, guard = to[most];
         uint64_t before = made;
+        uint32_t ended = status;
         status = step(run, turns, next ? input + read : &none, next, read + next == input_length, to, most, done);
         made = done->turns;
+        HOLDS(is_answered(ended, run.board != NULL, turns, next, most, done));
         HOLDS(made >= before && is_allowed(made - before, turns, status, run.board ? 0 : PUT_BY));
         HOLDS(done->read <= next && done->written <= most && to[most] == guard && !done->zero);
         HOLDS(status == GEYSERPAN_ENDED || !done->exit);

@@ -20,17 +20,24 @@ made nowhere but where a write took nothing (`put_all`), and no source has a str
 (STREAMS).
 
 Likewise the library for C: it tells MEMORY in the arm of a call that failed for want of it (WANTING), or behind the
-number of such a fault, and nowhere else, by that word alone.
+number of such a fault, and nowhere else, by that word alone; and each function there that tells a status gives its
+name, or what another one gave (statuses.py).
 
 It reads crates/*/src, and lists each place where a count of items is asked for at once (a vector's room, a text that
 is repeated, a width or a precision, what is put together of an iterator or a list, and a count that is handed to one
 of the sources' own functions that asks for it), since a growth that asks for more than there is would be refused,
-too. Each has to be among those that were read (READ), in a function whose words are still those that were read. A
-count that is a number, or is worked out of numbers, is found where it is more than anything has, and so is each that
-turns or moves bits, wraps, or is read of bytes or of a text. Memory that is asked for piece by piece, as by a loop
-that pushes without need, isn't looked at. Then it tries itself: each body of tests/evidence/bodies/CRATE, an edit
-that no clause speaks against, so that it proves or would with a proof of its own, is put into a copy of its file, and
-has to be found. It prints what it looked at and what it found."""
+too. Each has to be among those that were read (READ in read.py), in a function whose words are still those that were
+read. A count that is a number, or is worked out of numbers, is found where it is more than anything has, and so is
+each that turns or moves bits, wraps, or is read of bytes or of a text.
+
+Likewise each loop in which a call may fail, since memory that is asked for piece by piece is refused in the end, too:
+it goes once over a list that is there, stands in no other loop, and appends no list; or it is among those that were
+read (LOOPS), and so is a function that calls itself. Two lists that are appended to each other without a loop aren't
+looked at.
+
+Then it tries itself: each body of tests/evidence/bodies/CRATE, an edit that no clause speaks against, so that it proves
+or would with a proof of its own, is put into a copy of its file, and has to be found. It prints what it looked at and
+what it found."""
 import glob
 import os
 import re
@@ -42,8 +49,13 @@ HERE = os.path.dirname(os.path.abspath(__file__))
 sys.path.insert(0, f"{os.path.dirname(HERE)}/lib")
 from crates import TOP
 from edits import applied
+from read import LOOPS, READ
 from run import text_of
+from statuses import made_up_in
 from tally import Tally, Words
+from tokens import (
+    CLOSES, MOST, end_of, functions_of, loops_of, opener_of, statement_at, tokens_of, without_tests, words_at,
+)
 
 # What tells want of memory: crate, enum, variant, and the evidence that it has to hold, and nothing else.
 TELLS = [
@@ -124,9 +136,6 @@ WANTING = re.compile(
 )
 COMPARED = [f"if number == {it} {{ return" for it in ("NO_MEMORY_FAULT", "NO_MEMORY_RULE", "0")]
 
-# The most items that a number in a source may ask for: no table and no file has more.
-MOST = 16_777_216
-
 # Types whose methods make evidence where no growth was refused; a cell that may be lent stands where it is never
 # copied.
 MAKERS = ("OnceCell", "LazyCell", "OnceLock", "LazyLock", "Rc", "Arc", "RcStr", "ArcStr")
@@ -142,127 +151,10 @@ HANDED = ("repeated", "with_room", "zeros", "items_of")
 # Calls that ask for as much as an iterator or a list says.
 GATHERS = ("extend", "collect", "join", "concat")
 
-# The places that ask for a count of items at once, as they were read: what each asks for is no more than its call
-# needs. Each has a sum of its function's words up to there (`sum_at`), so that whoever changes those reads it again.
-READ = (
-    ("crates/cmd_files/src/words.rt",
-     "let mut words : Vec < String > = env :: args ( rt ) ? . collect ( rt . alloc ( ) ) ?", "d19430e7"),
-    ("crates/engine_store/src/frames.rt", "WORDS", "c7ff5263"),
-    ("crates/flat_plain/src/frames.rt", "count as usize", "a1974dd5"),
-    ("crates/inspect_run/src/sheet.rt", "a width of blanks", "aae67768"),
-    ("crates/inspect_start/src/start.rt", "BYTES", "1864bff6"),
-    ("crates/sbx_batch/src/batch.rt", "alloc , count", "65425b59"),
-    ("crates/sbx_batch/src/batch.rt", "alloc , batch . len ( )", "68ab676b"),
-    ("crates/sbx_bench/src/main.rt",
-     "let words : Vec < String > = env :: args ( & rt ) ? . collect ( rt . alloc ( ) ) ?", "f8c1f514"),
-    ("crates/sbx_bench/src/plain/ram.rt", "BYTES", "02598a55"),
-    ("crates/sbx_domain/src/room.rt", "alloc , count", "a4460ddb"),
-    ("crates/sbx_domain/src/state.rt", "alloc , None , LOCATIONS", "03565164"),
-    ("crates/sbx_image/src/reading.rt", "alloc , count as usize", "5f672da3"),
-    ("crates/sbx_image/src/reading.rt", "alloc , end , head . blocks as u32 , first , rest", "cf84e0fd"),
-    ("crates/sbx_image/src/reading.rt", "alloc , ( ) , head . cells as u32 , 0 , rest", "11c9b4ca"),
-    ("crates/sbx_image/src/reading.rt", "alloc , ( ) , head . terms as u32 , 0 , rest", "36cb78e6"),
-    ("crates/sbx_image/src/reading.rt", "alloc , ( ) , count as u32 , ( ) , bytes", "e7a2a755"),
-    ("crates/sbx_image/src/reading.rt", "alloc , ( ) , header . data_count , 0 , bytes", "1954c615"),
-    ("crates/sbx_image/src/reading.rt", "alloc , shapes . len ( )", "3ddcd4a5"),
-    ("crates/sbx_image/src/reading.rt", "alloc , ( ) , header . words , ( ) , rest", "c764df3b"),
-    ("crates/sbx_image/src/reading.rt", "alloc , setting , header . functions as u32 , first , rest", "4c007c33"),
-    ("crates/sbx_verdicts/src/fields.rt", 'text . split ( "" ) . collect ( alloc )', "c1c13fa5"),
-    ("crates/sbx_verdicts/src/fields.rt", "field . len ( ) / 2", "949e9000"),
-    ("crates/v8_memory/src/ram.rt", "count", "f0df05db"),
-    ("crates/v8_memory/src/ram.rt", "alloc , BYTES", "43b68f1a"),
-)
-
-TOKEN = re.compile(
-    r"""
-    (?P<blank>\s+|//[^\n]*|/\*.*?\*/)
-    |(?P<text>b?"(?:\\.|[^"\\])*"|r\#*".*?"\#*|b?'(?:\\.[^']*|[^'\\\n])')
-    |(?P<word>'?[A-Za-z_]\w*)
-    |(?P<number>\d[\w.]*)
-    |(?P<sign>::|->|=>|==|.)
-    """,
-    re.S | re.X,
-)
-# the width of a value in a text that is formatted, or its precision behind a dot: a number, a value's name or number
-# before `$`, or `*`
-WIDTH = re.compile(r"\{\w*:(?:[^{}]?[<^>])?[+#]*0?(\w+\$|[1-9]\d*)")
-PRECISION = re.compile(r"\{\w*:[^{}]*\.(\w+\$|\*|[1-9]\d*)")
-CLOSES = {"(": ")", "[": "]", "{": "}"}
-
-
-def tokens_of(text):
-    """Returns the tokens of a source, each with the number of its line; comments are none, and a text is one, of
-    which the widths and precisions are left that another value gives, or that are more than anything has."""
-    found, line = [], 1
-    for it in TOKEN.finditer(text):
-        if it.lastgroup == "text":
-            widths = [width for form in (WIDTH, PRECISION) for width in form.findall(it.group())]
-            widths = [width for width in widths if not width.isdecimal() or int(width) > MOST]
-            found.append(('"{:' + ",".join(widths) + '}"' if widths else '""', line))
-        elif it.lastgroup != "blank":
-            found.append((it.group(), line))
-        line += it.group().count("\n")
-    return found
-
-
-def end_of(tokens, at):
-    """Returns the place behind the bracket that closes the one at this place."""
-    depth = 0
-    for place in range(at, len(tokens)):
-        word = tokens[place][0]
-        depth += (word in CLOSES) - (word in CLOSES.values())
-        if not depth:
-            return place + 1
-    return len(tokens)
-
-
-def end_of_item(tokens, at):
-    """Returns the place behind an item: behind its first ';' or the first '{' that is closed."""
-    while at < len(tokens) and tokens[at][0] not in (";", "{"):
-        at = end_of(tokens, at) if tokens[at][0] in CLOSES else at + 1
-    return end_of(tokens, at) if at < len(tokens) and tokens[at][0] == "{" else at + 1
-
-
-def words_at(tokens, at, count):
-    """Returns so many words from this place on, as one text."""
-    return " ".join(word for word, _ in tokens[max(at, 0):max(at + count, 0)])
-
-
-def without_tests(tokens):
-    """Returns the tokens without tests, clauses and ghost items, and the names of the modules that hold tests."""
-    kept, names, at = [], [], 0
-    while at < len(tokens):
-        word = tokens[at][0]
-        if words_at(tokens, at, 7) == "# [ cfg ( test ) ]":
-            item = at + 7
-            names += [tokens[item + 1][0]] if words_at(tokens, item, 1) == "mod" else []
-            at = end_of_item(tokens, item)
-        elif words_at(tokens, at, 4) == "# [ test ]":
-            at = end_of_item(tokens, at + 4)
-        elif word == "ghost":
-            # a field of ghost ends with a comma, or where its type does
-            while at < len(tokens) and tokens[at][0] not in (";", ",", "}"):
-                at = end_of(tokens, at) if tokens[at][0] in CLOSES else at + 1
-        elif word in ("ensures", "requires"):
-            while at < len(tokens) and tokens[at][0] != "{":
-                at += 1
-            at = end_of(tokens, at)
-        else:
-            kept.append(tokens[at])
-            at += 1
-    return kept, names
-
-
-def opener_of(tokens, at):
-    """Returns the place of the bracket that is open around this place, or -1."""
-    depth = 0
-    for place in range(at - 1, -1, -1):
-        word = tokens[place][0]
-        if word in CLOSES and not depth:
-            return place
-        depth += (word in CLOSES.values()) - (word in CLOSES)
-    return -1
-
+# What is gone over once: a list by its name, with nothing counted; what may fail in a loop; and what appends a list.
+OVER = re.compile(r"for .* in (?:& )?(?:mut )?[a-z_]\w*(?: \. (?:\d|[a-z_]\w*)(?: \( \))?)*")
+FAILS = re.compile(r"\?|\b(?:Ok|Err|is_ok|is_err|ok)\b")
+APPENDS = re.compile(r"\b(?:extend\w*|append|push_str|write|writeln|insert_str|splice)\b (?:! )?\(")
 
 def is_parameter(tokens, at):
     """Whether the type at this place is one of a function's parameters."""
@@ -344,8 +236,8 @@ def form_of_kept(tokens, at):
 def arm_of(tokens, at):
     """Returns the pattern of the arm whose answer begins right before this place, as `=> Err(` or `=> return Err(`,
     and what is matched; None where there is no such arm."""
-    arrow = at - 1
-    while words_at(tokens, arrow, 1) in ("(", "Err", "return", "InspectFault", "HostFault", "::", "Stop", "CommandStop"):
+    arrow, around = at - 1, ("(", "Err", "return", "InspectFault", "HostFault", "::", "Stop", "CommandStop")
+    while words_at(tokens, arrow, 1) in around:
         arrow -= 1
     if words_at(tokens, arrow, 1) != "=>":
         return None
@@ -473,16 +365,6 @@ def maker_at(tokens, at):
     return word == "Error" and words_at(tokens, at - 2, 2) == "fmt ::" and words_at(tokens, at + 1, 1) != ">"
 
 
-def statement_at(tokens, at):
-    """Returns the words of the statement around this place."""
-    start, end = at, at
-    while start > 0 and tokens[start - 1][0] not in (";", "{", "}"):
-        start -= 1
-    while end < len(tokens) and tokens[end][0] not in (";", "{", "}"):
-        end += 1
-    return words_at(tokens, start, end - start)
-
-
 def asked_at(tokens, at):
     """Returns what a call at this place asks room for at once, as words; None where it asks for none."""
     word, before = tokens[at][0], words_at(tokens, at - 1, 1)
@@ -564,16 +446,36 @@ def sum_at(tokens, at):
     return f"{zlib.crc32(words_at(tokens, start, at - start).encode()):08x}"
 
 
+def loops_at(tokens):
+    """Yields what may ask for memory again and again, with no list that says how often: its line, its head as words
+    and a sum of its function's words up to its end; of a function that calls itself `fn` and its name."""
+    for at, head, opener, end, is_inner in loops_of(tokens):
+        body = words_at(tokens, opener, end - opener)
+        is_plain = OVER.fullmatch(head) and not is_inner and not APPENDS.search(body)
+        if FAILS.search(body) and not is_plain:
+            yield tokens[at][1], head, sum_at(tokens, end)
+    for name, _, opener, end in functions_of(tokens):
+        body = words_at(tokens, opener, end - opener)
+        is_again = re.search(rf"(?:(?<![.:] )|\bself \. |\bSelf :: )\b{name} (?:\(|::)", body)
+        if FAILS.search(body) and is_again:
+            yield tokens[opener][1], f"fn {name}", sum_at(tokens, end)
+
+
 class Sight:
     """What was seen in the sources: how often in which form, what asks for a count of items, and what was found."""
 
     def __init__(self):
-        self.files, self.forms, self.asks, self.found = 0, {}, [], []
+        self.files, self.forms, self.asks, self.loops, self.found = 0, {}, [], [], []
 
     def look_at(self, path, tokens):
         """Looks at the tokens of a file."""
         self.files += 1
         known = numbers_of(tokens)
+        for line, head, words_sum in loops_at(tokens):
+            self.loops.append(f"{path}:{line}: {head}")
+            if (path, head, words_sum) not in LOOPS:
+                self.found.append(f"{path}:{line}: it asks again and again, and nobody has read it: "
+                                  f"{(path, head, words_sum)}")
         for at, (word, line) in enumerate(tokens):
             if word in FORMS:
                 form = FORMS[word](tokens, at)
@@ -626,8 +528,11 @@ def sight_of(names, edited):
     """Looks at all sources of these crates."""
     sight = Sight()
     for crate in names:
-        for path, tokens in sources_of(crate, edited):
-            sight.look_at(os.path.relpath(path, TOP), tokens)
+        sources = [(os.path.relpath(path, TOP), tokens) for path, tokens in sources_of(crate, edited)]
+        for path, tokens in sources:
+            sight.look_at(path, tokens)
+        if f"crates/{crate}/" == LIBRARY:
+            sight.found += made_up_in(sources)
     return sight
 
 
@@ -665,6 +570,7 @@ def main(words):
     for (word, form), count in sorted(sight.forms.items(), key=str):
         print(f"{word}: {count} in {form}" if form else f"{word}: {count} made")
     print("a count of items is asked for at once:", *sight.asks, sep="\n  ")
+    print("memory may be asked for again and again:", *sight.loops, sep="\n  ")
     found = sight.found + list(variants_without({}))
     tally.check("the sources", not found, f"wanted no such place, came {'; '.join(found)}")
     try_bodies(tally)

@@ -1,4 +1,4 @@
-use Rattle.std.proofs.Common.{ap, subst, arith}
+use Rattle.std.proofs.Common.{false, [], ap, refl, rules, subst, arith}
 use Rattle.engine_stream.specs.Flows.{StopsSo}
 use Rattle.engine_stream.specs.declared.flow.RunEnd.{RunEnd}
 use Rattle.engine_runs.specs.declared.tally.Tally.{Tally}
@@ -66,3 +66,10 @@ rounds-preserved g c =
       rounds = omega (arith, so_many, onward, more);
       turns = c.in-Ok-exchange.ensures.1.1;
     }
+
+pub rounds-init : goal.rounds-init
+rounds-init g c = record {
+  goes = ([], false, [], (c.in-Ok.ensures, refl), search rules, search rules, search rules, search rules);
+  rounds = omega arith;
+  turns = c.in-Ok.course.tally.few;
+}
