@@ -8,21 +8,22 @@
 #define MOST 64
 
 /* What is to be called at the end: of atexit, or, with its object, of C++'s. */
-static struct {
+struct {
     void (*function)(void *);
     void *object;
-} told[MOST];
+} __exit_told[MOST];
 static unsigned count;
 /* None as long as nobody has told of a function: such a program has no call through a pointer for it. cc looks whether
-   the name is left in a program, and has main's return call exit then. */
+   this name or the list's is left in a program, and has main's return call exit then: a compiler that runs C++'s
+   constructors by itself leaves the list alone. */
 void (*__exit_functions)(void);
 
 /* (a function may tell of further ones, which run next) */
 static void run_all(void) {
     while (count > 0) {
         count--;
-        void (*function)(void *) = told[count].function;
-        if (function) function(told[count].object); /* (so that no call is left where nobody tells of one) */
+        void (*function)(void *) = __exit_told[count].function;
+        if (function) function(__exit_told[count].object); /* (so that no call is left where nobody tells of one) */
     }
 }
 
@@ -30,8 +31,8 @@ static void run_all(void) {
 int __cxa_atexit(void (*function)(void *), void *object, void *of) {
     (void)of;
     if (count == MOST) return -1;
-    told[count].function = function;
-    told[count++].object = object;
+    __exit_told[count].function = function;
+    __exit_told[count++].object = object;
     __exit_functions = run_all;
     return 0;
 }

@@ -193,10 +193,10 @@ def try_programs(author):
             author.tally.skip(name, COMPILER_PLUS)
             continue
         told = f"{len(inputs)} inputs, 0 differ"
-        author.called(0, told, *sources, *(["-std=gnu++20"] if is_plus else []), "--against", *inputs,
-                      tool=PLUS if is_plus else CC)
-        if has("clang") and not is_plus:
-            author.called(0, told, *sources, "--against", *inputs, env={**os.environ, "CC_SPARC": "clang"})
+        words = [*sources, *(["-std=gnu++20"] if is_plus else []), "--against", *inputs]
+        author.called(0, told, *words, tool=PLUS if is_plus else CC)
+        if has("clang"):
+            author.called(0, told, *words, tool=PLUS if is_plus else CC, env={**os.environ, "CC_SPARC": "clang"})
 
 
 def try_builds(author):

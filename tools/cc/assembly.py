@@ -22,8 +22,8 @@ OTHERWISE = {"e": "ne", "z": "ne", "g": "le", "ge": "l", "gu": "leu", "cc": "cs"
 OTHERWISE |= {there: here for here, there in OTHERWISE.items()} | {"nz": "e", "lu": "cc", "ne": "e", "cs": "cc"}
 # Text of constants, in which no name stands.
 TEXT = re.compile(r"\s*\.(asci[iz]|string|file|ident)\b")
-# The variable of exit.c that is there only where something calls atexit.
-AT_EXIT = re.compile(r"^(?:\s*\.(?:local|comm)\s+)?__exit_functions\b(?!\.\d)", re.M)
+# The variables of exit.c of which one is there only where something calls atexit.
+AT_EXIT = re.compile(r"^(?:\s*\.(?:local|comm)\s+)?__exit_(?:functions|told)\b(?!\.\d)", re.M)
 START = """
 	.section	".text"
 	.align 4
