@@ -1,4 +1,4 @@
-//! A machine of one's own, whose states a model in Python told, which was written apart (tools/v8_machine.py).
+//! A machine of one's own, whose states a model in Python told, which was written apart (tools/vectors/v8_machine.py).
 ghost use Rattle.std.specs.Prelude.{◌≤◌};
 
 use crate::machine_windows;
