@@ -3,15 +3,16 @@ a crate, or by the crate's prefix; a head of crates.txt reads `# RING: FLOOR`.""
 import dataclasses
 
 # From the one that carries the promise outward.
-RINGS = ("promise", "language", "engine", "native", "inspect", "cmd", "fit", "hosts", "tests")
+RINGS = ("promise", "language", "engine", "native", "leon", "inspect", "cmd", "fit", "hosts", "tests")
 # The crates whose contracts say the promise: all below them is its ring.
 PROMISE = ("sbx_run", "sbx_stream", "sbx_batch")
 LANGUAGE = ("sbx_asm",)
 # A ring by the first part of a name, and the crates whose names don't tell it.
-PREFIXES = {"engine": "engine", "inspect": "inspect", "cmd": "cmd", "fit": "fit", "native": "native",
+PREFIXES = {"engine": "engine", "inspect": "inspect", "cmd": "cmd", "fit": "fit", "native": "native", "leon": "leon",
             "flat": "tests"}
 OTHERS = {"sbx_tool": "cmd", "sbx_reader": "cmd", "sbx_session": "hosts", "host": "hosts", "geyserpan": "hosts",
-          "v8_vectors": "tests", "v8_turns": "tests", "sbx_verdicts": "tests", "sbx_bench": "tests"}
+          "board": "leon", "v8_vectors": "tests", "v8_turns": "tests", "sbx_verdicts": "tests",
+          "sbx_bench": "tests"}
 
 
 @dataclasses.dataclass

@@ -3,6 +3,7 @@
 # The places that ask for a count of items at once, as they were read: what each asks for is no more than its call
 # needs. Each has a sum of its function's words up to there (`sum_at`), so that whoever changes those reads it again.
 READ = (
+    ("crates/board/src/files.rt", "SEGMENT as usize , 0", "7dd4dcc5"),
     ("crates/cmd_files/src/words.rt",
      "let mut words : Vec < String > = env :: args ( rt ) ? . collect ( rt . alloc ( ) ) ?", "d19430e7"),
     ("crates/engine_store/src/each.rt", "alloc , items . len ( )", "57686bb9"),
@@ -37,6 +38,10 @@ READ = (
 # The loops in which memory may be asked for and that don't go once over a list, and the functions that call themselves,
 # as they were read: none asks for more than its call needs. Each has a sum of its function's words up to its end.
 LOOPS = (
+    ("crates/board/src/files.rt", "for word in words", "5e91a40b"),
+    ("crates/board/src/files.rt", "for bytes in loaded . bytes . chunks ( RECORD )", "406cf94d"),
+    ("crates/board/src/main.rt", "for chunk in bytes . chunks ( 4 )", "993a0142"),
+    ("crates/board/src/main.rt", "for number in 0..u64 :: from ( RAM ) / 4", "da44b0ec"),
     ("crates/cmd_filing/src/images.rt", "for _ in 0..u64 :: MAX", "2eac437a"),
     ("crates/cmd_filing/src/reading.rt", "for _ in 0..u64 :: MAX", "c55dc408"),
     ("crates/engine_runs/src/flat_session.rt", "for _round in 0..u64 :: MAX", "689481f5"),

@@ -37,9 +37,7 @@ class Leon:
         with open(bios, "wb") as file:
             file.write(bytes.fromhex("01000000") * 16)
         self.errors = open(f"{self.room.name}/errors", "w+", encoding="utf-8", errors="replace")
-        words = [PROGRAM, "-M", "leon3_generic", "-cpu", f"LEON3,nwindows={windows}", "-m", "1", "-bios", bios,
-                 "-display", "none",
-                 "-serial", "none", "-monitor", "none", "-S", "-gdb", f"unix:{path},server=on,wait=off"]
+        words = self.words(windows, bios, path)
         # (it ends by a signal where the machine is in error mode)
         resource.setrlimit(resource.RLIMIT_CORE, (0, resource.getrlimit(resource.RLIMIT_CORE)[1]))
         self.process = subprocess.Popen(words, stdin=subprocess.DEVNULL, stdout=self.errors, stderr=self.errors)
@@ -55,6 +53,12 @@ class Leon:
         self.ask("QStartNoAckMode")
         self.socket.sendall(b"+")
         self.ask("Qqemu.PhyMemMode:1")
+
+    def words(self, windows, bios, path):
+        """How QEMU is called; its gdb stub is at a socket of this path."""
+        return [PROGRAM, "-M", "leon3_generic", "-cpu", f"LEON3,nwindows={windows}", "-m", "1", "-bios", bios,
+                "-display", "none", "-serial", "none", "-monitor", "none", "-S", "-gdb",
+                f"unix:{path},server=on,wait=off"]
 
     def close(self):
         self.socket.close()

@@ -20,6 +20,7 @@ SAMPLES = {
     "host": (f"{EXAMPLES}/hello/hello.img",),
     "fit": (f"{TOP}/crates/fit/data/upper.s", "-o", os.devnull),
     "native": (f"{EXAMPLES}/hello/hello.img", "-o", os.devnull),
+    "board": (f"{EXAMPLES}/hello/hello.img", os.devnull),
 }
 # So long may a command run, in seconds, where a suite says nothing else.
 SECONDS = 120

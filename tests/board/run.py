@@ -1,0 +1,363 @@
+#!/usr/bin/env python3
+"""usage: tests/board/run.py [--runs N] [PART ..]
+
+Runs accepted images natively in QEMU's LEON3, by what `./board` makes of them, and compares them with what their runs
+have to be: exit word, output, window traps, and no other trap. Parts:
+
+  words      the sources in embed/leon, assembled anew, beside the words that `./board` writes
+  loaded     each word of RAM beside the sandbox machine's, as tools/vectors/v8_board.py has it, moved to where RAM
+             begins, but for the words that are a LEON's own
+  start      the state in which an image begins, and RAM there, read back by QEMU's gdb stub
+  examples   the examples on 4, 8 and 32 windows, by RAM and over the UART, with caches and without
+  programs   the programs of examples/c on five inputs each
+  verdicts   N of the stored runs (500), on their counts of windows
+  refused    images that aren't accepted, other words, places that can't be, files that can't be written
+  speed      turns a second beside board and engine
+
+It needs qemu-system-sparc, and binutils for SPARC for the first part; what isn't there is told and skipped."""
+import os
+import re
+import subprocess
+import sys
+import tempfile
+import time
+
+sys.dont_write_bytecode = True
+HERE = os.path.dirname(os.path.abspath(__file__))
+sys.path[:0] = [f"{os.path.dirname(HERE)}/lib", HERE]
+sys.path.append(f"{os.path.dirname(os.path.dirname(HERE))}/tools/vectors")
+import leon
+import v8_board
+from qemu import Leon
+from run import (EXAMPLES, FIT, HOST, INSPECT, SANDBOX, TOP, built, bytes_of, has, least_kib, program, put, run,
+                 within)
+from tally import Tally, Words
+
+BOARD = f"{TOP}/board"
+STORED = f"{TOP}/crates/sbx_verdicts/stdin"
+AS, LD, COPY, NAMES = (f"sparc64-linux-gnu-{it}" for it in ("as", "ld", "objcopy", "nm"))
+# Where the sections of the sources lie: the stub in physical memory, all else in virtual one.
+SECTIONS = {".text": leon.RAM + 0x4000, ".services": 0xF0000800, ".other": 0xF0002000, ".routines": 0xF0001100}
+# Where they lie in RAM, and how a trap type's vector is told from the others.
+SERVICES, ROUTINES, STUB = 0x800, 0x1100, 0x4000
+OWN_VECTORS = (0x05, 0x06, 0x80, 0x81, 0x82)
+
+
+def made(image, out, *more):
+    """Makes a program of an image; what `./board` says of it."""
+    return run([BOARD, image, out, *more])
+
+
+def assembled(room, services, windows):
+    """The sections of the stub and of the services, assembled."""
+    values = {"WINDOWS": windows, "MAIL": 0xF0010000, "APB": 0xF0011000, "BOOT_TABLE": leon.RAM + 0x3000,
+              "CONTEXT_TABLE": leon.RAM + 0x2000}
+    symbols = [word for it in values.items() for word in ("--defsym", f"{it[0]}={it[1]}")]
+    for name in ("boot", services):
+        subprocess.run([AS, "-32", "-Av8", *symbols, f"{TOP}/embed/leon/{name}.s", "-o", f"{room}/{name}.o"],
+                       check=True)
+    places = "".join(f"{name} {place:#x} : {{ *({name}) }}\n" for name, place in SECTIONS.items())
+    put(f"{room}/map.ld", f"SECTIONS {{ {places} /DISCARD/ : {{ *(*) }} }}\n".encode())
+    subprocess.run([LD, "-m", "elf32_sparc", "-T", f"{room}/map.ld", "-e", "boot", f"{room}/boot.o",
+                    f"{room}/{services}.o", "-o", f"{room}/all"], check=True)
+    found = {}
+    for name in SECTIONS:
+        subprocess.run([COPY, "-O", "binary", "-j", name, f"{room}/all", f"{room}/part"], check=True)
+        found[name] = bytes_of(f"{room}/part")
+    return found
+
+
+def vectors_are(tally, name, ram, parts):
+    """Whether each trap type has the vector that the sources give it."""
+    tally.same(f"{name}: vectors of the services", ram[SERVICES : SERVICES + 48], parts[".services"])
+    others = {ram[16 * it : 16 * it + 16] for it in range(256) if it not in OWN_VECTORS}
+    tally.same(f"{name}: every other vector", others, {parts[".other"]})
+
+
+def words(tally, _asked):
+    if not has(AS):
+        tally.skip("words", AS)
+        return
+    for services, option in (("mail", "--mailbox"), ("uart", "--uart")):
+        for windows in (4, 8, 31, 32):
+            with tempfile.TemporaryDirectory() as room:
+                name = f"{services} on {windows} windows"
+                made(f"{EXAMPLES}/hello/hello.img", f"{room}/elf", option, "--windows", str(windows))
+                ram, _ = leon.bytes_at(f"{room}/elf")
+                parts = assembled(room, services, windows)
+                vectors_are(tally, name, ram, parts)
+                for part, place in ((".routines", ROUTINES), (".text", STUB)):
+                    tally.same(f"{name}: {part}", ram[place : place + len(parts[part])], parts[part])
+
+
+def examples():
+    """Name, image and input of each example."""
+    for name in sorted(os.listdir(EXAMPLES)):
+        image = f"{EXAMPLES}/{name}/{name}.img"
+        if os.path.exists(image):
+            given = f"{EXAMPLES}/{name}/{name}.in"
+            yield name, image, bytes_of(given) if os.path.exists(given) else b""
+
+
+def own_places(base):
+    """The words that are a LEON's own: vectors but those of the window traps, routines, entries of the device's page,
+    of that behind it and of the buffers, the stub with its tables, the mailbox."""
+    vectors = [at for at in range(0, 0x1000, 4) if at // 16 not in (0x05, 0x06)]
+    tables = [0x2904, 0x2D40, 0x2D44, 0x3000, 0x3400 + (base >> 24) * 4, 0x37C0]
+    return {*vectors, *range(ROUTINES, 0x2000, 4), *tables, *range(STUB, STUB + 4 * 62, 4),
+            *range(leon.MAIL, leon.MAIL + 32, 4)}
+
+
+def moved(place, word, base, cached):
+    """A word of the sandbox machine's RAM where RAM begins at `base`."""
+    if not 0x2000 <= place < 0x2E00 or word == 0:
+        return word
+    return word + (base >> 4) + (0x80 if cached and word & 3 == 2 else 0)
+
+
+def loaded(tally, _asked):
+    for name, image, _ in examples():
+        for windows, base, more in ((4, leon.RAM, []), (8, 0, []), (32, 0xEF000000, ["--cached"])):
+            with tempfile.TemporaryDirectory() as room:
+                made(image, f"{room}/elf", "--windows", str(windows), "--ram", hex(base), *more)
+                ram, at = leon.bytes_at(f"{room}/elf")
+            board = v8_board.Board(windows, v8_board.Image(bytes_of(image)), b"")
+            own = own_places(base)
+            wanted = {it: moved(it, board.word(it), base, bool(more))
+                      for it in range(0, leon.SIZE, 4) if it not in own}
+            others = [hex(it) for it, word in wanted.items() if leon.word_of(ram, it) != word]
+            tally.same(f"{name} on {windows} windows, RAM at {base:#x}", (at, others[:9]), (base, []))
+
+
+def board_run(image, given, windows):
+    """What a board's run has to be: output, end and window traps."""
+    out = run([SANDBOX, "run", "--windows", str(windows), image], given).out
+    told = run([INSPECT, "run", "--limit", "9999999999", "--windows", str(windows), image], given).said
+    word = re.search(r"exit with the word ([0-9A-F]{8})", told)
+    traps = re.search(r"window traps: (\d+) overflows?, (\d+) underflows?", told)
+    return leon.Run(out, f"exit {word[1] if word else '?'}", (int(traps[1]), int(traps[2]), []) if traps else None)
+
+
+def compare(tally, name, image, given, windows=8, more=()):
+    """Whether a run in RAM is the board's, traps too."""
+    with tempfile.TemporaryDirectory() as room:
+        put(f"{room}/in", given)
+        ran = made(image, f"{room}/elf", "--windows", str(windows), "--input", f"{room}/in", *more)
+        if tally.check(f"{name}: made", ran.status == 0, ran.said):
+            wanted = board_run(image, given, windows)
+            tally.same(f"{name} on {windows} windows", leon.run_in_ram(f"{room}/elf", windows, True), wanted)
+
+
+def compare_by_uart(tally, name, image, given):
+    """Whether a run over the UART is the board's."""
+    with tempfile.TemporaryDirectory() as room:
+        ran = made(image, f"{room}/elf", "--uart")
+        if tally.check(f"{name}: made for the UART", ran.status == 0, ran.said):
+            wanted = board_run(image, given, 8)._replace(traps=None)
+            tally.same(f"{name} over the UART", leon.run_by_uart(f"{room}/elf", given), wanted)
+
+
+def examples_run(tally, _asked):
+    built("sandbox", "inspect")
+    for name, image, given in examples():
+        for windows in (4, 8, 32):
+            compare(tally, name, image, given, windows)
+        compare(tally, f"{name}, cached", image, given, 8, ["--cached"])
+        compare_by_uart(tally, name, image, given)
+
+
+def programs(tally, _asked):
+    built("sandbox", "inspect", "fit")
+    inputs = [bytes_of(f"{EXAMPLES}/c/in/{it}") for it in sorted(os.listdir(f"{EXAMPLES}/c/in"))]
+    plug = f"{EXAMPLES}/c/gcc/plug.s"
+    with tempfile.TemporaryDirectory() as room:
+        for name in sorted(it.removesuffix(".s") for it in os.listdir(f"{EXAMPLES}/c/gcc") if it != "plug.s"):
+            source, image = f"{room}/{name}.s", f"{room}/{name}.img"
+            run([FIT, f"{EXAMPLES}/c/gcc/{name}.s", plug, "-o", source])
+            ran = run([SANDBOX, "asm", source, image])
+            if tally.check(f"an image of {name}", ran.status == 0, ran.said[:300]):
+                own = bytes_of(f"{EXAMPLES}/c/in/{name}")
+                for number, given in enumerate([own, b"", *[it for it in inputs if it != own][:3]]):
+                    compare(tally, f"{name}, input {number}", image, given)
+
+
+def stored(limit):
+    """Stored runs of accepted images, evenly taken: image, windows, input, exit word, output, traps."""
+    found, data = [], None
+    with open(STORED, encoding="ascii") as lines:
+        for line in lines:
+            row = line.split()
+            if row[:1] == ["image"]:
+                data = bytes.fromhex(row[1]) if row[2] == "accepted" else None
+            elif row[:1] == ["run"] and data is not None:
+                found.append((data, row[1:]))
+    step = max(1, len(found) // limit)
+    return found[::step][:limit]
+
+
+def hexadecimal(word):
+    return b"" if word == "-" else bytes.fromhex(word)
+
+
+def verdicts(tally, asked):
+    for number, (data, row) in enumerate(stored(asked.runs)):
+        windows, given, word, output, _, overflows, underflows = row
+        with tempfile.TemporaryDirectory() as room:
+            put(f"{room}/img", data)
+            put(f"{room}/in", hexadecimal(given))
+            ran = made(f"{room}/img", f"{room}/elf", "--windows", windows, "--input", f"{room}/in")
+            if tally.check(f"run {number}: made", ran.status == 0, ran.said):
+                traps = (int(overflows), int(underflows), [])
+                wanted = leon.Run(hexadecimal(output), f"exit {word.upper()}", traps)
+                tally.same(f"run {number}", leon.run_in_ram(f"{room}/elf", int(windows), True), wanted)
+
+
+class Stub(Leon):
+    """A LEON3 with a program, which runs up to the first instruction of the image."""
+
+    def __init__(self, elf):
+        self.elf = elf
+        super().__init__(8)
+
+    def words(self, windows, bios, path):
+        return [leon.PROGRAM, "-M", "leon3_generic", "-m", "4", "-kernel", self.elf, "-display", "none", "-serial",
+                "none", "-monitor", "none", "-S", "-gdb", f"unix:{path},server=on,wait=off"]
+
+
+def state_at_start(elf):
+    """The registers before an image's first instruction, and RAM, by QEMU's gdb stub."""
+    stub = Stub(elf)
+    try:
+        stub.ask("Qqemu.PhyMemMode:0")
+        stub.ask("Z1,40000,4")
+        stub.ask("c")
+        text = stub.ask("g")
+        stub.ask("Qqemu.PhyMemMode:1")
+        ram = b"".join(bytes.fromhex(stub.ask(f"m{leon.RAM + at:x},800")) for at in range(0, leon.SIZE, 0x800))
+    finally:
+        stub.close()
+    return [int(text[at : at + 8], 16) for at in range(0, 8 * 72, 8)], ram
+
+
+def start(tally, _asked):
+    """(of the profile's start only PIL is another one, which user code can't tell; the way out marks one entry)"""
+    with tempfile.TemporaryDirectory() as room:
+        for name in ("hello", "chain"):
+            made(f"{EXAMPLES}/{name}/{name}.img", f"{room}/elf")
+            registers, ram = state_at_start(f"{room}/elf")
+            y_to_npc = registers[64:70]
+            psr = y_to_npc[1]
+            found = {"S": psr >> 7 & 1, "ET": psr >> 5 & 1, "CWP": psr & 31, "EF, EC": psr >> 12 & 3,
+                     "WIM": y_to_npc[2], "TBA": y_to_npc[3] >> 12, "PC": y_to_npc[4], "nPC": y_to_npc[5],
+                     "%sp": registers[14]}
+            wanted = {"S": 0, "ET": 1, "CWP": 0, "EF, EC": 0, "WIM": 2, "TBA": 0xF0000, "PC": 0x40000,
+                      "nPC": 0x40004, "%sp": 0xFFFC0}
+            tally.same(f"{name}: the state before its first instruction", found, wanted)
+            loaded, _ = leon.bytes_at(f"{room}/elf")
+            others = [at for at in range(0x2000, 0x2E00, 4)
+                      if (leon.word_of(ram, at) ^ leon.word_of(loaded, at)) & ~0x60]
+            tally.same(f"{name}: the tables but for R and M", others, [])
+            others = [at for at in range(0x10000, 0xA0000, 4) if leon.word_of(ram, at) != leon.word_of(loaded, at)]
+            tally.same(f"{name}: code, data and stack", others, [])
+
+
+def refused(tally, _asked):
+    hello = f"{EXAMPLES}/hello/hello.img"
+    with tempfile.TemporaryDirectory() as room:
+        out = f"{room}/elf"
+        for name in sorted(os.listdir(f"{EXAMPLES}/refused")):
+            if name.endswith(".img"):
+                ran = made(f"{EXAMPLES}/refused/{name}", out)
+                told = run([SANDBOX, "verify", f"{EXAMPLES}/refused/{name}"]).said
+                tally.check(f"{name} is refused", ran.status == 2 and told in ran.said, ran.said)
+                tally.check(f"{name}: nothing was written", not os.path.exists(out))
+        put(f"{room}/long", bytes(131073))
+        put(f"{room}/none", b"no image")
+        for more, status, text in (
+            (["--ram", "0x1000"], 3, "--ram wants"), (["--ram", "0xf0000000"], 3, "--ram wants"),
+            (["--ram", "ten"], 3, "--ram wants"), (["--windows", "3"], 3, "--windows wants"),
+            (["--windows", "33"], 3, "--windows wants"), (["--device", "0x40001000"], 3, "lies in RAM"),
+            (["--device", "12"], 3, "--device wants"), (["--uart", "--mailbox"], 3, "one way is wanted"),
+            (["--uart", "--input", f"{room}/none"], 3, "--input is for"), (["--fast"], 3, "--fast is no option"),
+            (["--input", f"{room}/long"], 4, "more than 131072"), (["--input", f"{room}/gone"], 4, "no such file"),
+            (["--input"], 3, "--input wants"), (["another"], 3, "--help"),
+        ):
+            ran = made(hello, out, *more)
+            tally.check(f"{' '.join(more)}", ran.status == status and text in ran.said, f"{ran.status} {ran.said}")
+            tally.check(f"{' '.join(more)}: nothing was written", not os.path.exists(out))
+        for image, status in ((f"{room}/none", 2), (f"{room}/gone", 4), (room, 4)):
+            tally.same(f"{os.path.basename(image)} as an image", made(image, out).status, status)
+        tally.same("a folder that isn't there", made(hello, f"{room}/gone/elf").status, 4)
+        tally.same("a full device", made(hello, "/dev/full").status, 4)
+        tally.check("it stays", os.path.exists("/dev/full"))
+        want_of_memory(tally, hello, room)
+        tally.same("no words", run([BOARD]).status, 3)
+        tally.same("--help", run([BOARD, "--help"]).status, 0)
+        records_load(tally, hello, room)
+
+
+def want_of_memory(tally, image, room):
+    """Whether want of memory is told, and leaves no file, however much there is."""
+    whole = least_kib([program("board"), image, f"{room}/elf"], 1 << 16)
+    for kib in range(whole - 4, whole // 2, -max(4, whole // 40)):
+        out = f"{room}/{kib}"
+        ran = run([program("board"), image, out], preexec_fn=within(kib))
+        told = (ran.status == 4 and ran.said == "board: memory") or (ran.status == 2 and "refused V19" in ran.said)
+        tally.check(f"{kib} of {whole} KiB", told or ran.status < 0, f"{ran.status} {ran.said}")
+        tally.check(f"{kib} of {whole} KiB: nothing was written", not os.path.exists(out))
+
+
+def records_load(tally, image, room):
+    """Whether S-records have the bytes of the ELF file."""
+    made(image, f"{room}/elf")
+    made(image, f"{room}/srec", "--srec")
+    ram, base = leon.bytes_at(f"{room}/elf")
+    if not has(COPY):
+        tally.skip("S-records", COPY)
+        return
+    run([COPY, "-I", "srec", "-O", "binary", f"{room}/srec", f"{room}/bytes"])
+    stored = bytes_of(f"{room}/bytes")
+    tally.same("S-records: the bytes", stored, ram[: len(stored)])
+    tally.check("S-records: all of them", stored.ljust(len(ram), b"\0") == ram)
+    last = bytes_of(f"{room}/srec").splitlines()[-1]
+    tally.same("S-records: where it begins", last[:12], f"S705{base + STUB:08X}".encode())
+
+
+def speed(tally, _asked):
+    """Tells seconds, start and all, of one run of each; nothing is held to a bound, since machines are shared."""
+    built("sandbox", "host")
+    image = f"{TOP}/crates/sbx_bench/data/arithmetic.img"
+    if not os.path.exists(image):
+        image = f"{EXAMPLES}/sieve/sieve.img"
+    with tempfile.TemporaryDirectory() as room:
+        made(image, f"{room}/elf")
+        ways = {"QEMU's LEON3": lambda: leon.run_in_ram(f"{room}/elf"), "board": lambda: run([SANDBOX, "run", image]),
+                "engine": lambda: run([HOST, "run", "--engine", "--max-turns", "1099511627776", image])}
+        for name, way in ways.items():
+            begun = time.monotonic()
+            way()
+            print(f"{name}: {time.monotonic() - begun:.2f} seconds for {os.path.basename(image)}")
+    tally.passes(1)
+
+
+PARTS = {"words": words, "loaded": loaded, "start": start, "examples": examples_run, "programs": programs,
+         "verdicts": verdicts, "refused": refused, "speed": speed}
+
+
+def main(asked_words):
+    asked = Words(__doc__)
+    asked.add_argument("--runs", type=int, default=500)
+    asked.add_names("parts", PARTS)
+    asked = asked.parse_args(asked_words)
+    tally = Tally("board")
+    built("board")
+    for name in asked.parts or PARTS:
+        if name not in ("words", "loaded", "refused") and not leon.is_there():
+            tally.skip(name, leon.PROGRAM)
+        else:
+            PARTS[name](tally, asked)
+    return tally.end()
+
+
+if __name__ == "__main__":
+    sys.exit(main(sys.argv[1:]))
