@@ -8,6 +8,7 @@ one for each suite, and whether docs/contracts.md is what tools/contracts prints
 import glob
 import os
 import re
+import shlex
 import subprocess
 import sys
 import tempfile
@@ -15,11 +16,14 @@ import tempfile
 sys.dont_write_bytecode = True
 sys.path.insert(0, f"{os.path.dirname(os.path.dirname(os.path.abspath(__file__)))}/lib")
 from crates import TOP, crates
-from run import built, put, text_of
+from run import built, has, put, text_of
 from tally import Tally, Words
 
 # The seconds that a command may take, above all one that waits for a keystroke.
 PATIENCE = 60
+# What a session needs, by Debian's packages.
+NEEDED = {"gdb-multiarch": "gdb-multiarch", "sparc64-linux-gnu-gcc": "gcc-sparc64-linux-gnu"}
+PROMPT = "(gdb) "
 
 FENCE = re.compile(r"^(\s*)```(.*)$")
 
@@ -95,6 +99,31 @@ def play(tally, page, folder):
                 came = printed_by(command, folder)
                 name = f"{os.path.relpath(page, TOP)}:{start}: $ {command}"
                 tally.check(name, agrees(wanted, came), f"wanted {wanted}, came {came}")
+        if words == ["session"]:
+            play_session(tally, page, folder, commands(number, lines))
+
+
+def play_session(tally, page, folder, steps):
+    """Runs a block of commands that need a compiler, or gdb, which gets the lines behind its prompt: what is shown is
+    printed in this order, among other lines, and `..` in a line stands for any text. Where these aren't there it is
+    skipped."""
+    for tool, package in NEEDED.items():
+        if not has(tool):
+            tally.skip(f"a session of {os.path.relpath(page, TOP)}", f"Debian's package {package}")
+            return
+    for start, command, shown in steps:
+        asked = [it.removeprefix(PROMPT) for it in shown if it.startswith(PROMPT)]
+        words = " -batch" + "".join(f" -ex {shlex.quote(it)}" for it in asked) if asked else ""
+        came = iter(printed_by(command + words, folder))
+        wanted = [it for it in shown if not it.startswith(PROMPT)]
+        missing = [it for it in wanted if not any(is_alike(it.strip(), line.strip()) for line in came)]
+        name = f"{os.path.relpath(page, TOP)}:{start}: $ {command}"
+        tally.check(name, not missing, f"wanted {missing[:1]}")
+
+
+def is_alike(wanted, line):
+    """Whether a line is the one that is wanted, where '..' stands for any text."""
+    return re.fullmatch(".*".join(re.escape(it) for it in wanted.split("..")), line) is not None
 
 
 def headings(text):

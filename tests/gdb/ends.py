@@ -4,7 +4,7 @@ import os
 import re
 
 from mi import GDB, on_run
-from run import CC, EXAMPLES, HOST, INSPECT, bytes_of, has, program, put, run, text_of
+from run import CC, EXAMPLES, INSPECT, TOP, bytes_of, has, program, put, run, text_of
 
 HERE = os.path.dirname(os.path.abspath(__file__))
 KINDS = f"{HERE}/programs/kinds.c"
@@ -15,10 +15,9 @@ ENDS = {
     "d0": ("7 / number", "a divisor is 0", "a divisor is 0"),
     "l1": ("while (number", "the loops have used up their turns", "the loops have used up their turns"),
     "s9": ("static int deep", "calls go too deep", "calls go too deep"),
-    "f7": ("put(ways[", "a call through a pointer that is no function's", "a call through a pointer that is no function's"),
+    "f7": ("put(ways[", "a call through a pointer that is no function's",
+           "a call through a pointer that is no function's"),
 }
-# What the map has no file of: the tests that calls through pointers come with.
-FILELESS = ("f7",)
 SIGNALS = {"i9": "SIGSEGV", "p9": "SIGSEGV", "d0": "SIGFPE", "l1": "SIGXCPU", "s9": "SIGSEGV", "f7": "SIGSEGV"}
 
 
@@ -34,7 +33,7 @@ def ends(work):
     if not tally.check("kinds.c is accepted", made.status == 0, made.said):
         return
     for given, (text, why, plain) in ENDS.items():
-        place = f"line {line_of(text)}" if given in FILELESS else f"kinds.c:{line_of(text)}"
+        place = f"kinds.c:{line_of(text)}"
         told = run([CC, KINDS, "--turns", "100000", "--run"], given.encode()).said
         tally.check(f"cc --run on {given}", f"{place}: {why}" in told, f"wanted {place}: {why}, came {told[-300:]}")
         told = run([INSPECT, "run", "--limit", "1000000", image], given.encode()).said
@@ -43,7 +42,13 @@ def ends(work):
         told = run([INSPECT, "run", "--limit", "1000000", "--map", mapped, image], given.encode()).err.decode()
         tally.check(f"inspect run --map on {given}", f"{place}: {why}" in told, f"wanted {place}: {why}, came {told}")
         by_gdb(work, image, given, f"{place}: {why}")
-        by_host(work, image, given, f"line {line_of(text)}: {plain}")
+        by_page(work, image, given, f"{place}: {why}")
+        wanted = f"{place}: {why}", f"line {line_of(text)}: "
+        by_program(work, "host", ["--max-turns", "1000000000000", image], given, wanted)
+        by_program(work, "native", [image], given, wanted)
+    against = put(work.at("against.in"), "i9")
+    told = run([CC, KINDS, "--turns", "100000", "--against", against]).said
+    tally.check("cc --against", f"here {KINDS}:{line_of(ENDS['i9'][0])}: the index into name" in told, told[-300:])
     told = run([CC, KINDS, "--run"], b"a0").said
     tally.check("cc --run where abort is called", "abort was called" in told, told[-200:])
     told = run([CC, KINDS, "--run"], b"x0").said
@@ -62,19 +67,28 @@ def by_gdb(work, image, given, wanted):
         told = gdb.told("continue")
         work.tally.check(f"gdb on {given}", wanted in told and SIGNALS[given] in gdb.stop,
                          f"wanted {wanted} as {SIGNALS[given]}, came {told} {gdb.stop}")
-        if given not in FILELESS:
-            path, line = wanted.split(":")[:2]
-            told = gdb.told("info line *$pc")
-            work.tally.check(f"gdb on {given} stops at the line", f"Line {line} of \"{path}\"" in told, told)
+        path, line = wanted.split(":")[:2]
+        told = gdb.told("info line *$pc")
+        work.tally.check(f"gdb on {given} stops at the line", f"Line {line} of \"{path}\"" in told, told)
 
 
-def by_host(work, image, given, wanted):
-    """What the host tells of an end, where its program stands."""
-    if not os.path.exists(program("host")):
-        work.tally.skip(f"host on {given}", "the program host")
+def by_program(work, name, words, given, wanted):
+    """What one of the programs tells of an end, where it stands: with the map, and without."""
+    if not os.path.exists(program(name)):
+        work.tally.skip(f"{name} on {given}", f"the program {name}")
         return
-    told = run([HOST, "run", "--max-turns", "1000000000000", image], given.encode()).said
-    work.tally.check(f"host run on {given}", wanted in told, f"wanted {wanted}, came {told}")
+    for more, it in zip((["--map", work.at("kinds.map")], []), wanted):
+        ran = run([f"{TOP}/{name}", "run", *more, *words], given.encode())
+        work.tally.check(f"{name} run {' '.join(more[:1])} on {given}", it in ran.err.decode() and ran.status == 1,
+                         f"wanted {it}, came {ran.said}")
+
+
+def by_page(work, image, given, wanted):
+    """What a page's data tell of an end, in hexadecimal."""
+    words = [INSPECT, "page", "--limit", "1000000", "--map", work.at("kinds.map"), image]
+    found = re.search(r"^z([0-9A-F]+)$", run(words, given.encode()).out.decode(), re.M)
+    told = bytes.fromhex(found[1]).decode() if found else "nothing"
+    work.tally.check(f"inspect page --map on {given}", wanted in told, f"wanted {wanted}, came {told}")
 
 
 def images(work):
@@ -90,10 +104,12 @@ def images(work):
         work.tally.same(f"{name} with --map", bytes_of(mapped), bytes_of(plain))
         work.tally.same(f"{name} with --debug", bytes_of(debugged), bytes_of(plain))
         work.tally.check(f"{name}: variables", "no variables" not in made[-1].said, made[-1].said)
-        notes = [it.partition("note: ")[0] for it in run([CC, path, "--notes", "-o", plain]).said.splitlines() if "note: " in it]
+        said = run([CC, path, "--notes", "-o", plain]).said.splitlines()
+        notes = sorted(it.partition(": note: ")[0] for it in said if ": note: " in it and "main is" not in it)
         told = re.findall(r"^test \d+ \d+ (.*?:\d+) ", text_of(work.at("mapped.map")), re.M)
-        work.tally.same(f"{name}: tests in the map", sorted(it + ": " for it in told), sorted(it for it in notes if "main is" not in it))
+        work.tally.same(f"{name}: tests in the map", sorted(told), notes)
         if has("sparc64-linux-gnu-readelf"):
-            told = run(["sparc64-linux-gnu-readelf", "--debug-dump=info,line,loc,Ranges,frames", work.at("debugged.elf")]).err
-            bad = [it for it in told.decode().splitlines() if "rror" in it]
+            shown = "--debug-dump=info,line,loc,Ranges,frames"
+            told = run(["sparc64-linux-gnu-readelf", shown, work.at("debugged.elf")]).err.decode()
+            bad = [it for it in told.splitlines() if "rror" in it]
             work.tally.check(f"{name}: the ELF file is read", not bad, "; ".join(bad[:3]))

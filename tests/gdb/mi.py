@@ -8,7 +8,7 @@ import time
 from run import INSPECT
 
 GDB = "gdb-multiarch"
-PATIENCE = 120
+PATIENCE = 600
 SETTINGS = ("set sysroot /", "set confirm off", "set remotetimeout 120", "set filename-display basename", "set width 0")
 
 

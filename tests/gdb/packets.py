@@ -10,8 +10,9 @@ SERVED = [INSPECT, "gdb", ECHO]
 COUNT, AT_ONCE = 20_000, 1_000
 LETTERS = b"?gGpPmMZzcCsSvqQHTRDX!bk0123456789abcdef,;:+-=#$}*\x03\xff "
 # What looks like gdb's own.
-FORMS = (b"m%x,%x", b"p%x", b"P%x=%x", b"Z%x,%x,%x", b"z%x,%x,%x", b"qRcmd,%x", b"vCont;r%x,%x", b"qXfer:features:read:target.xml:%x,%x",
-         b"bc", b"bs", b"vCont;s", b"vCont;c", b"monitor", b"qXfer:exec-file:read::%x,%x", b"s%x", b"c%x")
+FORMS = (b"m%x,%x", b"p%x", b"P%x=%x", b"Z%x,%x,%x", b"z%x,%x,%x", b"qRcmd,%x", b"vCont;r%x,%x",
+         b"qXfer:features:read:target.xml:%x,%x", b"bc", b"bs", b"vCont;s", b"vCont;c", b"monitor",
+         b"qXfer:exec-file:read::%x,%x", b"s%x", b"c%x")
 
 
 def framed(body):
@@ -41,9 +42,10 @@ def packets(work):
         text = b"".join(it for pair in zip(noise, map(framed, sent)) for it in pair)
         ran = run([*SERVED[:-1], "--input", given, ECHO], text + framed(b"p44") + framed(b"D"), 300)
         answers = re.findall(rb"\+\$([^#]*)#[0-9a-f]{2}", ran.out.replace(b"$O", b"+$O"))
-        tally.check(f"packets from {first} on: an end", ran.status == 0 and not ran.err, f"status {ran.status}: {ran.err[-300:]}")
-        tally.check(f"packets from {first} on: an answer each", len(answers) >= len(sent) + 2, f"{len(answers)} of {len(sent) + 2}")
-        tally.check(f"packets from {first} on: the last ones", ran.out.rstrip(b"+").endswith(b"$OK#9a"), ran.out[-60:])
+        name, wanted = f"packets from {first} on", len(sent) + 2
+        tally.check(f"{name}: an end", ran.status == 0 and not ran.err, f"status {ran.status}: {ran.err[-300:]}")
+        tally.check(f"{name}: an answer each", len(answers) >= wanted, f"{len(answers)} of {wanted}")
+        tally.check(f"{name}: the last ones", ran.out.rstrip(b"+").endswith(b"$OK#9a"), ran.out[-60:])
     ran = run(SERVED, b"$p44#00" + framed(b"p44") + framed(b"D"))
     tally.check("a wrong sum", ran.out.startswith(b"-+$"), ran.out[:20])
     ran = run(SERVED, b"$" + b"m" * 200_000 + framed(b"D"))
@@ -75,7 +77,8 @@ def refused(work):
             (["--nosuch", hello], 3, "Usage: inspect gdb")):
         ran = run([INSPECT, "gdb", *words], asked, cwd=work.folder)
         name = " ".join(os.path.basename(it) for it in words)
-        work.tally.check(f"inspect gdb {name}", ran.status == status and told in ran.err.decode() and b"Traceback" not in ran.err,
+        is_told = told in ran.err.decode() and b"Traceback" not in ran.err
+        work.tally.check(f"inspect gdb {name}", ran.status == status and is_told,
                          f"wanted {status} {told}, came {ran.status} {ran.said}")
     ran = run([INSPECT, "gdb", "--limit", "3", hello], asked + framed(b"c") + framed(b"c") + framed(b"D"))
     work.tally.check("a limit that is met", b"replaylog:end" in ran.out and ran.status == 0, ran.said)

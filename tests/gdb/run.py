@@ -2,18 +2,17 @@
 """usage: tests/gdb/run.py [--long] [PART ..]
 
 Drives gdb-multiarch on runs by its machine interface, and tells ends of runs by every program that shows one. Parts,
-all
-where none is named:
+all where none is named (tests/run docs plays the sessions of the pages):
 
   ends       exit words of tests, told by ./cc --run, ./inspect run, ./inspect run --map, ./host and gdb
   images     what ./cc --debug and --map leave beside an image; its bytes are those without
+  states     `inspect states --from`: the state behind a turn goes on as the run does
   commands   stops, breakpoints, watched bytes, backtraces and `monitor`, on 4, 8 and 32 windows
   back       stepping back gives what was there, on any way
   values     values of variables beside those of the same program for this machine
   packets    20,000 random packets: answers, no crash, no hang
-  page       what docs/c.md shows of a run that stops
   refused    files that aren't there, or another image's: a line each
-  speed      runs of 100,000 and 1,000,000 turns; with --long of 10,000,000
+  speed      runs of 100,000 and 1,000,000 turns; with --long of 10,000,000: each step takes less than a second
 
 Without gdb-multiarch, or a compiler for SPARC, what needs it is skipped."""
 import os
@@ -24,17 +23,18 @@ sys.dont_write_bytecode = True
 HERE = os.path.dirname(os.path.abspath(__file__))
 sys.path.insert(0, f"{os.path.dirname(HERE)}/lib")
 from ends import ends, images
+from later import states
 from mi import GDB
 from packets import packets, refused
-from page import page
 from run import built, has
 from stops import back, commands, speed
 from tally import Tally, Words
 from values import values
 
 COMPILER = "sparc64-linux-gnu-gcc"
-PARTS = {it.__name__: it for it in (ends, images, commands, back, values, packets, page, refused, speed)}
-WITHOUT_GDB, WITHOUT_COMPILER = ("ends", "images", "packets", "refused"), ("packets", "refused")
+PARTS = {it.__name__: it for it in (ends, images, states, commands, back, values, packets, refused, speed)}
+WITHOUT_COMPILER = ("states", "packets", "refused")
+WITHOUT_GDB = ("ends", "images", *WITHOUT_COMPILER)
 
 
 class Work:

@@ -47,7 +47,8 @@ def list_session(work, windows):
         asked(work, gdb, name, "print items[1]", r'name = "bartholo", next = 0x6d657')
         asked(work, gdb, name, "watch -l items[1].next", "Hardware watchpoint")
         asked(work, gdb, name, "reverse-continue", "Old value", "New value")
-        asked(work, gdb, name, "backtrace", r"#0 .* take \(it=.*<items\+12>\) at list\.c:13", r"#1 .* main \(\) at list\.c:20")
+        asked(work, gdb, name, "backtrace", r"#0 .* take \(it=.*<items\+12>\) at list\.c:13",
+              r"#1 .* main \(\) at list\.c:20")
         asked(work, gdb, name, "print n", "= 10")
         asked(work, gdb, name, "print $turn", "= 362")
         asked(work, gdb, name, "delete", "")
@@ -62,7 +63,8 @@ def walk_session(work, windows):
     with on_run(built_c(work, "walk"), f"{HERE}/programs/walk.in", windows) as gdb:
         asked(work, gdb, name, "break depth_of if at == 5", "Breakpoint")
         asked(work, gdb, name, "continue", "")
-        told = asked(work, gdb, name, "backtrace", r"#0 .*depth_of \(at=5\)", r"#1 .*depth_of \(at=.*\) at walk\.c:1[23]",
+        told = asked(work, gdb, name, "backtrace", r"#0 .*depth_of \(at=5\)",
+                     r"#1 .*depth_of \(at=.*\) at walk\.c:1[23]",
                      r"depth_of \(at=1\) at walk\.c:12\n#4 .*main \(\) at walk\.c:32")
         work.tally.check(f"{name}: backtrace ends at main", "??" not in told, told)
         asked(work, gdb, name, "print nodes[5]", r"left = 0, right = 0, key = 9")
@@ -115,7 +117,8 @@ def back(work):
                 gdb.told("stepi")
             for turn, state in reversed(seen):
                 gdb.told("reverse-stepi")
-                work.tally.same(f"back to {turn} on {windows} windows", (gdb.value("$turn"), state_of(gdb)), (turn, state))
+                came = gdb.value("$turn"), state_of(gdb)
+                work.tally.same(f"back to {turn} on {windows} windows", came, (turn, state))
             dice = random.Random(windows)
             for turn, state in dice.sample(seen, 20):
                 gdb.told(f"monitor goto {dice.randrange(500)}")
@@ -125,14 +128,14 @@ def back(work):
 
 def speed(work):
     """Stops far away, and steps there."""
-    source = put(work.at("spin.c"), '#include "plug.h"\nint sum[4];\nint main(void) {\n    int end = get() << 16 | 1;\n'
+    source = put(work.at("spin.c"), '#include "plug.h"\nint sum[4];\nint main(void) {\n    int end = get() << 13 | 1;\n'
                  "    for (int i = 0; i < end; i++)\n        sum[i & 3] += i;\n    put(sum[1]);\n    return 0;\n}\n")
     image = work.at("spin.img")
     work.tally.check("spin.c is made", run([CC, source, "--debug", "-o", image]).status == 0)
-    for rounds, most in ((1, 600_000), *(((16, 10_000_000),) if work.is_long else ())):
+    for rounds, least in ((2, 100_000), (12, 1_000_000), *(((120, 10_000_000),) if work.is_long else ())):
         given = put(work.at("spin.in"), bytes([rounds]))
         with on_run(image, given, 8, "--limit", "20000000") as gdb:
-            steps(work, gdb, rounds << 16, most)
+            steps(work, gdb, rounds << 13, least)
 
 
 def steps(work, gdb, rounds, least):

@@ -3,7 +3,7 @@ import os
 import re
 
 from mi import Gdb, on_run
-from run import CC, EXAMPLES, TOP, put, run
+from run import CC, EXAMPLES, TOP, has, put, run
 
 HERE = os.path.dirname(os.path.abspath(__file__))
 PROGRAMS = ("rle", "wc", "base64", "crc32", "control", "packet", "sieve", "fir", "sort")
@@ -12,11 +12,11 @@ STOPS = 40
 PLAIN = re.compile(r"-?\d+( '.*')?$")
 
 
-def native_of(work, path, level):
-    """The same program for this machine."""
-    out = work.at(os.path.basename(path) + level)
-    words = ["gcc", level, "-g", "-fwrapv", "-fno-strict-aliasing", "-w", "-DNATIVE", "-I", f"{TOP}/runtime", path, "-o", out]
-    return out if run(words).status == 0 else None
+def native_of(work, path, level, compiler):
+    """The same program for this machine, by the same compiler."""
+    out = work.at(os.path.basename(path) + level + compiler)
+    words = [compiler, level, "-g", "-fwrapv", "-fno-strict-aliasing", "-w", "-DNATIVE", "-I", f"{TOP}/runtime"]
+    return out if run([*words, path, "-o", out]).status == 0 else None
 
 
 def lines_of(gdb, path):
@@ -45,8 +45,7 @@ def seen_at(gdb, lines, path):
 
 def alike(came, wanted):
     """The stops of both while their lines are the same, from where the most are: one may stop at its begin as well,
-    and where
-    the ways of both compilers part no more is compared."""
+    and where the ways of both compilers part no more is compared."""
     def together(first, second):
         pairs = list(zip(came[first:], wanted[second:]))
         count = next((at for at, (one, other) in enumerate(pairs) if one[0] != other[0]), len(pairs))
@@ -55,17 +54,24 @@ def alike(came, wanted):
 
 
 def values(work):
-    """At -O0 and -Og, where both have a value at a line, they agree."""
-    both = 0
-    for name in PROGRAMS:
-        path, given = f"{EXAMPLES}/c/{name}.c", input_of(work, name)
-        for level in ("-O0", "-Og"):
-            image, native = work.at(f"{name}{level}.img"), native_of(work, path, level)
-            made = run([CC, path, level, "--debug", "-o", image])
-            if native is None or not work.tally.check(f"{name} {level} is made", made.status == 0, made.said):
-                continue
-            both += compare(work, f"{name} {level}", path, given, image, native)
-    work.tally.check("values that both have", both > 300, f"{both}")
+    """At -O0 and -Og, where both have a value at a line, they agree; by gcc, and by clang where it is there."""
+    for compiler, path in (("gcc", "sparc64-linux-gnu-gcc"), ("clang", "clang")):
+        if has(compiler) and has(path):
+            both = sum(values_of(work, name, level, compiler, path) for name in PROGRAMS for level in ("-O0", "-Og"))
+            work.tally.check(f"values that both have by {compiler}", both > 300, f"{both}")
+        else:
+            work.tally.skip(f"values by {compiler}", f"Debian's packages {compiler} and {path}")
+
+
+def values_of(work, name, level, compiler, path):
+    """Compares the values of a program at a level by a compiler; returns how many both have."""
+    source, given, image = f"{EXAMPLES}/c/{name}.c", input_of(work, name), work.at(f"{name}{level}{compiler}.img")
+    native = native_of(work, source, level, compiler)
+    made = run([CC, source, level, "--debug", "-o", image], env={**os.environ, "CC_SPARC": path})
+    at = f"{name} {level} by {compiler}"
+    if native is None or not work.tally.check(f"{at} is made", made.status == 0, made.said):
+        return 0
+    return compare(work, at, source, given, image, native)
 
 
 def input_of(work, name):

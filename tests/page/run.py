@@ -12,6 +12,7 @@ where none is named:
   keys       keys, buttons and links, and what those need who see no colour or nothing
   runs       two runs side by side
   stops      what is looked for is found
+  c          the lines of C beside the words, by a map; names of a source. It needs a compiler for SPARC
   strangers  images that put out markup
   fits       four sizes of window
   speed      100,000 turns
@@ -28,6 +29,7 @@ sys.dont_write_bytecode = True
 HERE = os.path.dirname(os.path.abspath(__file__))
 sys.path.insert(0, f"{os.path.dirname(HERE)}/lib")
 from browser import Browser, Chromium, Firefox
+from mapped import c
 from pages import Pages
 from plain import data, words
 from planted import planted
@@ -38,7 +40,7 @@ from tally import Tally, Words
 from used import keys, runs, stops
 
 PLAIN = {it.__name__: it for it in (data, words)}
-PARTS = {it.__name__: it for it in (turns, course, keys, runs, stops, strangers, fits, speed, planted)}
+PARTS = {it.__name__: it for it in (turns, course, keys, runs, stops, c, strangers, fits, speed, planted)}
 # The script that looks at a page, without its first line, a comment.
 Browser.looks = text_of(f"{HERE}/looks.js").partition("\n")[2].strip()
 

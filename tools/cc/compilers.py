@@ -30,7 +30,8 @@ SHAPED = """-fno-tree-loop-distribute-patterns -fno-ivopts -fno-schedule-insns -
     -fno-tree-vectorize -fno-tree-loop-ivcanon -fno-split-loops -fno-thread-jumps -fno-crossjumping
     -fno-tree-tail-merge --param logical-op-non-short-circuit=0 --param max-inline-insns-auto=30
     --param max-inline-insns-recursive-auto=0 --param early-inlining-insns=60""".split()
-CLANG = """--target=sparc-linux-gnu -mcpu=v8 -msoft-float -g1 -fno-pic -fno-pie -fno-jump-tables
+# (clang's debug information of version 5 names all by numbers in further tables)
+CLANG = """--target=sparc-linux-gnu -mcpu=v8 -msoft-float -g1 -gdwarf-4 -fno-pic -fno-pie -fno-jump-tables
     -fno-optimize-sibling-calls -fno-asynchronous-unwind-tables -fno-stack-protector -fno-common -fno-strict-aliasing
     -fwrapv -Wreturn-type -fno-vectorize -fno-slp-vectorize -fno-unroll-loops -mllvm -disable-sparc-delay-filler
     -mllvm -sparc-reserve-app-registers""".split()
@@ -80,7 +81,7 @@ def compiler_of(request):
 class Compiler:
     """What both have in common."""
 
-    target, size_level, library_flags = [], "-Os", []
+    target, size_level, library_flags, variables = [], "-Os", [], ["-g"]
 
     def __init__(self, path, request):
         self.path, self.request = path, request
@@ -120,7 +121,7 @@ class Compiler:
     @property
     def telling(self):
         """What makes a compiler tell of variables."""
-        return ["-g"] if self.request.debugs else []
+        return self.variables if self.request.debugs else []
 
     def for_size(self, level):
         """What makes less code beside the level."""
@@ -165,6 +166,8 @@ class Gcc(Compiler):
     kind = ["-c", "-flto"]
     # (an address of a variable in a register that is kept over calls would have to be tested, where it is a constant)
     library_flags = ["-fno-gcse", "-fno-move-loop-invariants"]
+    # (without statements' places, so that words have the lines, and tests the exit words, that they have by -g1)
+    variables = ["-g", "-gno-statement-frontiers"]
 
     @property
     def archiver(self):

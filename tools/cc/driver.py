@@ -234,7 +234,7 @@ def perform(request):
         if request.out:
             shutil.copyfile(image, request.out)
             say(*left_beside(build))
-        status = Comparison(request, image, work).all() if request.inputs else 0
+        status = Comparison(request, image, build.mapped, work).all() if request.inputs else 0
         return run_image(request, image, build.mapped) if request.runs else status
 
 

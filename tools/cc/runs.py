@@ -10,7 +10,7 @@ from fault import Fault
 from request import ending_of, is_plus
 
 sys.path.insert(0, f"{TOP}/tools/debug")
-from ends import ABORTED, end_told, told_of
+from ends import ABORTED, end_told
 
 # The compiler for this machine, where a program is compared with itself.
 NATIVE = "-O1 -fwrapv -fno-strict-aliasing -w -DNATIVE".split()
@@ -26,12 +26,6 @@ def end_of(image, given):
     told = ran.stdout.decode("utf-8", "replace")
     word = re.search(r"^end: exit with the word ([0-9A-F]{8})$", told, re.M)
     return int(word[1], 16) if word else None
-
-
-def why_of(word, request):
-    """An exit word in words."""
-    place = f"{request.files[0]}:{word & 0xFFFF}" if len(request.files) == 1 else None
-    return told_of(word, place) or f"the exit word is {word} ({word:08X})"
 
 
 def run_image(request, image, mapped):
@@ -75,8 +69,8 @@ def difference(wanted, came):
 class Comparison:
     """An image beside the same program for this machine."""
 
-    def __init__(self, request, image, work):
-        self.request, self.image = request, image
+    def __init__(self, request, image, mapped, work):
+        self.request, self.image, self.mapped = request, image, mapped
         self.program = native_of(request, work)
 
     def natively(self, given):
@@ -104,7 +98,8 @@ class Comparison:
         word = end_of(self.image, given) if came.returncode else 0
         parts = [difference(wanted[0], came.stdout)]
         if self.ends_differ(wanted[1], word):
-            why = why_of(word, self.request) if word else f"status {came.returncode}"
+            why = end_told(self.image, given, self.mapped) if word else None
+            why = why or f"status {came.returncode}"
             parts.append(f"natively {self.native_end(wanted[1])}, here {why}")
         return "; ".join(filter(None, parts)) or None
 

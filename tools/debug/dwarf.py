@@ -80,8 +80,8 @@ END_SEQUENCE = b"\0\1\1"
 
 
 def line_program(rows, files, end):
-    """.debug_line, version 3: a row for each address where file or line is another. `rows` are addresses with a file's
-    name and a line."""
+    """.debug_line, version 3: a row for each address where file or line is another. `rows` are addresses with a
+    file's name and a line."""
     out, file, line = bytearray(), 1, 1
     for address, name, number in rows:
         out += set_address(address)
@@ -100,12 +100,9 @@ def line_program(rows, files, end):
 
 def frame_rules(is_framed, behind, begins):
     """Rules of a function of an image: a SAVE saves locals and ins at the frame's address, %fp. `behind` is where its
-    frame
-    ends in the data if it lies there, as one whose address is taken does: there the compiler's debug information
-    looks for
-    locals, so that is the frame's address then, and registers are told one by one. `begins` says that they are those
-    from the
-    function's entry on, where its SAVE is still to come."""
+    frame ends in the data if it lies there, as one whose address is taken does: there the compiler's debug
+    information looks for locals, so that is the frame's address then, and registers are told one by one. `begins`
+    says that they are those from the function's entry on, where its SAVE is still to come."""
     if not is_framed:
         return b""
     if not behind:
@@ -140,8 +137,7 @@ C89, ASSEMBLER = 1, 0x8001
 
 def unit(path, folder, functions, objects, end):
     """.debug_info: a unit with its functions, names with their begins and ends, and data, names with address and
-    size, as
-    arrays of bytes."""
+    size, as arrays of bytes."""
     language = ASSEMBLER if path.endswith(".s") else C89
     code = min((it[1] for it in functions), default=0)
     body = struct.pack(">HIB", 2, 0, 4) + b"\1geyserpan\0" + struct.pack(">H", language)

@@ -1,10 +1,11 @@
 """Why a run ended, in words: exit words of the tests that ./fit adds, with their lines of C where a map tells these."""
 import collections
+import itertools
 import json
 import subprocess
 import tempfile
 
-from loaded import TOP, Fault, Loaded, tool
+from loaded import TOP, Fault, tool
 from tape import Turn
 
 # What a test's kind says, by the upper half of an exit word, and the signal that it comes as; the lower half is its
@@ -21,21 +22,28 @@ KINDS = {
 # The word of abort and of a failed assert.
 ABORTED = 0x00060000
 ABORT, TRAP = 6, 5
-# So many places at the most belong to the end of a run behind the test that failed.
-BEHIND_TEST = 8
+# So many places at the most belong to the end of a run behind the test that failed; and behind a call through a
+# pointer, whose functions are looked through one after the other.
+BEHIND_TEST, BEHIND_CALL = 8, 4000
+NO_FUNCTION = 9
 # The most turns of a run on 8 windows whose last ones are looked at where it ends in a test, and so many of them.
 WINDOWS, MOST_TURNS, FEW, LAST = 8, 9_999_999_999, 20_000_000, 50_000
 
 
 class Ending:
-    """The end of a run, from what `inspect run --json` tells."""
+    """The end of a run: its exit word, or the trap that it ended by, and its turns and output."""
 
-    def __init__(self, text, loaded, mapped=None):
+    def __init__(self, word, mapped=None):
+        self.word, self.mapped = word, mapped
+        self.turns, self.output, self.trap = 0, b"", None
+
+    @classmethod
+    def of(cls, text, mapped=None):
+        """The end that `inspect run --json` tells."""
         told = json.loads(text)
-        end, self.turns = told["end"], told["turns"]
-        self.output = bytes.fromhex(told["output"])
-        self.word, self.trap = end.get("word"), end.get("trap")
-        self.loaded, self.mapped = loaded, mapped
+        made = cls(told["end"].get("word"), mapped)
+        made.turns, made.output, made.trap = told["turns"], bytes.fromhex(told["output"]), told["end"].get("trap")
+        return made
 
     @property
     def kind(self):
@@ -54,23 +62,51 @@ class Ending:
             return self.kind.signal
         return ABORT if self.word == ABORTED else TRAP
 
+    @property
+    def line(self):
+        """The number of the line of the test that failed."""
+        return self.word & 0xFFFF
+
+    @property
+    def behind(self):
+        """How many places at the most belong to the end of the run behind the test that failed."""
+        return BEHIND_CALL if self.word >> 16 == NO_FUNCTION else BEHIND_TEST
+
+    def failing(self, places):
+        """Which of the last places of the run, from the last one on backwards, is that of the test that failed: the
+        branch that led to the end. All calls through pointers share one, so of these it is the last word of the
+        call's line. `places` are their addresses."""
+        if self.word >> 16 == NO_FUNCTION and self.mapped:
+            found = (number for number, pc in enumerate(places) if self.is_line(self.mapped.place(pc)))
+            return next(found, branch_to_end(places[:BEHIND_TEST]))
+        return branch_to_end(places)
+
+    def is_line(self, place):
+        """Whether a place is in the line that the exit word tells."""
+        return place is not None and place.line == self.line
+
     def where(self, test=None, address=None):
         """The line of a test by file and number, as well as it is known."""
-        line = self.word & 0xFFFF
         if test:
             return f"{test.place.path}:{test.place.line}"
-        place = self.mapped and address is not None and self.mapped.place(address)
-        if place and place.line == line:
-            return f"{place.path}:{line}"
-        places = self.mapped.tests_in(line) if self.mapped else []
-        return " or ".join(f"{it.path}:{it.line}" for it in places) or f"line {line}"
+        place = self.mapped.place(address) if self.mapped and address is not None else None
+        if self.is_line(place):
+            return f"{place.path}:{self.line}"
+        places = sorted({it.place for it in self.tests()})
+        return " or ".join(f"{it.path}:{it.line}" for it in places) or f"line {self.line}"
+
+    def tests(self):
+        """The tests of this kind that the map has in this line of any file."""
+        return self.mapped.tests_in(self.line, self.word >> 16) if self.mapped else []
 
     def told(self, address=None):
-        """The end in words; None where nothing is known of its word. `address` is that of the branch of the test that
+        """The end in words; None where nothing is known of its word. `address` is that of a word of the test that
         failed."""
         if self.kind is None:
             return told_of(self.word)
-        test = self.mapped and address is not None and self.mapped.test_at(address)
+        test = self.mapped.test_at(address) if self.mapped and address is not None else None
+        if test is None and address is None and len(self.tests()) == 1:
+            test, = self.tests()
         where, why = self.where(test, address), self.kind.words
         if test and self.word >> 16 == 1:
             why = f"{test.subject} leaves it"
@@ -82,8 +118,8 @@ class Ending:
 
 
 def branch_to_end(places):
-    """Which of the last places of a run, from the last one on backwards, is the branch that led to its end behind a test
-    that failed; the last one where that isn't near. `places` are their addresses."""
+    """Which of the last places of a run, from the last one on backwards, is the branch that led to its end behind a
+    test that failed; the last one where that isn't near. `places` are their addresses."""
     for number, (pc, before) in enumerate(zip(places, places[1:])):
         if pc != before + 4:
             return min(number + 2, len(places) - 1)  # (its slot stands behind it)
@@ -106,13 +142,15 @@ def told_of(word, place=None):
 class Last:
     """The last turns of a run, by the lines of its states."""
 
-    def __init__(self, path, given, turns):
+    def __init__(self, path, given, ending):
+        turns = ending.turns
         words = [f"{TOP}/inspect", "states", "--windows", str(WINDOWS), "--limit", str(turns), path]
         with subprocess.Popen(words, stdin=given, stdout=subprocess.PIPE, bufsize=1 << 20) as told:
             lines = collections.deque(told.stdout, maxlen=LAST)
         self.lines = list(lines)
-        places = [at for at in range(len(self.lines) - 2, -1, -1) if self.is_own(at)][:BEHIND_TEST]
-        self.at = places[branch_to_end([self.turn(it).pc for it in places])] if places else 0
+        own = (at for at in range(len(self.lines) - 2, -1, -1) if self.is_own(at))
+        places = list(itertools.islice(own, ending.behind))
+        self.at = places[ending.failing([self.turn(it).pc for it in places])] if places else 0
 
     def turn(self, at):
         """What a line tells."""
@@ -124,8 +162,8 @@ class Last:
         return parts[4] == b"0" and parts[5][6] < 56
 
     @property
-    def branch(self):
-        """The address of the branch that led to the end."""
+    def address(self):
+        """The address of the test that failed."""
         return self.turn(self.at).pc
 
 
@@ -136,13 +174,13 @@ def end_told(path, given, mapped=None):
         file.write(given)
         file.seek(0)
         try:
-            ending = Ending(end_of(path, file, WINDOWS, MOST_TURNS), Loaded(path), mapped)
+            ending = Ending.of(end_of(path, file, WINDOWS, MOST_TURNS), mapped)
         except Fault:
             return None
         if not ending.word:
             return None
-        if ending.is_test and mapped and ending.turns <= FEW:
+        # (where the map has one test of the kind in the line, the run needn't be gone through for it)
+        if ending.is_test and mapped and ending.turns <= FEW and len(ending.tests()) != 1:
             file.seek(0)
-            last = Last(path, file, ending.turns)
-            return ending.told(last.branch)
+            return ending.told(Last(path, file, ending).address)
         return ending.told() or f"the exit word is {ending.word} ({ending.word:08X})"

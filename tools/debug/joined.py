@@ -1,17 +1,16 @@
 """How gdb finds the callers of a function that ./fit made a part of `main`: such a call is a jump, which leaves the
-number of
-its place in the data, and what the caller keeps of its registers.
+number of its place in the data, and what the caller keeps of its registers.
 
 A function's frame lies on the stack of such functions, where a register points, or its words are objects of the data.
-Each
-word of the image belongs to a function of the assembly by its origin, so rules are written for each run of words of one
-function. What isn't known is told as nothing: a backtrace ends there."""
+Each word of the image belongs to a function of the assembly by its origin, so rules are written for each run of words
+of one function. What isn't known is told as nothing: a backtrace ends there."""
 import collections
 import re
 import struct
 
 from dwarf import sleb, uleb
 from loaded import CODE
+from maps import Origin
 
 CALL = re.compile(r"\s*call\s+([\w.$]+)")
 # Registers by fit's own use (crates/fit_joins): the number of a place is made in %g7, addresses in %g6.
@@ -21,8 +20,7 @@ RETURNS, FIRST = 15, 16
 # gdb's own numbers, by which it unwinds: of %o7, by which functions of the image return, it would want a register.
 PC, NPC = 68, 69
 # The frame's addresses of functions without a frame in the data only tell frames apart: above the data where they
-# call what
-# lies on the stack of functions, below it where not, so that callers' are greater.
+# call what lies on the stack of functions, below it where not, so that callers' are greater.
 ABOVE, BELOW = 0xE0000, 0x1000
 
 Site = collections.namedtuple("Site", "caller number at kept behind")
@@ -40,8 +38,7 @@ class Part:
     def __init__(self, name):
         self.name, self.words, self.sites = name, [], []
         # The register that points to its frame on the stack of functions, the word that takes the frame, what stands
-        # around
-        # its body, and the words around that one word.
+        # around its body, and the words around that one word.
         self.pointer, self.frame, self.taken, self.head, self.entry = None, 0, None, None, (0, 0)
 
 
@@ -103,6 +100,24 @@ class Joined:
                 site = self.site_of(file, origin, sorted([*addresses, *beside]), part)
                 if site:
                     part.sites.append(site)
+        self.find_bare_sites()
+
+    def find_bare_sites(self):
+        """Finds the calls that no word is left of: where a part is called once, and stands where the call was."""
+        bare, there = {}, set(self.owners)
+        for file in self.files:
+            for row in file.rows:
+                found, origin = CALL.match(file.lines[row - 1]), Origin(file.number, row)
+                if found and found[1] in self.parts and origin not in self.rows and file.function(row) in there:
+                    bare.setdefault(found[1], []).append((file, origin))
+        for name, calls in bare.items():
+            part = self.parts[name]
+            if not part.sites and len(calls) == 1:
+                (file, origin), = calls
+                site = self.site_of(file, origin, [], part)
+                # (where no word of the caller stands behind the call, it goes back to the caller's own)
+                caller = self.parts.get(file.function(origin.row))
+                part.sites = [site] if site else list(caller.sites) if caller and len(caller.sites) == 1 else []
 
     def site_of(self, file, origin, addresses, part):
         """A call of a part, by the words that come from it: the number that it leaves, where, and what its caller
@@ -123,8 +138,8 @@ class Joined:
                     kept[rd] = place
             elif self.is_behind(word) and behind is None and (at or len(part.sites) == 0):
                 behind = address
-        row = file.follows.get(file.follows.get(origin.row))
-        if behind is None and row:
+        row = file.follows.get(origin.row)
+        while behind is None and (row := file.follows.get(row)) and file.function(row) == file.function(origin.row):
             behind = min(self.rows.get(origin._replace(row=row), []), default=None)
         caller = file.function(origin.row)
         return behind and Site(caller, number, at, kept, behind)
@@ -175,8 +190,7 @@ class Joined:
     @staticmethod
     def chosen(number, values):
         """The operations that leave one of some words, by the number of a place: 0 where it is none of them. The
-        words are
-        operations."""
+        words are operations."""
         if number == b"":
             return next(iter(values.values()), b"\x30")
         out = number + b"\x30"  # 0
@@ -191,7 +205,8 @@ class Joined:
         for register in range(1, 30):
             if register in (RETURNS, 14, part.pointer):
                 continue
-            values = {it.number: self.kept_at(part, it.kept[register], frame) for it in part.sites if register in it.kept}
+            kept = [it for it in part.sites if register in it.kept]
+            values = {it.number: self.kept_at(part, it.kept[register], frame) for it in kept}
             if values and None not in values.values():
                 block = self.chosen(number, values)
                 out += b"\x10" + uleb(register) + uleb(len(block)) + block
@@ -236,8 +251,7 @@ class Joined:
 
     def runs(self, standard):
         """The runs of words of one function, each with where it ends and its rules; `standard` gives those of a
-        function of
-        the image itself, by its name and whether a run begins with its entry."""
+        function of the image itself, by its name and whether a run begins with its entry."""
         out, last = [], None
         for number, owner in enumerate(self.owners):
             address, part = CODE + 4 * number, self.parts.get(owner)

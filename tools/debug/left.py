@@ -5,8 +5,7 @@ from loaded import Loaded
 
 def leave(build, map_path, elf_path):
     """Writes the map of an image that was built, and its ELF file where a path is given; returns why that has no
-    variables,
-    if it hasn't."""
+    variables, if it hasn't."""
     loaded, why = Loaded(build.image), None
     with open(map_path, "w", encoding="utf-8", errors="surrogateescape") as file:
         file.write(build.mapped.text(loaded.image))

@@ -31,15 +31,16 @@ class Unreadable(Exception):
 
 def called(*words):
     """Calls a tool, which has to do what it is asked for."""
-    ran = subprocess.run(words, stdout=subprocess.PIPE, stderr=subprocess.STDOUT, text=True, errors="replace", check=False)
+    ran = subprocess.run(words, stdout=subprocess.PIPE, stderr=subprocess.STDOUT, text=True, errors="replace",
+                         check=False)
     if ran.returncode:
-        raise Unreadable(f"{words[0]}: {ran.stdout.strip().splitlines()[-1] if ran.stdout.strip() else ran.returncode}")
+        told = ran.stdout.strip().splitlines()
+        raise Unreadable(f"{words[0]}: {told[-1] if told else ran.returncode}")
 
 
 def linked_of(origins, folder, objects):
     """The assembly, each row of which has a label, as one file by the compiler's linker; `objects` has what the
-    compiler
-    told of its sources before it made assembly."""
+    compiler told of its sources before it made assembly."""
     if not shutil.which(ASSEMBLER) or not shutil.which(LINKER):
         raise Unreadable(f"{LINKER} isn't there")
     made = []
@@ -124,8 +125,7 @@ class Linked:
 
     def frames(self, addresses):
         """Where the frame of each function lies, by the function's address in the linked file: where it ends in the
-        data, or
-        how far from the frame's address each word of the compiler's frame is now."""
+        data, or how far from the frame's address each word of the compiler's frame is now."""
         own, out = {name: address for address, name in self.fitted.functions.items()}, {}
         for start, name in self.functions.items():
             size, moved, part = self.frame_size(start), self.objects.get(FRAME + name), self.joined.parts.get(name)
@@ -147,15 +147,14 @@ class Linked:
 
     def moved_words(self, start, addresses, now, size):
         """How far from the frame's address each word of a function's frame is, by how far it was: of the words that
-        both name
-        at one place. None of a frame in which these don't agree."""
+        both name at one place. None of a frame in which these don't agree."""
         following, found = min((it for it in self.functions if it > start), default=1 << 32), {}
         for number, address in enumerate(addresses):
             if size is None or address is None or not start <= address < following:
                 continue
-            theirs = offset_of(self.word(address), (14, size))
-            ours = offset_of(self.loaded.words[number], now)
-            if theirs is not None and ours is not None and is_same_access(self.word(address), self.loaded.words[number]):
+            their_word, our_word = self.word(address), self.loaded.words[number]
+            theirs, ours = offset_of(their_word, (14, size)), offset_of(our_word, now)
+            if None not in (theirs, ours) and is_same_access(their_word, our_word):
                 if found.setdefault(theirs, ours) != ours:
                     return {}
         return found if len(set(found.values())) == len(found) else {}
@@ -191,8 +190,7 @@ class Linked:
 
 def offset_of(word, frame):
     """How far from %fp the word lies that a load or a store names, by %fp or by what points to a frame of so many
-    bytes; None
-    where it names none."""
+    bytes; None where it names none."""
     if word is None or word >> 30 != 3 or not word & 0x2000:
         return None
     (pointer, size), base, offset = frame, word >> 14 & 31, (word & 0x1FFF ^ 0x1000) - 0x1000
@@ -208,13 +206,13 @@ def is_same_access(one, other):
 
 def debug_file(loaded, source, mapped, origins, folder, assembly):
     """The bytes of the ELF file of an image, by the source that ./fit made, and the assembly of the program in a
-    folder for
-    work; and why it has no more than names and lines, where it hasn't."""
+    folder for work; and why it has no more than names and lines, where it hasn't."""
     fitted = Fitted(source)
     names = Names()
     names.functions, names.objects = fitted.functions, fitted.objects
     for address, (_, place) in sorted(mapped.words.items()):
-        names.rows.append((address, os.path.abspath(place.path) if os.path.exists(place.path) else place.path, place.line))
+        path = os.path.abspath(place.path) if os.path.exists(place.path) else place.path
+        names.rows.append((address, path, place.line))
     for address in loaded.blocks:
         names.labels.setdefault(address, f".L{address:x}")
     try:

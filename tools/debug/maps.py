@@ -1,10 +1,10 @@
-"""The map of an image that ./cc made: which line of C, and which line of the compiler's assembly, each word of the code
-comes from, and the tests that ./fit added.
+"""The map of an image that ./cc made: which line of C, and which line of the compiler's assembly, each word of the
+code comes from, and the tests that ./fit added.
 
-A map is a text. Its first line has the SHA-256 of the image; then a line for each word, `00040010 0 123 name.c:7`: its
-address, the number of a file of assembly, a line of that, and the line of C; and one for each test, `test 0 123
-name.c:7
-the index into name (32 bytes)`, by the same numbers."""
+A map is a text. Its first line has the SHA-256 of the image; then a line for each word, `00040010 0 123 name.c:7`:
+its address, the number of a file of assembly, a line of that, and the line of C; one for each test, `test 0 123
+name.c:7 the index into name (32 bytes)`, by the same numbers; one for each word that another function begins at,
+`function 00040010 take`; and one for each source, with the SHA-256 of its bytes, `source 9f86.. name.c`."""
 import bisect
 import collections
 import hashlib
@@ -15,10 +15,22 @@ from loaded import CODE, Fault, bytes_of
 HEAD = re.compile(r"map of image ([0-9a-f]{64})")
 WORD = re.compile(r"([0-9A-F]{8}) (\d+) (\d+) (.+):(\d+)")
 TEST = re.compile(r"test (\d+) (\d+) (.+?):(\d+) (.*)")
+FUNCTION = re.compile(r"function ([0-9A-F]{8}) (\S+)")
+SOURCE = re.compile(r"source ([0-9a-f]{64}) (.+)")
 
 Origin = collections.namedtuple("Origin", "assembly row")  # the number of a file of assembly, and a line of it
 Place = collections.namedtuple("Place", "path line")
-Test = collections.namedtuple("Test", "origin place subject")
+# The kinds of tests by what they look at; all others look at an index.
+KINDS = {"the address": 2, "the divisor": 3}
+
+
+class Test(collections.namedtuple("Test", "origin place subject")):
+    """A test that ./fit added: where it stands, and what it looks at."""
+
+    @property
+    def kind(self):
+        """The upper half of the exit word that it ends a run with."""
+        return KINDS.get(self.subject, 1)
 
 
 class Map:
@@ -26,6 +38,7 @@ class Map:
 
     def __init__(self):
         self.words, self.tests = {}, []  # address to (origin, place); tests
+        self.functions, self.sources = {}, {}  # address to the name of the function from there on; path to sum
 
     def add(self, address, origin, place):
         """Notes where a word comes from."""
@@ -41,9 +54,31 @@ class Map:
         found = self.words.get(address)
         return next((it for it in self.tests if found and it.origin == found[0]), None)
 
-    def tests_in(self, line):
-        """The places of the tests in a line of any file."""
-        return sorted({it.place for it in self.tests if it.place.line == line})
+    def tests_in(self, line, kind):
+        """The tests of a kind, as exit words have it, in a line of any file."""
+        return [it for it in self.tests if it.place.line == line and it.kind == kind]
+
+    def note(self, function, source):
+        """Takes in what a line tells of a function or of a source, as it was matched."""
+        if function:
+            self.functions[int(function[1], 16)] = function[2]
+        elif source:
+            self.sources[source[2]] = source[1]
+
+    def add_functions(self, own, name_of):
+        """Notes where functions begin: those of the image by their addresses, and by the words' origins, whose
+        function `name_of` gives, those that ./fit made parts of others."""
+        last = name = None
+        for address in sorted({*self.words, *own}):
+            found = self.words.get(address)
+            name = own.get(address) or (found and name_of(found[0])) or name
+            if name != last:
+                self.functions[address] = last = name
+
+    def add_sources(self):
+        """Notes the sums of the sources that are there."""
+        found = {path: sum_of(path) for path in {place.path for _, place in self.words.values()}}
+        self.sources = {path: it for path, it in found.items() if it}
 
     def text(self, image):
         """The map as a text, of an image with these bytes."""
@@ -53,6 +88,8 @@ class Map:
         for test in self.tests:
             (number, row), (path, line) = test.origin, test.place
             lines.append(f"test {number} {row} {path}:{line} {test.subject}")
+        lines += (f"function {address:08X} {name}" for address, name in sorted(self.functions.items()))
+        lines += (f"source {it} {path}" for path, it in sorted(self.sources.items()))
         return "\n".join(lines) + "\n"
 
 
@@ -71,7 +108,18 @@ def read(path, image):
         elif test:
             origin, place = Origin(int(test[1]), int(test[2])), Place(test[3], int(test[4]))
             found.tests.append(Test(origin, place, test[5]))
+        else:
+            found.note(FUNCTION.fullmatch(line), SOURCE.fullmatch(line))
     return found
+
+
+def sum_of(path):
+    """The SHA-256 of a file's bytes; None where it can't be read."""
+    try:
+        with open(path, "rb") as file:
+            return hashlib.sha256(file.read()).hexdigest()
+    except OSError:
+        return None
 
 
 class Fitted:

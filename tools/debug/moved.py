@@ -1,12 +1,12 @@
 """The compiler's own debug information, at the places of an image: as the compiler wrote it, byte for byte, but for
 addresses. What lies together in the compiler's code need not in the image, so ranges, lists of places and lines are
-written
-anew; what moved where is known of each word (origins.py)."""
+written anew; what moved where is known of each word (origins.py)."""
 import bisect
 import os
 import struct
 
 from dwarf import END_SEQUENCE, Reader, set_address, sized, sleb, uleb
+from lists import Lists, OldLists
 from loaded import CODE
 
 # Attributes, forms and tags that are looked at.
@@ -16,24 +16,23 @@ VIEWS, NOBODYS = 0x2137, b"\xff\x7f"
 ADDRESS_FORM, OFFSET_FORM, DATA4, CONSTANT, EXPRESSION, LINE_STRING = 0x01, 0x17, 0x06, 0x21, 0x18, 0x1F
 STRING, INDEX = 0x08, 0x0F
 UNIT, FUNCTION = 0x11, 0x2E
-SIZES = {0x01: 4, 0x0B: 1, 0x05: 2, 0x06: 4, 0x07: 8, 0x0C: 1, 0x0E: 4, 0x1F: 4, 0x13: 4, 0x17: 4, 0x11: 1, 0x12: 2, 0x10: 4,
-         0x1E: 16, 0x20: 8, 0x14: 8}
+SIZES = {0x01: 4, 0x0B: 1, 0x05: 2, 0x06: 4, 0x07: 8, 0x0C: 1, 0x0E: 4, 0x1F: 4, 0x13: 4, 0x17: 4, 0x11: 1, 0x12: 2,
+         0x10: 4, 0x1E: 16, 0x20: 8, 0x14: 8}
 # What stands behind an operation of an expression: bytes, u and s numbers, b and B blocks.
-OPERANDS = {0x08: "1", 0x09: "1", 0x0A: "2", 0x0B: "2", 0x0C: "4", 0x0D: "4", 0x0E: "8", 0x0F: "8", 0x10: "u", 0x11: "s",
-            0x15: "1", 0x23: "u", 0x28: "2", 0x2F: "2", 0x90: "u", 0x91: "s", 0x92: "us", 0x93: "u", 0x94: "1", 0x98: "2",
-            0x99: "4", 0x9E: "b", 0xA0: "4s", 0xA3: "b", 0xA4: "uB", 0xA5: "uu", 0xA6: "1u", 0xA8: "u", 0xA9: "u",
-            0xF2: "4s", 0xF3: "b", 0xF4: "uB", 0xF5: "uu", 0xF6: "1u", 0xF7: "u",
+OPERANDS = {0x03: "4", 0x08: "1", 0x09: "1", 0x0A: "2", 0x0B: "2", 0x0C: "4", 0x0D: "4", 0x0E: "8", 0x0F: "8",
+            0x10: "u", 0x11: "s", 0x15: "1", 0x23: "u", 0x28: "2", 0x2F: "2", 0x90: "u", 0x91: "s", 0x92: "us",
+            0x93: "u", 0x94: "1", 0x98: "2", 0x99: "4", 0x9E: "b", 0xA0: "4s", 0xA3: "b", 0xA4: "uB", 0xA5: "uu",
+            0xA6: "1u", 0xA8: "u", 0xA9: "u", 0xF2: "4s", 0xF3: "b", 0xF4: "uB", 0xF5: "uu", 0xF6: "1u", 0xF7: "u",
             **{it: "s" for it in range(0x70, 0x90)}}
 ADDRESS, BY_FRAME, BY_FP, BY_SP, FP, SP = 0x03, 0x91, 0x8E, 0x7E, 0x6E, 0x5E
-FRAME_ADDRESS = b"\x9c"
+FRAME_ADDRESS, BY_FP_ITSELF = b"\x9c", bytes([FP])
 
 
 class Move:
     """Where code and data went. `rows` is the linked address of each word's origin, None where it has none; `objects`
-    are
-    begins of data in the linked file with sizes and where they are now; `frames`, by the address of a function in the
-    linked file, where its frame ends in the data, or how far from the frame's address each word of it is, by how far
-    it was."""
+    are begins of data in the linked file with sizes and where they are now; `frames`, by the address of a function in
+    the linked file, where its frame ends in the data, or how far from the frame's address each word of it is, by how
+    far it was."""
 
     def __init__(self, rows, objects, frames, text, late=None):
         self.late = late or {}  # register to the words where what it is to hold stands in a slot still to come
@@ -46,8 +45,7 @@ class Move:
 
     def ranges(self, low, high, registers=()):
         """Where the code of a range lies now, as ranges; what it begins with stands in the first one. Words where one
-        of some
-        registers isn't written yet are left out."""
+        of some registers isn't written yet are left out."""
         first, last = bisect.bisect_left(self.known, low), bisect.bisect_left(self.known, high)
         numbers = sorted(number for it in self.known[first:last] for number in self.there[it])
         late, out = {number for it in registers for number in self.late.get(it, ())}, []
@@ -94,8 +92,8 @@ class Moved:
         self.here = len(self.strings)
         self.strings += os.fsencode(os.getcwd()) + b"\0"
         self.info, self.abbrev = bytearray(linked.sections[".debug_info"]), bytearray(linked.sections[".debug_abbrev"])
-        self.lists = bytearray(struct.pack(">HBBI", 5, 4, 0, 0))
-        self.spans = bytearray(struct.pack(">HBBI", 5, 4, 0, 0))
+        self.of_version = {4: OldLists(linked.sections), 5: Lists(linked.sections)}
+        self.lists = self.of_version[5]
         self.programs, self.written, self.tables = bytearray(), {}, {}
         self.low = self.function = 0
         at = 0
@@ -106,8 +104,8 @@ class Moved:
         """The sections with what they hold."""
         other = self.linked.sections
         return [(".debug_info", bytes(self.info)), (".debug_abbrev", bytes(self.abbrev)),
-                (".debug_line", bytes(self.programs)), (".debug_loclists", sized(bytes(self.lists))),
-                (".debug_rnglists", sized(bytes(self.spans))),
+                (".debug_line", bytes(self.programs)),
+                *(section for it in self.of_version.values() for section in it.written()),
                 (".debug_str", other.get(".debug_str", b"")), (".debug_line_str", bytes(self.strings))]
 
     # ---- units
@@ -116,9 +114,14 @@ class Moved:
         """Moves a unit; returns where the next one begins."""
         r = Reader(self.info, at)
         end = r.number(4) + at + 4
-        version, _kind, size, abbrev = r.number(2), r.number(1), r.number(1), r.number(4)
-        if (version, size) != (5, 4):
+        version = r.number(2)
+        if version == 5:
+            _kind, size, abbrev = r.number(1), r.number(1), r.number(4)
+        else:
+            abbrev, size = r.number(4), r.number(1)
+        if version not in self.of_version or size != 4:
             raise ValueError(f"a unit of version {version}")
+        self.lists = self.of_version[version]
         if abbrev not in self.tables:
             self.tables[abbrev] = self.abbreviations(abbrev)
         self.low = self.function = 0
@@ -193,7 +196,7 @@ class Moved:
                 if change is None:
                     self.put(place, 0 if tag == UNIT else self.move.code(read))
             elif change == "ranges":
-                self.put(place, self.ranges(self.move.ranges(low, low + read)))
+                self.put(place, self.lists.put_ranges(self.move.ranges(low, low + read)))
             else:
                 self.attribute(place, r.at, name, form, read)
 
@@ -202,13 +205,16 @@ class Moved:
         if name == FOLDER and form == LINE_STRING and Reader(self.strings, read).string() == self.work:
             self.put(place, self.here)  # the folder for work goes
         elif name == RANGES and form == OFFSET_FORM:
-            self.put(place, self.ranges(self.range_list(read)))
+            moved = (self.move.ranges(*it) for it in self.lists.ranges(read, self.low))
+            self.put(place, self.lists.put_ranges([it for some in moved for it in some]))
         elif name in (ENTRY, RETURN, CALL_PC) and form == ADDRESS_FORM:
             self.put(place, self.move.code(read))
         elif name == LINES:
             self.put(place, self.lines(read))
         elif name in (LOCATION, FRAME_BASE, CALL_VALUE, DATA_LOCATION) and form == OFFSET_FORM:
             self.put(place, self.locations(read))
+        elif name == FRAME_BASE and read == BY_FP_ITSELF:
+            self.info[end - 1:end] = FRAME_ADDRESS
         elif form == EXPRESSION and read:
             moved = self.expression(read, self.function)
             # (what can't be told any more has an operation that gdb has no value of)
@@ -218,8 +224,7 @@ class Moved:
 
     def expression(self, data, address):
         """An expression of a place in the code, with the addresses of data as they are now; None where it needs a
-        word of a
-        frame that can't be told. What was %fp is the frame's address, in the data or not."""
+        word of a frame that can't be told. What was %fp is the frame's address, in the data or not."""
         data, r, frame = bytearray(data), Reader(bytes(data)), self.move.frame(address)
         while r.at < len(data):
             op = r.number(1)
@@ -237,6 +242,7 @@ class Moved:
                 if not now:
                     return None
                 data[r.at - 4:r.at] = struct.pack(">I", now)
+                continue
             for kind in OPERANDS.get(op, ""):
                 self.skip(r, kind)
         return bytes(data)
@@ -262,45 +268,14 @@ class Moved:
         else:
             r.take(r.uleb() if kind == "b" else r.number(1) if kind == "B" else int(kind))
 
-    def range_list(self, offset):
-        """The ranges of a list, as they are now."""
-        r, base, out = Reader(self.linked.sections[".debug_rnglists"], offset), self.low, []
-        while kind := r.number(1):
-            if kind == 5:
-                base = r.number(4)
-                continue
-            low = base + r.uleb() if kind == 4 else r.number(4)
-            high = base + r.uleb() if kind == 4 else r.number(4) if kind == 6 else low + r.uleb()
-            out += self.move.ranges(low, high)
-        return out
-
-    def ranges(self, ranges):
-        """Writes a list of ranges; returns its place."""
-        at = len(self.spans) + 4
-        for low, high in ranges:
-            self.spans += b"\7" + struct.pack(">I", low) + uleb(high - low)
-        self.spans += b"\0"
-        return at
-
     def locations(self, offset):
         """Moves a list of places; returns where it is."""
-        r, base, at = Reader(self.linked.sections[".debug_loclists"], offset), self.low, len(self.lists) + 4
-        while kind := r.number(1):
-            if kind == 9:  # views
-                r.uleb(), r.uleb()
-                continue
-            if kind == 6:
-                base = r.number(4)
-                continue
-            if kind not in (4, 7, 8):
-                raise ValueError(f"a place of kind {kind}")
-            low = base + r.uleb() if kind == 4 else r.number(4)
-            high = base + r.uleb() if kind == 4 else r.number(4) if kind == 7 else low + r.uleb()
-            expression = self.expression(r.take(r.uleb()), low)
-            for start, end in self.move.ranges(low, high, named_in(expression)) if expression is not None else ():
-                self.lists += b"\x08" + struct.pack(">I", start) + uleb(end - start) + uleb(len(expression)) + expression
-        self.lists += b"\0"
-        return at
+        out = []
+        for low, high, data in self.lists.places(offset, self.low):
+            expression = self.expression(data, low)
+            if expression is not None:
+                out += ((*it, expression) for it in self.move.ranges(low, high, named_in(expression)))
+        return self.lists.put_places(out)
 
     # ---- lines
 
@@ -344,8 +319,7 @@ def named_in(expression):
 
 def late_registers(loaded):
     """By register, the numbers of the words where it doesn't hold yet what the compiler gave it there: ./fit moved
-    that into
-    the slot of the branch behind them."""
+    that into the slot of the branch behind them."""
     starts, late = set(loaded.blocks), {}
     for number in range(1, len(loaded.words)):
         before, word = loaded.words[number - 1], loaded.words[number]
@@ -485,18 +459,30 @@ class Table:
         return struct.pack(">HBBI", 5, 4, 0, len(body)) + body
 
 
+class OldTable(Table):
+    """Such names as versions 2 to 4 have them, whose numbers begin with 1."""
+
+    def __init__(self, r):
+        self.folders = ["", *iter(r.string, "")]
+        self.files = [("", 0)]
+        while name := r.string():
+            self.files.append((name, r.uleb()))
+            r.uleb(), r.uleb()
+
+
 def lines_of(section, at, sections):
     """The rows of a line program, and its files."""
     r = Reader(section, at)
     end, version = r.number(4) + at + 4, r.number(2)
-    if version != 5:
+    if not 2 <= version <= 5:
         raise ValueError(f"lines of version {version}")
-    r.take(2)
+    r.take(2 if version == 5 else 0)
     size = r.number(4)
     body = r.at + size
-    least, _most, _default, base = r.number(1), r.number(1), r.number(1), struct.unpack(">b", r.take(1))[0]
+    least, _most = r.number(1), r.number(1) if version > 3 else 1
+    _default, base = r.number(1), struct.unpack(">b", r.take(1))[0]
     span, opcodes = r.number(1), r.number(1)
     operands = [r.number(1) for _ in range(opcodes - 1)]
-    table = Table(r, sections)
+    table = Table(r, sections) if version == 5 else OldTable(r)
     r.at = body
     return Lines(r, (least, base, span, opcodes, operands)).run(end), table

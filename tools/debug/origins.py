@@ -1,12 +1,9 @@
 """Which line of the compiler's assembly each word of an image comes from.
 
 ./fit tells of a word the line of C that its instruction had. So each instruction is given a file of its own,
-`name.c#0.123`
-for row 123 of the assembly with the number 0, in a copy that ./fit reads: then it tells the row, too. Code and exit
-words
-stay what they are, since of a line they have its number alone; but divisions that have one line share a file, since
-their
-tests share an end."""
+`name.c#0.123` for row 123 of the assembly with the number 0, in a copy that ./fit reads: then it tells the row, too.
+Code and exit words stay what they are, since of a line they have its number alone; but divisions that have one line
+share a file, since their tests share an end."""
 import bisect
 import re
 import sys
@@ -15,7 +12,7 @@ from loaded import CODE, TOP
 from maps import Fitted, Map, Origin, Place, Test
 
 sys.path.insert(0, f"{TOP}/tools/cc")
-from assembly import FILE, LABEL, PLACE, Assembly
+from assembly import FILE, LABEL, PLACE, Assembly, plain
 
 INSTRUCTION = re.compile(r"\s+([a-z]\w*)")
 DIVISION = re.compile(r"[us]div")
@@ -117,8 +114,8 @@ class Origins:
 
     def map_of(self, source, notes, shown):
         """The map of the image of a source that ./fit made of the marked files, with the notes that it told."""
-        mapped, last, behind, before = Map(), None, None, ""
-        for number, (comment, text) in enumerate(Fitted(source).rows):
+        mapped, fitted, last, behind, before = Map(), Fitted(source), None, None, ""
+        for number, (comment, text) in enumerate(fitted.rows):
             if comment:
                 last = self.origin(*comment), comment
             origin = last and last[0]
@@ -132,13 +129,15 @@ class Origins:
             origin, (subject, is_test, _) = self.origin(name, int(line)), why.partition(" may be ")
             if origin and is_test:
                 mapped.tests.append(Test(origin, self.place(origin, name, int(line), shown), subject))
+        own = {address: plain(name) for address, name in fitted.functions.items()}
+        mapped.add_functions(own, lambda it: plain(self.files[it.assembly].function(it.row) or ""))
+        mapped.add_sources()
         return mapped
 
     def follower(self, origin, text, branch, before):
         """The origin of a word of which ./fit tells no line: that of the word before, but for a branch, a call, and
-        what
-        stands in its slot, where the compiler has such behind that. `branch` is the origin of a branch before the word,
-        `before` the text of what stands before it."""
+        what stands in its slot, where the compiler has such behind that. `branch` is the origin of a branch before
+        the word, `before` the text of what stands before it."""
         marked = self.files[(branch or origin).assembly]
         row = marked.follows.get((branch or origin).row)
         if row is None:

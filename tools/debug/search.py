@@ -31,6 +31,7 @@ class Watch:
         common = os.path.commonprefix([first, last])
         digits = b"%b%b{%d}" % (common, HEX, 8 - len(common)) if len(common) < 8 else common
         self.form = re.compile(b"=(" + digits + b"):" + HEX + b"{9}:([1248])")
+        self.nearby = {b"%06X" % it for it in range(int(first, 16) >> 8, (int(last, 16) >> 8) + 1)}
 
     def hits(self, text, found):
         """Whether an access that was found is watched."""
@@ -51,17 +52,23 @@ class Search:
     def __init__(self, tape, breaks, watches, turns):
         self.tape, self.watches, self.turns = tape, watches, turns
         self.breaks = re.compile(b" " + one_of(breaks) + b" " + (ANY if turns else OWN)) if breaks else None
+        self.places = {b"%08X" % it for it in breaks}
+        self.nearby = set().union(*(it.nearby for it in watches))
 
     def is_own(self, line):
         """Whether a line is a place of the program's own. A SAVE or a RESTORE that traps is shown where it is tried
-        again,
-        so that places are the same on every count of windows."""
+        again, so that places are the same on every count of windows."""
         parts = line.split(b" ", 12)
         if len(parts) < 12 or parts[11] == b"end":
             return False
         if self.turns:
             return True
         return parts[4] == b"0" and parts[5][6] < 56 and parts[11] not in (b"trap:05", b"trap:06")
+
+    def may_hit(self, number):
+        """Whether there may be anything in a block that is looked for."""
+        block = self.tape.blocks.block(number)
+        return not (self.places.isdisjoint(block.places) and self.nearby.isdisjoint(block.accesses))
 
     def next_break(self, text, start, end):
         """Where the first line begins that a breakpoint is met at, of a part of a block; None where there is none."""
@@ -97,35 +104,51 @@ class Search:
 
     def forward(self, at, poll):
         """The first place behind one where a breakpoint is met, and the first access from there on that is watched,
-        with
-        its watch; each None where there is none. Where `poll` says so neither is looked for any longer."""
+        with its watch; each None where there is none. Where `poll` says so neither is looked for any longer."""
         number, index = divmod(at, BLOCK)
         while number < self.tape.blocks.count:
-            text, start = self.tape.blocks.text(number), self.tape.blocks.start(number, index)
-            own = self.tape.blocks.start(number, index + 1) if index or number == at // BLOCK else 0
-            for limit in (start + NEAR, len(text)):
-                found = self.next_break(text, own, min(limit, len(text)))
-                seen = min(self.accesses(text, start, min(limit, len(text))), default=None, key=lambda it: it[0])
+            if self.may_hit(number):
+                found, seen = self.first_in(number, index, number == at // BLOCK)
                 if found is not None or seen is not None:
-                    return self.placed(number, found), seen and (self.placed(number, seen[0]), seen[1])
+                    return found, seen
             number, index = number + 1, 0
             if poll():
                 raise InterruptedError(number * BLOCK)
+        return None, None
+
+    def first_in(self, number, index, is_first):
+        """The first breakpoint that is met in a block from a line on, but not at that line in the first block, and the
+        first access."""
+        blocks, text = self.tape.blocks, self.tape.blocks.text(number)
+        start, own = blocks.start(number, index), blocks.start(number, index + 1) if is_first else 0
+        for limit in (min(start + NEAR, len(text)), len(text)):
+            found = self.next_break(text, own, limit)
+            seen = min(self.accesses(text, start, limit), default=None, key=lambda it: it[0])
+            if found is not None or seen is not None:
+                return self.placed(number, found), seen and (self.placed(number, seen[0]), seen[1])
         return None, None
 
     def backward(self, at, poll):
         """The last place before one where a breakpoint is met, and the last access before it, as above."""
         number, index = divmod(at, BLOCK)
         while number >= 0:
-            text, end = self.tape.blocks.text(number), self.tape.blocks.start(number, index)
-            for limit in (max(0, text.rfind(b"\n", 0, max(0, end - NEAR)) + 1), 0):
-                found = self.last_break(text, limit, end)
-                seen = max(self.accesses(text, limit, end), default=None, key=lambda it: it[0])
+            if self.may_hit(number):
+                found, seen = self.last_in(number, index)
                 if found is not None or seen is not None:
-                    return self.placed(number, found), seen and (self.placed(number, seen[0]), seen[1])
+                    return found, seen
             number, index = number - 1, BLOCK
             if poll():
                 raise InterruptedError((number + 1) * BLOCK)
+        return None, None
+
+    def last_in(self, number, index):
+        """The last breakpoint that is met in a block before a line, and the last access."""
+        text, end = self.tape.blocks.text(number), self.tape.blocks.start(number, index)
+        for limit in (max(0, text.rfind(b"\n", 0, max(0, end - NEAR)) + 1), 0):
+            found = self.last_break(text, limit, end)
+            seen = max(self.accesses(text, limit, end), default=None, key=lambda it: it[0])
+            if found is not None or seen is not None:
+                return self.placed(number, found), seen and (self.placed(number, seen[0]), seen[1])
         return None, None
 
     def placed(self, number, start):

@@ -21,8 +21,7 @@ monitor why             why the run ends
 
 class Server:
     """A session over a channel. It is made when something is asked of it, since gdb doesn't wait long for its first
-    answers:
-    `make` gives it, and the path of an ELF file."""
+    answers: `make` gives it, and the path of an ELF file."""
 
     def __init__(self, make, channel):
         self.make, self.channel = make, channel

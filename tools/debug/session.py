@@ -1,5 +1,4 @@
 """A run as gdb sees it: places of the program's own, registers, memory by the program's addresses, and stops."""
-from ends import BEHIND_TEST, branch_to_end
 from loaded import CODE, physical
 from search import Search, Watch
 
@@ -8,7 +7,7 @@ SIGNALS = {0x01: 11, 0x02: 4, 0x03: 4, 0x04: 8, 0x07: 10, 0x09: 11, 0x0A: 8, 0x2
 TRAP, INTERRUPT = 5, 2
 PC, NPC = 68, 69
 # Not so many turns stand behind the place where the end of a run is told.
-MOST_BEHIND = 100
+MOST_BEHIND = 10_000
 # Registers that a stop tells at once: %sp, %fp, PC and nPC.
 EXPEDITED = (14, 30, PC, NPC)
 
@@ -60,11 +59,11 @@ class Session:
         return self.final[1]
 
     def failing(self, last, search):
-        """The place of the branch that led to a run's last place; that place where it isn't near."""
+        """The place of the test that led to a run's last place; that place where it isn't near."""
         places = [last]
-        while len(places) < BEHIND_TEST and (before := self.last_own(places[-1] - 1, search)) is not None:
+        while len(places) < self.ending.behind and (before := self.last_own(places[-1] - 1, search)) is not None:
             places.append(before)
-        return places[branch_to_end([self.tape.turn(it).pc for it in places])]
+        return places[self.ending.failing([self.tape.turn(it).pc for it in places])]
 
     def is_behind(self, place):
         """Whether a place stands behind the one where the end is told."""
@@ -193,7 +192,8 @@ class Session:
             told = ending.sentence(self) or f"exit word {ending.word:08X}"
             return ending.signal, f"\n[{told}, after {total} turns]\n"
         if ending.trap is not None:
-            return SIGNALS.get(ending.trap, TRAP), f"\n[trap {ending.trap:02X}, which no handler serves, after {total} turns]\n"
+            told = f"trap {ending.trap:02X}, which no handler serves"
+            return SIGNALS.get(ending.trap, TRAP), f"\n[{told}, after {total} turns]\n"
         return TRAP, f"\n[the limit: the run would go on behind turn {total}: --limit asks for more]\n"
 
     def say_output(self, to_end=False):
@@ -241,18 +241,15 @@ class Session:
     @staticmethod
     def disguise(address, out):
         """`ta 1`, the service that gets a byte, is the word that gdb itself writes for a breakpoint on SPARC: where
-        it reads
-        that it takes it for one that stands there for good, writes PC to pass it, and never comes back past it. With
-        bit 29
-        set, which nothing looks at, it is the same instruction, and the same text in a listing."""
+        it reads that it takes it for one that stands there for good, writes PC to pass it, and never comes back past
+        it. With bit 29 set, which nothing looks at, it is the same instruction, and the same text in a listing."""
         for at in range(-address % 4, len(out) - 3, 4):
             if CODE <= address + at < 0x80000 and out[at:at + 4] == b"\x91\xd0\x20\x01":
                 out[at] = 0xB1
 
     def lay_windows(self, address, out):
         """Lays the save areas of the windows that are in registers over the stack, as if they were stored: gdb looks
-        for
-        callers there."""
+        for callers there."""
         turn = self.tape.turn()
         if turn.is_supervisor or not 0xC0000 <= address < 0x100000:
             return

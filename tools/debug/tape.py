@@ -11,17 +11,21 @@ import itertools
 import os
 import re
 import signal
+import threading
 import zlib
 
 # So many lines has a block, and so many lie between two states that are kept of the block in use.
 BLOCK, GRAIN = 16384, 256
-# So many blocks are made ready ahead of the one in use by other processes, where a run has more turns than these.
-AHEAD, FEW = 8, 8 * BLOCK
+# So many blocks are made ahead of the one in use by other processes, where a run has more turns than these: some 100
+# to 200 MB.
+AHEAD, FEW = 1000, 8 * BLOCK
 RAM = 1 << 20
 NAMES = [f"{kind}{number}" for kind in "goli" for number in range(8)]
 
 CHANGE = re.compile(rb" ([goli][0-7])=([0-9A-F]{8})(?=[^\n]*\n\d+ (\d\d))")
 WORD = re.compile(rb" [em]([0-9A-F]{8})=([0-9A-F]{8})")
+PLACE = re.compile(rb"\n\d+ \d\d ([0-9A-F]{8})")
+NEARBY = re.compile(rb" (?:load|store)=([0-9A-F]{6})")
 ACCESS = re.compile(r" (load|store)=([0-9A-F]{8}):([0-9A-F]{9}):(\d)")
 OUTPUT, PUT = b":100000004:", re.compile(rb" store=[0-9A-F]{8}:100000004:")
 
@@ -70,10 +74,16 @@ def changes_of(text, places):
     return registers, {int(at, 16): bytes.fromhex(word.decode()) for at, word in WORD.findall(text)}
 
 
+class Block(collections.namedtuple("Block", "text registers words puts places accesses")):
+    """A block: its lines, packed, what they change of registers and of RAM, how many bytes they put out, which PCs they
+    have, and in which 256 bytes their accesses lie, each as digits."""
+
+
 def packed(text, after, windows):
-    """A block, and the begin of the line after it: its text, packed, what it changes, and how many bytes it puts
-    out."""
-    return zlib.compress(text, 1), *changes_of(text + after, Places(windows)), puts_in(text)
+    """The block of some lines, and the begin of the line after them."""
+    changes = changes_of(text + after, Places(windows))
+    return Block(zlib.compress(text, 1), *changes, puts_in(text), frozenset(PLACE.findall(b"\n" + text)),
+                 frozenset(NEARBY.findall(text)))
 
 
 def puts_in(text):
@@ -82,48 +92,73 @@ def puts_in(text):
 
 
 class Blocks:
-    """The blocks of a run, read from the lines of its states as they are asked for."""
+    """The blocks of a run, read from the lines of its states: of a long run ahead of the one in use, by a thread, and
+    packed by other processes; else as they are asked for."""
 
     def __init__(self, stream, windows, total):
         self.stream, self.windows, self.total = stream, windows, total
         self.count = total // BLOCK + 1
-        self.made, self.coming, self.texts = [], collections.deque(), collections.OrderedDict()
-        self.starts = collections.OrderedDict()
-        self.following, self.workers = stream.readline(), None
+        self.made, self.texts, self.starts = [], collections.OrderedDict(), collections.OrderedDict()
+        self.following, self.workers, self.wanted = stream.readline(), None, 0
+        self.turn, self.is_over = threading.Condition(), False
         if total > FEW:
             self.workers = concurrent.futures.ProcessPoolExecutor(min(4, os.cpu_count() or 1), initializer=deaf)
+            self.workers.submit(deaf)  # (which has the processes stand before there is a thread)
+            threading.Thread(target=self.read_on, daemon=True).start()
 
     def read(self):
-        """Reads the lines of one block more, and lets them be packed."""
+        """The lines of one block more; None where there are no more."""
         lines = [self.following, *itertools.islice(self.stream, BLOCK - 1)] if self.following else []
         self.following = self.stream.readline()
-        if not lines:
-            raise EOFError("the states end before the run does")
-        work = (b"".join(lines), self.following[:16], self.windows)
-        self.coming.append(self.workers.submit(packed, *work).result if self.workers else lambda: packed(*work))
+        return (b"".join(lines), self.following[:16], self.windows) if lines else None
 
-    def has(self, number):
-        """Whether a block is there without that the states have to be read."""
-        return number < len(self.made)
+    def read_on(self):
+        """Has blocks made, not too many ahead of those that were asked for."""
+        try:
+            while len(self.made) < self.count and (work := self.read()):
+                with self.turn:
+                    self.made.append(self.workers.submit(packed, *work))
+                    self.turn.notify_all()
+                    self.turn.wait_for(lambda: self.is_over or len(self.made) < self.wanted + AHEAD)
+        except (ValueError, OSError, RuntimeError):
+            pass  # (the stream, or the pool, was closed)
+        with self.turn:
+            self.is_over = True
+            self.turn.notify_all()
+
+    def close(self):
+        """Ends what reads and packs."""
+        with self.turn:
+            self.is_over = True
+            self.turn.notify_all()
+        if self.workers:
+            self.workers.shutdown(wait=False, cancel_futures=True)
 
     def block(self, number):
-        """A block: its packed text, its changes of registers and RAM, and how many bytes it puts out."""
+        """A block by its number."""
+        if self.workers:
+            with self.turn:
+                self.wanted = max(self.wanted, number)
+                self.turn.notify_all()
+                self.turn.wait_for(lambda: number < len(self.made) or self.is_over)
         while number >= len(self.made):
-            ahead = AHEAD if self.workers else 1
-            while len(self.coming) < ahead and len(self.made) + len(self.coming) < self.count:
-                self.read()
-            self.made.append(self.coming.popleft()())
-        return self.made[number]
+            work = None if self.workers else self.read()
+            if work is None:
+                raise EOFError("the states end before the run does")
+            self.made.append(packed(*work))
+        made = self.made[number]
+        if not isinstance(made, Block):
+            made = self.made[number] = made.result()
+        return made
 
     def text(self, number):
         """The lines of a block, as bytes; some that were asked for by last stay unpacked."""
         if number not in self.texts:
-            self.texts[number] = zlib.decompress(self.block(number)[0])
+            self.texts[number] = zlib.decompress(self.block(number).text)
             while len(self.texts) > 4:
                 self.texts.popitem(last=False)
         self.texts.move_to_end(number)
         return self.texts[number]
-
 
     def begins(self, number):
         """Where each line of a block begins in its text, and where the text ends."""
@@ -187,7 +222,8 @@ class Tape:
 
     def pass_block(self):
         """Puts a block's changes behind what is there, and keeps what was."""
-        _, registers, words, _ = self.blocks.block(self.number)
+        block = self.blocks.block(self.number)
+        registers, words = block.registers, block.words
         if self.number not in self.befores:
             self.befores[self.number] = ({it: self.registers[it] for it in registers},
                                          {it: bytes(self.ram[it:it + 4]) for it in words})
@@ -262,5 +298,5 @@ class Tape:
     def puts_before(self, at):
         """How many bytes were put out before a place."""
         number, index = divmod(at, BLOCK)
-        count = sum(self.blocks.block(it)[3] for it in range(number))
+        count = sum(self.blocks.block(it).puts for it in range(number))
         return count + puts_in(self.blocks.text(number)[:self.blocks.start(number, index)])

@@ -1,11 +1,13 @@
 #!/usr/bin/env python3
 """usage: native build IMG -o OUT.so [--compiler CC] [--unmasked] [--uncounted]
-       native run IMG [--compiler CC] [--unmasked] [--counts N]
+       native run [--compiler CC] [--unmasked] [--counts N] [--map MAP] IMG
 
 Compiles the C that the program `native` writes of an accepted image. build makes a shared object for hosts; run makes
 a program, keeps it in a cache, and runs it on standard input. Where there is no compiler, or it meets a limit of time
 or memory, run takes the engine, and says so. --counts N tells exit word, turns, overflows and underflows on N windows
-on standard error at the end. GEYSERPAN_NATIVE_SECONDS is how long a compiler may take (60).
+on standard error at the end. Where a run ends in a test that ./fit added, it is told which one: kind and line, and
+with --map MAP, what ./cc --map left beside the image, the file, too. GEYSERPAN_NATIVE_SECONDS is how long a compiler
+may take (60).
 
 Status 0: done, or the exit word is 0. 1: the exit word isn't 0. 2: the image is refused. 3: other words. 4: a file, a
 stream or the compiler fails, or memory."""
@@ -117,9 +119,28 @@ def run(asked, room):
         program = program_of(asked, compiler, room)
     except Failed as failed:
         return engine(asked, str(failed))
-    counts = ["--counts", str(asked.counts)] if asked.counts else []
-    ended = subprocess.run([program, *counts], check=False).returncode
+    return ran(program, ["--counts", str(asked.counts)] if asked.counts else [], asked.image)
+
+
+def ran(program, counts, image):
+    """Runs a program, and tells in words where it ended in a test that ./fit added; returns its status."""
+    source, target = os.pipe()
+    with open(source, encoding="ascii") as told:
+        ended = subprocess.run([program, *counts, "--word", str(target)], pass_fds=[target], check=False).returncode
+        os.close(target)
+        word = told.read()
+    if word and int(word, 16):
+        tell(image, int(word, 16))
     return ended if ended >= 0 else 128 - ended
+
+
+def tell(image, word):
+    """Tells an exit word in words, where it is one of a test's."""
+    sys.path.insert(0, f"{TOP}/tools/debug")
+    from ends import told_of  # (which most runs don't need)
+    why = told_of(word)
+    if why:
+        print(f"native: {image}: {why}", file=sys.stderr)
 
 
 def main(words):

@@ -1,2 +1,3 @@
+pub mod Ends
 pub mod Policies
 pub mod Runs

@@ -1,4 +1,7 @@
 //! What is told of images on standard error.
+ghost use Rattle.std.specs.Prelude.{◌≡◌, ◌/◌, ◌%◌};
+ghost use Rattle.host.specs.Ends.{test_name};
+
 use crate::faults::HostFault;
 use crate::policy::Denial;
 use crate::running::HostRun;
@@ -87,7 +90,9 @@ struct TestWord(u32);
 
 impl TestWord {
     /// What failed, by the number in the word's upper half.
-    fn name(&self) -> &'static str {
+    fn name(&self) -> &'static str
+        ensures { result.now ≡ test_name (self.now.0 / 65536) }
+    {
         match self.0 / 0x1_0000 {
             1 => "an index leaves its object",
             2 => "a pointer leaves the data, isn't aligned, or leads to a constant",
@@ -98,11 +103,18 @@ impl TestWord {
             _ => "",
         }
     }
+
+    /// The number of the test's line.
+    fn line(&self) -> u32
+        ensures { result ≡ self.now.0 % 65536 }
+    {
+        self.0 % 0x1_0000
+    }
 }
 
 impl Display for TestWord {
     fn fmt<W: fmt::Write>(&self, f: &mut Formatter<W>) -> fmt::Result {
-        let (name, line) = (self.name(), self.0 % 0x1_0000);
+        let (name, line) = (self.name(), self.line());
         if name.is_empty() {
             return Ok(());
         }

@@ -15,7 +15,9 @@ class CodePane {
     this.hasSource = run.source.length > 0;
     this.bySource = this.hasSource;
     this.story = story;
-    for (const pane of [byId('src'), byId('code'), byId('sup')]) pane.replaceChildren();
+    this.rowsOfC = new Map();
+    for (const pane of [byId('c'), byId('src'), byId('code'), byId('sup')]) pane.replaceChildren();
+    this.listC();
     this.listUserCode();
     this.listSupervisorCode();
     this.listSource();
@@ -55,16 +57,62 @@ class CodePane {
     const kind = block.number ? '' : (of.framed ? ' framed' : ' leaf') + (accepted ? ', budget ' + of.budget : '');
     const terms = block.terms.map(([location, factor]) => (factor < 0 ? ' - ' : ' + ') + Math.abs(factor) + '\u00B7' +
         (location < 32 ? registerName(location) : 'slot ' + (location - 32)));
-    return blockName(block) + kind + (accepted && block.number ? '  fuel ' + block.fuel + terms.join('') : '');
+    return blockName(this.run, block) + kind + (accepted && block.number ? '  fuel ' + block.fuel + terms.join('') : '');
+  }
+
+  // The files of C, and a row a line; of a file whose text isn't there the lines that words come from.
+  listC() {
+    const pane = byId('c');
+    for (const file of this.run.files) {
+      const numbers = [...file.known.keys()].sort((one, other) => one - other), known = file.lines.length > 0;
+      pane.appendChild(element('div', 'row fn', file.name + (known ? '' : ': its text isn\u2019t there')));
+      const shown = known ? file.lines.map((_, at) => at + 1) : numbers;
+      for (const number of shown) this.listLineOfC(pane, file, number);
+    }
+    pane.hidden = this.run.files.length === 0;
+  }
+
+  listLineOfC(pane, file, number) {
+    const row = element('div', 'row src'), line = file.known.get(number);
+    row.sign = row.appendChild(element('span', 'g'));
+    row.appendChild(element('span', 'ad', String(number).padStart(4) + ' '));
+    row.appendChild(element('span', 'tx', (file.lines[number - 1] || '').replace(/\t/g, '    ')));
+    row.pane = pane;
+    pane.appendChild(row);
+    if (!line) return;
+    row.dataset.line = lineName(line);
+    row.appendChild(element('span', 'n', line.own ? '\u00D7' + line.own : '')).title = 'turns here in the whole run';
+    row.addEventListener('click', () => this.nextOfC(line));
+    this.rowsOfC.set(line, row);
+  }
+
+  // Calls with the next turn at which the run comes to a line of C, from the first one again where there is none
+  // behind.
+  nextOfC(line) {
+    const {run, turn} = this, isAt = at => run.isUserAt(at) && run.lineAt(run.pc[at]) === line;
+    for (let step = 1; step <= run.turns; step++) {
+      const next = (turn + step - 1) % run.turns + 1;
+      if (isAt(next) && !(next > 1 && isAt(next - 1))) return this.go(next);
+    }
+  }
+
+  // Before the words of a line of C its text.
+  listHeadOfC(pane, address, last) {
+    const line = this.run.lineAt(address);
+    if (line && line !== last)
+      pane.appendChild(element('div', 'row cl', '        ' + lineName(line) + '  ' + line.text)).title = line.text;
+    return line;
   }
 
   listUserCode() {
+    let line = null;
     const pane = byId('code'), blocks = new Map(this.run.blocks.map(block => [block.address, block]));
     const many = this.run.code.size > MOST_WORDS;
     for (const listed of this.run.code.values()) {
       if (listed.address >= USER_CODE_END || many && !listed.runs) continue;
       const block = blocks.get(listed.address);
       if (block) pane.appendChild(element('div', 'row fn', this.blockTitle(block)));
+      line = this.listHeadOfC(pane, listed.address, block ? null : line);
       pane.appendChild(this.makeRow(listed, pane));
     }
   }
@@ -156,7 +204,10 @@ class CodePane {
   }
 
   mark(address, classes, sign) {
-    const row = this.bySource && this.sourceRows.get(address) || this.rows.get(address);
+    return this.markRow(this.bySource && this.sourceRows.get(address) || this.rows.get(address), classes, sign);
+  }
+
+  markRow(row, classes, sign) {
     if (!row) return null;
     row.classList.add(...classes.split(' '));
     row.sign.textContent = (row.sign.textContent + ' ' + sign).trim();
@@ -183,9 +234,22 @@ class CodePane {
     const now = turn ? this.mark(run.pc[turn], run.event[turn] === ANNULLED ? 'now an' : 'now', String(turn)) : null;
     const next = goesOn ? this.mark(run.pc[turn + 1], annuls ? 'nx an' : 'nx', 'PC') : null;
     if (goesOn) this.mark(run.npc[turn + 1], 'nn', 'nPC');
+    this.showC(turn, goesOn);
     if (turn && run.isSupervisor(turn)) this.showTrapped(countUpTo(story.traps, turn));
     this.showGroups(turn);
     for (const row of [next, now])
+      if (row) bringIntoView(row.pane, row);
+  }
+
+  // The line of C of the program's own last turn, and that of the one that comes next.
+  showC(turn, goesOn) {
+    const {run} = this;
+    let own = turn;
+    while (own > 0 && !run.isUserAt(own)) own--;
+    const now = own ? run.lineAt(run.pc[own]) : null, next = goesOn ? run.lineAt(run.pc[turn + 1]) : null;
+    const rowNow = this.markRow(this.rowsOfC.get(now), 'now', String(own));
+    const rowNext = next === now ? null : this.markRow(this.rowsOfC.get(next), 'nx', 'PC');
+    for (const row of [rowNext, rowNow])
       if (row) bringIntoView(row.pane, row);
   }
 

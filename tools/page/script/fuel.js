@@ -21,7 +21,7 @@ class FuelPane {
     this.top = bound ? run.functions[0].budget : Math.max(1, run.turns);
     this.drawPlot();
     this.plot.onclick = event => this.goToPlace(event, this.plot);
-    this.listBlocks();
+    this.listPlaces();
     this.drawStrip();
   }
 
@@ -62,28 +62,39 @@ class FuelPane {
     this.line(steps, 'var(--blue)');
   }
 
-  // Which blocks the most turns were made in, those of their traps apart.
-  listBlocks() {
-    const list = this.run.blocks.filter(block => block.own + block.traps)
+  // Which lines of C, or else which blocks, the most turns were made in, those of their traps apart.
+  listPlaces() {
+    const {run} = this, isOfC = run.linesOfC.length > 0;
+    const places = isOfC ? [...new Set(run.linesOfC.map(it => it.line))] : run.blocks;
+    const list = places.filter(place => place.own + place.traps)
                    .sort((one, other) => other.own + other.traps - one.own - one.traps);
     const most = list.length ? list[0].own + list[0].traps : 1;
-    this.bars = list.slice(0, SHOWN_BLOCKS).map(block => {
-      const bar = element('div', 'bar'),
-            picture = drawn('svg', {viewBox: '0 0 100 10', preserveAspectRatio: 'none', 'aria-hidden': 'true'});
-      picture.append(drawn('rect', {width: block.own / most * 100, height: 10, fill: 'var(--blue)'}),
-        drawn('rect', {x: block.own / most * 100, width: block.traps / most * 100, height: 10, fill: 'url(#hatch)'}));
-      bar.append(element('span', '', blockName(block) + ' ' + hex(block.address, 5)), picture,
-        element('span', '', block.own + (block.traps ? ' + ' + block.traps : '')));
-      bar.block = block;
-      bar.addEventListener('click', () => this.nextIn(block));
-      return bar;
-    });
+    const nameOf = place =>
+      isOfC ? lineName(place) + '  ' + place.text : blockName(run, place) + ' ' + hex(place.address, 5);
+    this.placeAt = turn => isOfC ? run.lineAt(run.pc[turn]) : run.blockOf(run.pc[turn]);
+    this.bars = list.slice(0, SHOWN_BLOCKS).map(place => this.makeBar(place, nameOf(place), most, isOfC));
     byId('hot').replaceChildren(...this.bars);
   }
 
-  nextIn(block) {
-    for (let turn = this.turn + 1; turn <= this.run.turns; turn++)
-      if (this.run.pc[turn] === block.address) return this.go(turn);
+  makeBar(place, name, most, isOfC) {
+    const bar = element('div', isOfC ? 'bar line' : 'bar'),
+          picture = drawn('svg', {viewBox: '0 0 100 10', preserveAspectRatio: 'none', 'aria-hidden': 'true'});
+    picture.append(drawn('rect', {width: place.own / most * 100, height: 10, fill: 'var(--blue)'}),
+      drawn('rect', {x: place.own / most * 100, width: place.traps / most * 100, height: 10, fill: 'url(#hatch)'}));
+    bar.append(element('span', '', name), picture,
+      element('span', '', place.own + (place.traps ? ' + ' + place.traps : '')));
+    bar.title = name;
+    bar.place = place;
+    bar.addEventListener('click', () => this.nextIn(place));
+    return bar;
+  }
+
+  // The next turn at which the run comes to a place.
+  nextIn(place) {
+    const {run} = this, isFirst = turn => place.address === undefined ?
+      this.placeAt(turn) === place && this.placeAt(turn - 1) !== place : run.pc[turn] === place.address;
+    for (let turn = this.turn + 1; turn <= run.turns; turn++)
+      if (isFirst(turn)) return this.go(turn);
   }
 
   kindBetween(from, to) {
@@ -125,7 +136,8 @@ class FuelPane {
         ' (dashed); left at most ' + (by - turn) :
       'used ' + turn + '; the image isn\u2019t accepted, so its fuel bounds nothing';
     this.plot.setAttribute('aria-label', byId('fuelsay').textContent);
-    for (const bar of this.bars) bar.classList.toggle('cur', turn > 0 && run.blockOf(run.pc[turn]) === bar.block);
+    const now = turn > 0 ? this.placeAt(turn) : null;
+    for (const bar of this.bars) bar.classList.toggle('cur', now === bar.place);
   }
 
   // Where the run beside stands, as a dotted line.

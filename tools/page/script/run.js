@@ -65,6 +65,10 @@ class Run {
     this.blocks = [];
     this.source = [];
     this.reason = [];
+    this.names = new Map();  // of functions and blocks, by address
+    this.parts = [];         // where functions of C begin: address and name
+    this.files = [];         // of C: name and lines
+    this.linesOfC = [];      // where words of a line of C begin
     this.trapNames = new Map();
     this.faultTexts = new Map();
     this.registers = new Map();
@@ -99,9 +103,23 @@ class Run {
       case 's':
         this.source.push({address: fromHex(fields[0]), words: Number(fields[1]), text: textOf(fields[2] || '')});
         break;
+      case 'i': this.names.set(fromHex(fields[0]), textOf(fields[1])); break;
+      case 'j': this.parts.push({address: fromHex(fields[0]), name: textOf(fields[1])}); break;
+      case 'o': this.files.push({name: textOf(fields[1]), lines: []}); break;
+      case 'u': this.files[Number(fields[0])].lines.push(textOf(fields[1] || '')); break;
+      case 'x': this.readLineOfC(fromHex(fields[0]), this.files[Number(fields[1])], Number(fields[2])); break;
+      case 'z': this.endText = textOf(fields[0]); break;
       case 'r': this.readBoot(fields.map(fromHex)); break;
       case 'g': historyIn(this.registers, fromHex(fields[0])).put(0, fromHex(fields[1])); break;
     }
+  }
+
+  // Words of one line of C share what is known of it.
+  readLineOfC(address, file, number) {
+    file.known = file.known || new Map();
+    if (!file.known.has(number))
+      file.known.set(number, {file, number, own: 0, traps: 0, text: (file.lines[number - 1] || '').trim()});
+    this.linesOfC.push({address, line: file.known.get(number)});
   }
 
   readBoot([pc, npc, psr, wim, trapBase, y]) {
@@ -226,6 +244,8 @@ class Run {
   // The state behind a turn.
   window(turn) { return this.psr.at(turn) & CWP_BITS; }
   isSupervisor(turn) { return (this.psr.at(turn) >>> SUPERVISOR_BIT & 1) === 1; }
+  // Whether a turn is the program's own.
+  isUserAt(turn) { return !this.isSupervisor(turn - 1); }
   memoryWord(address) { return this.memory.get(address) || NEVER; }
   entry(place) { return this.entries.get(place) || NEVER; }
 
@@ -254,6 +274,28 @@ class Run {
     return count > 0 && this.inputTurns[count - 1] === turn;
   }
 
+  // The last of some things, by ascending addresses, that begins at an address of user code or before it.
+  lastOf(things, address) {
+    if (address >= USER_CODE_END) return null;
+    let low = 0, high = things.length;
+    while (low < high) {
+      const middle = low + high >> 1;
+      if (things[middle].address <= address) low = middle + 1;
+      else high = middle;
+    }
+    return low ? things[low - 1] : null;
+  }
+
+  // The line of C that a word comes from, and the name of the function of C; null and nothing where that isn't known.
+  lineAt(address) {
+    const found = this.lastOf(this.linesOfC, address);
+    return found && found.line;
+  }
+  partAt(address) {
+    const found = this.lastOf(this.parts, address);
+    return found ? found.name : '';
+  }
+
   // The block that an address of user code lies in.
   blockOf(address) {
     if (address >= USER_CODE_END || !this.blocks.length) return null;
@@ -264,20 +306,26 @@ class Run {
 }
 
 const USER_CODE_END = 0x80000, TRAP_TABLE_PAGE = 0xF0000, HANDLERS_PAGE = 0xF0001, UNDERFLOW = 0xF0001080;
-const blockName = block => 'f' + block.function.number + (block.number ? '_b' + block.number : '');
+const functionName = (run, of) => run.names.get(of.address) || run.partAt(of.address) || 'f' + of.number;
+const blockName = (run, block) => run.names.get(block.address) ||
+  (block.number ? 'f' + block.function.number + '_b' + block.number : functionName(run, block.function));
+const lineName = line => line.file.name.replace(/.*\//, '') + ':' + line.number;
 const registerName = number => number === 14 ? '%sp' :
   number === 30                              ? '%fp' :
                                                '%' +
     'goli'[number >> 3] + (number & 7);
 
-// The name of a place, as `inspect trace` has it.
+// The name of a place, as `inspect trace` has it; with a source, or a map, by the names that these have.
 function placeName(run, address) {
   if (address >>> 12 === TRAP_TABLE_PAGE) return 'vector ' + hex(address >>> 4 & 255, 2) + '+' + hex(address & 15, 1);
   if (address >>> 12 === HANDLERS_PAGE)
     return address < UNDERFLOW ? 'overflow+' + hex(address & 0xFFF, 1) :
                                  'underflow+' + hex((address & 0xFFF) - 0x80, 1);
-  const block = run.blockOf(address);
-  return block ? 'f' + block.function.number + '+' + hex(address - block.function.address, 1) : '-';
+  const block = run.blockOf(address), line = run.lineAt(address);
+  if (!block) return '-';
+  const name = functionName(run, block.function), part = line ? run.partAt(address) : '';
+  return name + '+' + hex(address - block.function.address, 1) +
+    (line ? ' \u00B7 ' + (part === name ? '' : part + ' ') + lineName(line) : '');
 }
 
 // The operation of an arithmetic word (op3), -1 of another; SAVE and RESTORE among them.

@@ -18,7 +18,7 @@ function registerNumber(name) {
 // An address: hexadecimal, or the name of a function or a block, for its first word; else the name of a place begins
 // so.
 function addressStop(run, text) {
-  const block = run.blocks.find(it => blockName(it) === text.toLowerCase());
+  const block = run.blocks.find(it => blockName(run, it).toLowerCase() === text.toLowerCase());
   if (block) return turn => run.pc[turn] === block.address;
   if (/^[0-9a-f]{4,8}$/i.test(text)) return turn => run.pc[turn] === fromHex(text);
   return text ? turn => placeName(run, run.pc[turn]).toLowerCase().startsWith(text.toLowerCase()) : null;

@@ -25,8 +25,9 @@ class Story {
     this.frame = this.root;
     this.frameOf = new Map([[0, this.root]]);  // by window: the frame that was opened in it last
     for (const block of run.blocks) block.own = block.traps = 0;
+    for (const {line} of run.linesOfC) line.own = line.traps = 0;
     this.kind = OF_USER;
-    this.block = null;
+    this.block = this.line = null;
     for (let turn = 1; turn <= run.turns; turn++) this.follow(turn);
   }
 
@@ -36,12 +37,14 @@ class Story {
     if (listed) listed.runs++;
     if (!supervisor) {
       this.block = run.blockOf(pc) || this.block;
+      this.line = run.lineAt(pc) || this.line;
       this.kind = OF_USER;
     }
     this.kinds[turn] = this.kindOf(turn, supervisor);
     const windowTrap = this.kinds[turn] === OF_OVERFLOW || this.kinds[turn] === OF_UNDERFLOW;
     this.plain[turn] = this.plain[turn - 1] + (windowTrap ? 0 : 1);
-    if (this.block) this.block[supervisor || windowTrap ? 'traps' : 'own']++;
+    for (const place of [this.block, this.line])
+      if (place) place[supervisor || windowTrap ? 'traps' : 'own']++;
     if (run.didRun(turn)) this.followFrames(turn, pc, listed && !supervisor ? arithmetic(listed.word) : -1);
   }
 
@@ -91,8 +94,9 @@ class Story {
   }
 
   nameOf(frame) {
-    if (frame.block) return 'f' + frame.block.function.number;
-    return !frame.parent && this.run.functions.length && !this.run.functions[0].framed ? 'f0' : 'start';
+    const {functions} = this.run;
+    if (frame.block) return functionName(this.run, frame.block.function);
+    return !frame.parent && functions.length && !functions[0].framed ? functionName(this.run, functions[0]) : 'start';
   }
 
   // The first turn behind which so many turns are made that aren't of window traps.
@@ -156,7 +160,7 @@ function eventSentence(run, turn) {
     case ANNULLED: return 'annulled: this slot isn\u2019t fetched, and costs a turn';
     case TRAPPED: return trapSentence(run, turn);
     case ERROR: return 'ERROR MODE by trap ' + hex(run.eventValue[turn], 2) + ' ' + run.trapName(run.eventValue[turn]);
-    case EXITED: return 'EXIT with the word ' + hex(run.eventValue[turn]);
+    case EXITED: return 'EXIT' + (run.endText ? ': ' + run.endText : ' with the word ' + hex(run.eventValue[turn]));
     case STOPPED: return 'STOPPED: no handler serves this trap';
     default: return ranSentence(run, turn);
   }
