@@ -15,7 +15,9 @@
      is undefined behaviour. The struct may be copied and moved; the copies are one handle.
    - Threads. A handle is given to one call at a time. Between calls it may go to another thread, ordered by a lock or a join. Calls
      with different handles, and calls without any, run side by side in as many threads as you like: the library has no state of
-     its own.
+     its own. That is so too of handles that share one image (image_share): no call writes to it, each may be opened anew, closed and
+     freed at any time, and the last that lets the image go frees it. So an image is checked once a process, and each thread has a
+     handle to it.
    - No call from a signal handler; no longjmp out of one, and no cancellation of a thread within one. In the forked child of a process
      that has threads a call is as malloc is there, since the library has no lock.
    - 64 KB of stack, an x86-64 processor with SSE4.2 and POPCNT (x86-64-v2), and malloc, realloc and free that are one allocator
@@ -32,8 +34,8 @@
    An image declares its turns and its services, and the verifier holds it to them; it doesn't judge whether they are too many. That
    is for you: give terms.
 
-   A run is a function of its image, its input and the count of windows: its output, its exit word, its turns, overflows and underflows
-   are the same wherever and how often it is made. So a run that was lost may be made again, or made twice and compared. */
+   A run is a function of image, input and terms, turns included: run it again, or twice, anywhere. Of the terms the count of windows
+   changes its turns, overflows and underflows; the rest say only whether it is made, and where its output is cut. */
 #ifndef GEYSERPAN_H
 #define GEYSERPAN_H
 #include <stddef.h>
@@ -58,7 +60,8 @@ enum geyserpan_status {
     GEYSERPAN_REFUSED = 2,   /* the image breaks a rule: why->number is that of the rule, 1 to 20 of V1 to V20, in why->function, at
                                 why->address: of the rules that it breaks the one of least number at the least address */
     GEYSERPAN_MEMORY = 3,    /* memory was refused */
-    GEYSERPAN_WINDOWS = 4,   /* terms->windows is below 4 or above 32; of begin and restart: the image was opened for other than 8 */
+    GEYSERPAN_WINDOWS = 4,   /* terms->windows is below 4 or above 32; of begin and restart: the image was opened for other than
+                                8; of begin_with: the terms say other than 8 */
     GEYSERPAN_SERVICES = 5,  /* the image declares a service that the terms don't grant: it wasn't run */
     GEYSERPAN_TURNS = 6,     /* the image declares more turns than the terms grant: it wasn't run */
     GEYSERPAN_ROOM = 7,      /* the room is smaller than what was to be written: report->output, or *needed, is that length, and the
@@ -85,6 +88,19 @@ enum geyserpan_status {
 
 /* What a program may ask for: to end, to read a byte of its input, to write a byte of its output. */
 enum geyserpan_service { GEYSERPAN_EXIT = 1, GEYSERPAN_GET = 2, GEYSERPAN_PUT = 4, GEYSERPAN_ALL_SERVICES = 7 };
+
+/* What an exit word tells of a program whose accesses, divisions, loops and calls the front end holds by tests (fit, and so cc): where
+   one fails, the run ends with the word 000KLLLL (in hex), of which K is one of these numbers, and LLLL the line of the source. Any
+   program may end with such a word of its own. */
+enum geyserpan_test {
+    GEYSERPAN_TEST_NONE = 0,    /* no such word */
+    GEYSERPAN_TEST_INDEX = 1,   /* an index leaves its object */
+    GEYSERPAN_TEST_POINTER = 2, /* a pointer leaves the data, isn't aligned, or leads to a constant */
+    GEYSERPAN_TEST_DIVISOR = 3, /* a divisor is 0 */
+    GEYSERPAN_TEST_LOOPS = 4,   /* the loops have used up their turns */
+    GEYSERPAN_TEST_DEPTH = 5,   /* calls go too deep */
+    GEYSERPAN_TEST_CALL = 9     /* a call through a pointer that is no function's */
+};
 
 /* What you grant: turns, at 40 million a second or so; bytes of output; services, as a sum of their numbers; and on how many register
    windows a run is made, 4 to 32, which changes turns and never the output. { 1000000, 65536, 7, 8 } is a fortieth of a second. Terms of
@@ -126,6 +142,15 @@ typedef struct {
    mark: its length, at most 96, and the text at the front of the room, if it fits there. Only tested. */
 size_t geyserpan_why_text(uint32_t status, const geyserpan_why *why, uint8_t *room, size_t room_length);
 
+/* The same of the statuses of terms, with both numbers ("asks for 5,000,000 turns, 1,000,000 are granted"): TURNS and SERVICES by the
+   facts of the image and the terms that it was compared with, WINDOWS and OUTPUT by the terms; of another status the text of
+   why_text with zeros. At most 96 long. Only tested. */
+size_t geyserpan_terms_text(uint32_t status, const geyserpan_facts *facts, const geyserpan_terms *terms, uint8_t *room,
+                            size_t room_length);
+
+/* The kind of test by which a run with this exit word ended, one of geyserpan_test. */
+uint32_t geyserpan_exit_kind(uint32_t word);
+
 /* ---- Without a handle ---- */
 
 /* The verdict on the bytes of an image: OK writes facts, NO_IMAGE and REFUSED write why; MEMORY. */
@@ -142,6 +167,10 @@ uint32_t geyserpan_once(const uint8_t *image, size_t image_length, const geyserp
 uint32_t geyserpan_assemble(const uint8_t *source, size_t source_length, uint8_t *room, size_t room_length, uint64_t *needed,
                             geyserpan_why *why);
 
+/* The SHA-256 of an image's bytes, or of any others, 32 bytes at the front of the room: a name for the image that all hosts agree on. OK,
+   ROOM. */
+uint32_t geyserpan_sha256(const uint8_t *bytes, size_t length, uint8_t *room, size_t room_length);
+
 /* ---- Images that are checked once and run often ---- */
 
 typedef struct {
@@ -157,6 +186,11 @@ void geyserpan_image_free(geyserpan_image image);
 /* Checks an image, compares it with the terms, and has the handle hold both; what it held before is let go. The bytes aren't needed after
    it. OK; NO_IMAGE, REFUSED (why); WINDOWS, SERVICES, TURNS, MEMORY: the handle then holds what it held. */
 uint32_t geyserpan_open(geyserpan_image *image, const uint8_t *bytes, size_t length, const geyserpan_terms *terms, geyserpan_why *why);
+
+/* Has another handle hold the image that this one holds, on the same terms; what the other held before is let go. Nothing is checked
+   again, and nothing of the image copied: OK; HANDLE; MEMORY where 2^63 handles share it already. The two are different handles from
+   then on: what happens to one changes nothing of the other. */
+uint32_t geyserpan_image_share(geyserpan_image *image, geyserpan_image *other);
 
 /* The facts of the image: OK or HANDLE. */
 uint32_t geyserpan_facts_of(geyserpan_image *image, geyserpan_facts *facts);
@@ -185,7 +219,12 @@ void geyserpan_run_free(geyserpan_run run);
    run that there was goes on. */
 uint32_t geyserpan_begin(geyserpan_run *run, geyserpan_image *image);
 
-/* The same on the board that the handle has, without taking memory: OK; WINDOWS, or HANDLE where there is no image or no board: the run
+/* As begin, on these terms in the place of those that the image was opened on, which stay the image's: as many bytes of output are granted,
+   and the image is compared with them first. OK; WINDOWS where they say other than 8, SERVICES, TURNS; HANDLE, MEMORY: the run that
+   there was goes on. */
+uint32_t geyserpan_begin_with(geyserpan_run *run, geyserpan_image *image, const geyserpan_terms *terms);
+
+/* The same as begin on the board that the handle has, without taking memory: OK; WINDOWS, or HANDLE where there is no image or no board: the run
    that there was goes on. */
 uint32_t geyserpan_restart(geyserpan_run *run, geyserpan_image *image);
 
@@ -193,7 +232,7 @@ uint32_t geyserpan_restart(geyserpan_run *run, geyserpan_image *image);
    where it is 0 the program isn't told of an end.
    ENDED, WANTS, FULL, PAUSED, OUTPUT, LOST, each with done; or HANDLE. Pieces and rooms have any size, 0 too: what is put out
    depends on the bytes alone. What was written so far is a front of the image's output on the bytes read so far, with each status, and
-   with ENDED all of it; it is never more than the terms grant that the image was opened on. Behind what is written the room stays as it
+   with ENDED all of it; it is never more than the terms grant that the run was begun on. Behind what is written the room stays as it
    was. It makes no turn more than it is allowed, and the turns of the run are never more than its budget; with ENDED they are those of
    `once` on 8 windows. Where the input has ended, later pieces aren't read (only tested). It takes no memory. */
 uint32_t geyserpan_step(geyserpan_run *run, uint64_t turns, const uint8_t *input, size_t input_length, uint32_t last, uint8_t *room,
@@ -225,6 +264,11 @@ void geyserpan_engine_free(geyserpan_engine engine);
    The image isn't needed after it: it may be closed, or opened anew, while the run goes on. OK; HANDLE, MEMORY: the run that there was
    goes on. */
 uint32_t geyserpan_engine_begin(geyserpan_engine *engine, geyserpan_image *image);
+
+/* As engine_begin, on these terms in the place of those that the image was opened on, which stay the image's: the run counts on as many
+   windows, 4 to 32, as many bytes of output are granted, and the image is compared with them first. OK; WINDOWS, SERVICES, TURNS;
+   HANDLE, MEMORY: the run that there was goes on. */
+uint32_t geyserpan_engine_begin_with(geyserpan_engine *engine, geyserpan_image *image, const geyserpan_terms *terms);
 
 /* Goes on with the run as `step` does: ENDED, WANTS, FULL, PAUSED, OUTPUT, each with done; or HANDLE. A SAVE that finds no window free
    makes 25 turns at once: where fewer are left they are put by for the next step, so that steps of one turn go on too, and none makes

@@ -6,8 +6,9 @@ Tries libgeyserpan from outside, as tools/release/library lays it out: into PREF
 removed. Compares what it exports and asks for, and the layout of its structs, with include/geyserpan.h; what it tells
 of each example image and of each refused source with the files beside them; outputs whole and in pieces of odd sizes;
 goes through refusals, empty handles and ends; refuses each growth of memory in turn by an allocator of its own; makes
-many runs under AddressSanitizer and valgrind, and in eight threads under ThreadSanitizer; and builds and runs the
-examples of embed/ in C, C++, Rust, Python and Go. What isn't there is skipped, and said so. Where the program of
+many runs under AddressSanitizer and valgrind, and in eight threads under ThreadSanitizer, on images of their own and on
+one that they share; begins runs on terms of their own; compares the names of images with hashlib's; and builds and runs
+the examples of embed/ in C, C++, Rust, Python and Go. What isn't there is skipped, and said so. Where the program of
 ./sandbox is built, its verdicts and outputs are compared, too.
 
 With --installed it tries a release that `install PREFIX` has laid out: what the library exports, and the hosts of
@@ -17,12 +18,14 @@ With --cost it only measures a run of three examples by `once`, by `run_image`, 
 `engine_run`, by `engine_begin` and `engine_step`, in microseconds of the processor and, where valgrind is there, in
 instructions, and by a process of the program; and the size of the library."""
 import glob
+import hashlib
 import os
 import re
 import resource
 import shutil
 import subprocess
 import sys
+import sysconfig
 import tempfile
 
 sys.dont_write_bytecode = True
@@ -340,13 +343,56 @@ def try_growths(prefix, work, image):
     print("refused in turn:", ran.out.decode().strip())
 
 
+# ---- images that are shared, terms of a run, names
+
+
+def hashes_of(path):
+    """The SHA-256 of a file's first parts, up to 300 bytes, and of all of it, a line each."""
+    whole = bytes_of(path)
+    parts = [whole[:length] for length in range(min(300, len(whole)) + 1)]
+    parts += [whole] if len(whole) > 300 else []
+    return "".join(f"{hashlib.sha256(it).hexdigest()}\n" for it in parts).encode()
+
+
+def try_hashes(shares):
+    """The names of images are those that Python's hashlib gives."""
+    for path in (f"{EXAMPLES}/echo/echo.img", f"{SOURCES}/calls.c"):
+        gives(f"the hashes of {os.path.basename(path)}", run([shares, "hashes", path]), hashes_of(path))
+
+
+def try_shares(prefix, work, echo):
+    """Shared images, terms of a run and names: as they are, under sanitizers and under valgrind."""
+    words = [f"-I{prefix}/include", f"{SOURCES}/shares.c", f"{prefix}/lib/libgeyserpan.a", "-lpthread"]
+    shares = f"{work}/shares"
+    if not made(["cc", "-g", "-std=c11", *WARNINGS, *words, "-o", shares], "shares.c"):
+        return
+    try_hashes(shares)
+    ways = [([shares], "2000")] + ([([*VALGRIND, shares], "3")] if has("valgrind") else [])
+    for compiler in filter(has, ("gcc", "clang")):
+        for kind in ("address,undefined", "thread"):
+            checked = f"{work}/shares-{compiler}-{kind[:6]}"
+            if run([compiler, "-g", "-O1", f"-fsanitize={kind}", *words, "-o", checked]).status:
+                TALLY.skip(f"shares.c by {compiler} -fsanitize={kind}", "its library")
+            else:
+                ways.append((["setarch", "-R", checked], "200"))
+    for way, runs in ways:
+        gives(f"terms by {way[-1]}", run([*way, "terms", echo], seconds=None), b"terms\n", err=b"")
+        gives(f"shared by 8 threads by {way[-1]}", run([*way, "threads", echo, "8", runs], seconds=None),
+              b"threads\n", err=b"")
+
+
 # ---- hosts
 
 
 def try_filter(words, what, image, **more):
-    """A host that runs the filter, on a board and on the engine, and that tells why an image is refused."""
+    """A host that runs the filter, on a board and on the engine."""
     for way in ([], ["engine"]):
-        gives(f"{what} {' '.join(way)}", run([*words, image, *way], REQUESTS, **more), ANSWERS)
+        try_lines(words, what, image, way, **more)
+
+
+def try_lines(words, what, image, way, **more):
+    """A host that runs the filter, and tells why an image is refused."""
+    gives(f"{what} {' '.join(way)}", run([*words, image, *way], REQUESTS, **more), ANSWERS)
     ran = run([*words, f"{EXAMPLES}/refused/V1.img"], REQUESTS, **more)
     wanted = text_of(f"{EXAMPLES}/refused/V1.told").splitlines()[0]
     holds = ran.status != 0 and not ran.out and (wanted in ran.said or "Refused" in ran.said)
@@ -428,12 +474,48 @@ def try_rust(prefix, embed, work, image):
         gives(f"embed/rust: 1,000 sessions {' '.join(way)}", came, SENTENCE)
 
 
-def try_python(prefix, embed, image):
-    """The hosts in Python."""
-    env = {**shown_by(prefix), "PYTHONPATH": f"{embed}/python"}
-    try_filter([sys.executable, f"{embed}/python/filter.py"], "embed/python", image, env=env)
-    echo = f"{EXAMPLES}/echo/echo"
-    gives("embed/python", run([sys.executable, f"{SOURCES}/calls.py", f"{echo}.img", f"{echo}.s"], env=env), b"")
+def python_site(prefix, embed, work, *flags):
+    """A folder in which python finds the package, its module compiled; None where it can't be compiled."""
+    site, source = f"{work}/site{len(flags)}", f"{embed}/python/src/geyserpan"
+    shutil.copytree(source, f"{site}/geyserpan", ignore=shutil.ignore_patterns("__pycache__"))
+    include = f"-I{sysconfig.get_paths()['include']}"
+    words = ["cc", "-std=c11", "-O2", "-Wall", "-Wextra", "-Werror", "-DPy_LIMITED_API=0x030B0000", include,
+             f"-I{prefix}/include", *flags, "-shared", "-fPIC", f"{source}/_native.c", f"{prefix}/lib/libgeyserpan.a"]
+    if not os.path.exists(f"{include[2:]}/Python.h"):
+        TALLY.skip("embed/python", "Python.h")
+        return None
+    return site if made([*words, "-o", f"{site}/geyserpan/_native.abi3.so"], "embed/python's module") else None
+
+
+def try_pytest(embed, site, what, **more):
+    """The package's own tests."""
+    env = {**os.environ, "PYTHONPATH": site, "PYTHONDONTWRITEBYTECODE": "1", "GEYSERPAN_EXAMPLES": EXAMPLES, **more}
+    words = [sys.executable, "-m", "pytest", "-q", "-p", "no:cacheprovider", f"{embed}/python/tests"]
+    ran = run(words, env=env, seconds=None)
+    TALLY.check(what, ran.status == 0, f"wanted that all pass, came {ran.said[-3000:]}")
+
+
+def try_python(prefix, embed, work, image):
+    """The package for Python: its example and its tests, also under AddressSanitizer, and its types."""
+    site = python_site(prefix, embed, work)
+    if not site:
+        return
+    env = {**os.environ, "PYTHONPATH": site, "PYTHONDONTWRITEBYTECODE": "1"}
+    try_lines([sys.executable, f"{embed}/python/filter.py"], "embed/python", image, [], env=env)
+    if run([sys.executable, "-m", "pytest", "--version"]).status:
+        TALLY.skip("embed/python's tests", "pytest")
+        return
+    try_pytest(embed, site, "embed/python's tests")
+    asan = run(["cc", "-print-file-name=libasan.so"]).out.decode().strip()
+    checked = os.path.isabs(asan) and python_site(prefix, embed, work, "-g", "-fsanitize=address")
+    if checked:
+        try_pytest(embed, checked, "embed/python's tests under AddressSanitizer", LD_PRELOAD=asan,
+                   ASAN_OPTIONS="detect_leaks=0")
+    if run([sys.executable, "-m", "mypy", "--version"]).status:
+        TALLY.skip("embed/python's types", "mypy")
+    else:
+        ran = run([sys.executable, "-m", "mypy", "--cache-dir=/dev/null"], cwd=f"{embed}/python", seconds=None)
+        TALLY.check("embed/python's types", ran.status == 0, f"wanted none that is wrong, came {ran.said}")
 
 
 def try_go(prefix, embed, work, image):
@@ -471,7 +553,7 @@ def try_hosts(prefix, embed, work, image):
     try_c(prefix, embed, work, image)
     try_cxx(prefix, embed, work, image)
     try_rust(prefix, embed, work, image)
-    try_python(prefix, embed, image)
+    try_python(prefix, embed, work, image)
     try_go(prefix, embed, work, image)
 
 
@@ -584,6 +666,7 @@ def try_all(prefix, work):
     gives("threads", run([calls, "threads", echo, "8", "2000"], seconds=None), b"threads\n")
     gives("many runs", run([calls, "many", filter_image, "50000"], b"HAL", seconds=None), b"IBM")
     try_growths(prefix, work, echo)
+    try_shares(prefix, work, echo)
     try_sanitizers(prefix, work, filter_image, echo)
     try_valgrind(calls, filter_image)
     try_hosts(prefix, f"{TOP}/embed", work, filter_image)

@@ -40,7 +40,7 @@ READ = (
 LOOPS = (
     ("crates/board/src/files.rt", "for word in words", "5e91a40b"),
     ("crates/board/src/files.rt", "for bytes in loaded . bytes . chunks ( RECORD )", "406cf94d"),
-    ("crates/board/src/main.rt", "for chunk in bytes . chunks ( 4 )", "993a0142"),
+    ("crates/board/src/main.rt", "for chunk in bytes . chunks ( 4 )", "cee08e4a"),
     ("crates/board/src/main.rt", "for number in 0..u64 :: from ( RAM ) / 4", "da44b0ec"),
     ("crates/cmd_filing/src/images.rt", "for _ in 0..u64 :: MAX", "2eac437a"),
     ("crates/cmd_filing/src/reading.rt", "for _ in 0..u64 :: MAX", "c55dc408"),
@@ -87,6 +87,7 @@ LOOPS = (
     ("crates/inspect_start/src/reader.rt", "while rest . len ( ) > 0", "a966dca5"),
     ("crates/inspect_states/src/registers.rt", "for number in 0..32", "c7f614d9"),
     ("crates/inspect_states/src/turns.rt", "for done in 0..limit", "566622e4"),
+    ("crates/geyserpan/src/telling.rt", "for unit in & UNITS", "eef5f717"),
     ("crates/native_flow/src/labels.rt", "for number in 0..image.functions ( ) . len ( )", "b03a51ce"),
     ("crates/native_flow/src/translation.rt",
      "for ( k , region ) in image . regions ( ) . iter ( ) . enumerate ( )", "7238d247"),

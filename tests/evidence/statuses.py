@@ -5,7 +5,7 @@ import re
 from tokens import CLOSES, end_of, functions_of, opened_behind, words_at
 
 # What gives another number than a status.
-NUMBERS = ("fault_number", "cause_number", "depth_of", "geyserpan_abi")
+NUMBERS = ("fault_number", "cause_number", "depth_of", "geyserpan_abi", "geyserpan_exit_kind")
 # What begins an expression that ends with its block.
 BLOCKS = ("if", "match", "for", "while", "loop", "{")
 # Where the status of a step is taken apart from its exit word.

@@ -1,4 +1,5 @@
 pub mod Values
+pub mod Kepts
 pub mod ImageHandleValues
 pub mod RunHandleValues
 pub mod Fronts

@@ -15,6 +15,8 @@ use Rattle.geyserpan.specs.declared.terms.Terms.{Terms}
 use Rattle.geyserpan.specs.declared.terms.Why.{Why}
 use Rattle.geyserpan.specs.declared.admitting.Denial.{Denial}
 use Rattle.geyserpan.specs.declared.admitting.Denial.TheVariants as denials
+use Rattle.geyserpan.specs.declared.admitting.Lack.{Lack}
+use Rattle.geyserpan.specs.declared.admitting.Lack.TheVariants as lacks
 use Rattle.geyserpan.specs.declared.statuses.TheConstants.{NO_IMAGE, REFUSED, WINDOWS, SERVICES, TURNS}
 
 -- ---- what is granted
@@ -22,6 +24,10 @@ use Rattle.geyserpan.specs.declared.statuses.TheConstants.{NO_IMAGE, REFUSED, WI
 -- whether each service that the image declares is granted
 abbrev pub grants_services : Terms → Parts → Bool
 grants_services terms parts = bit_and terms.services parts.services.0 == parts.services.0
+
+-- they grant the services and the turns that the image declares
+abbrev pub Grants : Terms → Parts → Type 0
+Grants terms parts = (grants_services terms parts ≡ true) × (budget parts ≤ terms.turns)
 
 abbrev pub HasWindows : Terms → Type 0
 HasWindows terms = (4 ≤ terms.windows) × (terms.windows ≤ 32)
@@ -43,6 +49,11 @@ Explains bytes terms denials.Windows = (terms.windows < 4) ⊎ (32 < terms.windo
 Explains bytes terms denials.Services = (parts : Parts) × (reading bytes ≡ Ok parts)
     × (grants_services terms parts ≡ false)
 Explains bytes terms denials.Turns = (parts : Parts) × (reading bytes ≡ Ok parts) × (terms.turns < budget parts)
+
+-- what the terms don't grant of what the image declares
+abbrev pub IsLack : Terms → Parts → Lack → Type 0
+IsLack terms parts lacks.Services = grants_services terms parts ≡ false
+IsLack terms parts lacks.Turns = terms.turns < budget parts
 
 -- ---- how it is told
 

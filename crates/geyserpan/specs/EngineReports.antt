@@ -6,6 +6,7 @@ use Rattle.engine_runs.specs.declared.runs.FlatFinished.{FlatFinished}
 use Rattle.geyserpan.specs.Reports.{Hands}
 use Rattle.geyserpan.specs.declared.image_slot.ImageSlot.{ImageSlot}
 use Rattle.geyserpan.specs.declared.image_slot.Kept.{Kept}
+use Rattle.geyserpan.specs.Images.{parts_of}
 use Rattle.geyserpan.specs.declared.running.Report.{Report}
 
 -- The report tells each thing that the run gave. No page is told of, since the engine has none.
@@ -34,16 +35,16 @@ HasRun parts windows input before after report =
 
 abbrev pub HasReportOf : ImageSlot → List ℕ → Report → Type 0
 HasReportOf slot input report = (kept : Kept) × (slot.kept ≡ Some kept)
-    × HasReport kept.accepted kept.terms.windows input report
+    × HasReport (parts_of kept) kept.terms.windows input report
 
 -- its output is longer than its terms grant
 abbrev pub IsTooMuchOf : ImageSlot → List ℕ → Report → Type 0
 IsTooMuchOf slot input report =
-    (kept : Kept) × (slot.kept ≡ Some kept) × HasReport kept.accepted kept.terms.windows input report
+    (kept : Kept) × (slot.kept ≡ Some kept) × HasReport (parts_of kept) kept.terms.windows input report
     × (kept.terms.output < report.output)
 
 -- the room begins with it, no more than its terms grant
 abbrev pub HasRunOf : ImageSlot → List ℕ → List ℕ → List ℕ → Report → Type 0
 HasRunOf slot input before after report =
-    (kept : Kept) × (slot.kept ≡ Some kept) × HasRun kept.accepted kept.terms.windows input before after report
+    (kept : Kept) × (slot.kept ≡ Some kept) × HasRun (parts_of kept) kept.terms.windows input before after report
     × (report.output ≤ kept.terms.output)

@@ -10,6 +10,9 @@ use Rattle.geyserpan.specs.declared.engine_slot.EngineRun.{EngineRun}
 use Rattle.geyserpan.specs.declared.engine_slot.EngineSlot.{EngineSlot}
 use Rattle.geyserpan.specs.declared.image_slot.ImageSlot.{ImageSlot}
 use Rattle.geyserpan.specs.declared.image_slot.Kept.{Kept}
+use Rattle.geyserpan.specs.declared.terms.Terms.{Terms}
+use Rattle.geyserpan.specs.Denials.{Grants, HasWindows}
+use Rattle.geyserpan.specs.Images.{parts_of}
 use Rattle.geyserpan.specs.declared.run_slot.Done.{Done}
 use Rattle.geyserpan.specs.declared.statuses.TheConstants.{ENDED, FULL, HANDLE, LOST, OUTPUT, PAUSED, WANTS}
 
@@ -56,13 +59,17 @@ abbrev pub StepsSo : EngineRun → EngineSlot → ℕ → List ℕ → ℕ → L
 StepsSo run slot asked input last before after done status =
     (now : EngineRun) × (slot.run ≡ Some now) × GoesOn run now asked input (is_last last) before after done status
 
--- The handle holds a run of the kept image that counts on as many windows as its terms say, has read and written
--- nothing, has no turns put by, is granted as much output as the terms say, and wasn't told that its input has ended.
-abbrev pub Begins : Kept → EngineSlot → Type 0
-Begins kept slot =
-    (run : EngineRun) × (slot.run ≡ Some run) × IsBegun kept.accepted kept.terms.windows run.paced
-    × (run.granted ≡ kept.terms.output)
+-- The handle holds a run of the image that counts on as many windows as the terms say, has read and written nothing,
+-- has no turns put by, is granted as much output as the terms say, and wasn't told that its input has ended.
+abbrev pub Begins : Parts → Terms → EngineSlot → Type 0
+Begins parts terms slot =
+    (run : EngineRun) × (slot.run ≡ Some run) × IsBegun parts terms.windows run.paced × (run.granted ≡ terms.output)
 
--- and this handle held that image
+-- so of the image that this handle held, on its terms
 abbrev pub BeginsOf : ImageSlot → EngineSlot → Type 0
-BeginsOf image slot = (kept : Kept) × (image.kept ≡ Some kept) × Begins kept slot
+BeginsOf image slot = (kept : Kept) × (image.kept ≡ Some kept) × Begins (parts_of kept) kept.terms slot
+
+-- so on terms of the run's own, which grant what the image declares
+abbrev pub BeginsOn : ImageSlot → Terms → EngineSlot → Type 0
+BeginsOn image terms slot = (kept : Kept) × (image.kept ≡ Some kept) × Grants terms (parts_of kept) × HasWindows terms
+    × Begins (parts_of kept) terms slot

@@ -1,4 +1,5 @@
 pub mod Facts
+pub mod Names
 pub mod Denials
 pub mod Reports
 pub mod Images

@@ -7,6 +7,9 @@ use Rattle.sbx_session.specs.Going.{Goes, IsAllOf, IsFrontOf}
 use Rattle.sbx_session.specs.Steps.{AsksByte, HasByte}
 use Rattle.geyserpan.specs.declared.image_slot.ImageSlot.{ImageSlot}
 use Rattle.geyserpan.specs.declared.image_slot.Kept.{Kept}
+use Rattle.geyserpan.specs.declared.terms.Terms.{Terms}
+use Rattle.geyserpan.specs.Denials.{Grants}
+use Rattle.geyserpan.specs.Images.{parts_of}
 use Rattle.geyserpan.specs.declared.run_slot.Done.{Done}
 use Rattle.geyserpan.specs.declared.run_slot.Going.{Going}
 use Rattle.geyserpan.specs.declared.run_slot.RunSlot.{RunSlot}
@@ -90,14 +93,19 @@ pub record StepsSo (old new : RunSlot) (asked : ℕ) (input : List ℕ) (last : 
   pub full : status ≡ FULL → (done.written ≡ length after) × IsHolding new
   pub output : status ≡ OUTPUT → (granted_of new ≡ 0) × IsHolding new
 
--- the handle holds a run of the kept image, which has read and written nothing, is granted as much output as its terms
--- say, and wasn't told that its input has ended
-abbrev pub Begins : Kept → RunSlot → Type 0
-Begins kept slot = Runs slot kept.accepted [] [] × (granted_of slot ≡ kept.terms.output) × (met_of slot ≡ false)
+-- the handle holds a run of the image, which has read and written nothing, is granted as much output as the terms say,
+-- and wasn't told that its input has ended
+abbrev pub Begins : Parts → Terms → RunSlot → Type 0
+Begins parts terms slot = Runs slot parts [] [] × (granted_of slot ≡ terms.output) × (met_of slot ≡ false)
 
--- and this handle held that image
+-- so of the image that this handle held, on its terms
 abbrev pub BeginsOf : ImageSlot → RunSlot → Type 0
-BeginsOf image slot = (kept : Kept) × (image.kept ≡ Some kept) × Begins kept slot
+BeginsOf image slot = (kept : Kept) × (image.kept ≡ Some kept) × Begins (parts_of kept) kept.terms slot
+
+-- so on terms of the run's own, which grant what the image declares
+abbrev pub BeginsOn : ImageSlot → Terms → RunSlot → Type 0
+BeginsOn image terms slot = (kept : Kept) × (image.kept ≡ Some kept) × Grants terms (parts_of kept)
+    × (terms.windows ≡ 8) × Begins (parts_of kept) terms slot
 
 -- this handle holds an image that was opened for another count of windows than 8
 abbrev pub IsForOthers : ImageSlot → Type 0

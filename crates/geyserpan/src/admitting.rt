@@ -2,7 +2,7 @@
 ghost use Rattle.std.specs.Prelude.{◌≡◌, Ok, IfOk, IfErr};
 ghost use Rattle.sbx_image.specs.Reading.{reading};
 ghost use Rattle.sbx_flat.specs.Runs.{FlatSafe};
-ghost use Rattle.geyserpan.specs.Denials.{Explains, IsAdmitted};
+ghost use Rattle.geyserpan.specs.Denials.{Explains, Grants, IsAdmitted, IsLack};
 ghost use Rattle.geyserpan.specs.declared.terms.Terms.{Terms};
 
 use crate::terms::Terms;
@@ -26,6 +26,13 @@ pub enum Denial {
     Turns,
 }
 
+/// What an accepted image declares, and the terms don't grant.
+#[derive(Clone, Copy)]
+pub enum Lack {
+    Services,
+    Turns,
+}
+
 /// The accepted image of these bytes, or why there is none.
 pub fn judge(alloc: Global, bytes: &[u8]) -> Result<Accepted, Denial>
     ensures accepted { IfOk result (λ accepted. (reading bytes.now ≡ Ok accepted) × FlatSafe accepted) }
@@ -45,12 +52,24 @@ pub fn admit(alloc: Global, bytes: &[u8], terms: &Terms) -> Result<Accepted, Den
         return Err(Denial::Windows);
     }
     let accepted = judge(alloc, bytes)?;
+    match grant(&accepted, terms) {
+        Ok(()) => Ok(accepted),
+        Err(Lack::Services) => Err(Denial::Services),
+        Err(Lack::Turns) => Err(Denial::Turns),
+    }
+}
+
+/// Compares what an accepted image declares with what is granted; the first that isn't is told.
+pub fn grant(accepted: &Accepted, terms: &Terms) -> Result<(), Lack>
+    ensures granted { IfOk result (λ _. Grants terms.now accepted.now) }
+    ensures lacking { IfErr result (IsLack terms.now accepted.now) }
+{
     let services = u32::from(accepted.image().services().0);
     if terms.services & services != services {
-        return Err(Denial::Services);
+        return Err(Lack::Services);
     }
     if terms.turns < budget(accepted.image()) {
-        return Err(Denial::Turns);
+        return Err(Lack::Turns);
     }
-    Ok(accepted)
+    Ok(())
 }

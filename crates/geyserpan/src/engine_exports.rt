@@ -1,7 +1,9 @@
 //! The calls of runs on the engine.
 ghost use Rattle.std.specs.Prelude.{◌≡◌, ◌≢◌, ◌<◌, length, None, Some};
-ghost use Rattle.geyserpan.specs.Engines.{BeginsOf, StepsSo};
+ghost use Rattle.geyserpan.specs.Denials.{HasWindows};
+ghost use Rattle.geyserpan.specs.Engines.{BeginsOf, BeginsOn, StepsSo};
 ghost use Rattle.geyserpan.specs.EngineReports.{HasReportOf, HasRunOf, IsTooMuchOf};
+ghost use Rattle.geyserpan.specs.Images.{RunDenialOf};
 ghost use Rattle.geyserpan.specs.declared.engine_slot.EngineRun.{EngineRun};
 
 use crate::engine_handle::EngineHandle;
@@ -10,7 +12,8 @@ use crate::engine_slot::EngineSlot;
 use crate::image_handle::ImageHandle;
 use crate::run_slot::Done;
 use crate::running::Report;
-use crate::statuses::{HANDLE, MEMORY, OK, OUTPUT, ROOM};
+use crate::statuses::{HANDLE, MEMORY, OK, OUTPUT, ROOM, WINDOWS};
+use crate::terms::Terms;
 use std::alloc::Global;
 
 /// Makes the handle of a run on the engine, which holds none.
@@ -47,7 +50,28 @@ pub extern "C" fn geyserpan_engine_begin(
     ensures empty { result ≡ HANDLE → image.old.value.kept ≡ None }
 {
     match &image.lent().kept {
-        Some(kept) => engine.lent().begin(alloc, kept),
+        Some(kept) => engine.lent().begin(alloc, kept, &kept.terms),
+        None => HANDLE,
+    }
+}
+
+/// The same on terms of the run's own.
+#[unsafe(no_mangle)]
+pub extern "C" fn geyserpan_engine_begin_with(
+    alloc: Global,
+    engine: &mut EngineHandle,
+    image: &mut ImageHandle,
+    terms: &Terms,
+) -> u32
+    ensures begun { result ≡ OK → BeginsOn image.old.value terms.now engine.new.value }
+    ensures stays { result ≢ OK → engine.new.value ≡ engine.old.value }
+    ensures image { image.new.value ≡ image.old.value }
+    ensures windows { result ≡ WINDOWS → HasWindows terms.now → ⊥ }
+    ensures denied { RunDenialOf image.old.value terms.now result }
+    ensures empty { result ≡ HANDLE → image.old.value.kept ≡ None }
+{
+    match &image.lent().kept {
+        Some(kept) => engine.lent().begin_with(alloc, kept, terms),
         None => HANDLE,
     }
 }
@@ -102,7 +126,7 @@ pub extern "C" fn geyserpan_engine_run(
     ensures kept { handle.new.value ≡ handle.old.value }
 {
     match &handle.lent().kept {
-        Some(kept) => run_engine_into(alloc, &kept.accepted, &kept.terms, input, room, report),
+        Some(kept) => run_engine_into(alloc, kept.held(), &kept.terms, input, room, report),
         None => HANDLE,
     }
 }

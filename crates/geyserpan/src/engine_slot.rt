@@ -1,10 +1,13 @@
 //! What the handle of a run in pieces on the engine holds.
 ghost use Rattle.std.specs.Prelude.{◌≡◌, ◌≢◌, ◌<◌, ◌≤◌};
 
+use crate::admitting::{Lack, grant};
 use crate::image_slot::Kept;
 use crate::run_slot::Done;
-use crate::statuses::{ENDED, FULL, HANDLE, LOST, MEMORY, OK, OUTPUT, PAUSED, WANTS, WINDOWS};
-use crate::terms::LEAST_WINDOWS;
+use crate::statuses::{
+    ENDED, FULL, HANDLE, LOST, MEMORY, OK, OUTPUT, PAUSED, SERVICES, TURNS, WANTS, WINDOWS,
+};
+use crate::terms::{LEAST_WINDOWS, MOST_WINDOWS, Terms};
 use engine_runs::{FlatSession, FlatStand};
 use std::alloc::Global;
 
@@ -74,26 +77,51 @@ impl EngineRun {
 }
 
 impl EngineSlot {
+    ghost use Rattle.geyserpan.specs.Denials.{Grants, HasWindows};
     ghost use Rattle.geyserpan.specs.Engines.{Begins};
+    ghost use Rattle.geyserpan.specs.Images.{IsRunDenial, parts_of};
 
-    /// Begins a run of a kept image, in the place of the one that there is.
-    pub fn begin(&mut self, alloc: Global, kept: &Kept) -> u32
-        ensures begun { result ≡ OK → Begins kept.now self.new }
+    /// Begins a run of a kept image on these terms, in the place of the one that there is.
+    pub fn begin(&mut self, alloc: Global, kept: &Kept, terms: &Terms) -> u32
+        ensures begun { result ≡ OK → Begins (parts_of kept.now) terms.now self.new }
+        ensures counted { result ≡ OK → HasWindows terms.now }
         ensures stays { result ≢ OK → self.new ≡ self.old }
+        ensures windows { result ≡ WINDOWS → HasWindows terms.now → ⊥ }
         ensures holds { result ≢ HANDLE }
+        ensures granted { (result ≢ SERVICES) × (result ≢ TURNS) }
     {
-        if kept.terms.windows < LEAST_WINDOWS {
+        if terms.windows < LEAST_WINDOWS || MOST_WINDOWS < terms.windows {
             return WINDOWS;
         }
-        match FlatSession::new(alloc, &kept.accepted, kept.terms.windows) {
+        match FlatSession::new(alloc, kept.held(), terms.windows) {
             Ok(paced) => {
                 self.run = Some(EngineRun {
                     paced,
-                    granted: kept.terms.output,
+                    granted: terms.output,
                 });
                 OK
             }
             Err(_refused) => MEMORY,
+        }
+    }
+
+    /// The same of a kept image, where these terms grant what it declares.
+    pub fn begin_with(&mut self, alloc: Global, kept: &Kept, terms: &Terms) -> u32
+        ensures begun { result ≡ OK → Begins (parts_of kept.now) terms.now self.new }
+        ensures granted { result ≡ OK → Grants terms.now (parts_of kept.now) }
+        ensures counted { result ≡ OK → HasWindows terms.now }
+        ensures stays { result ≢ OK → self.new ≡ self.old }
+        ensures windows { result ≡ WINDOWS → HasWindows terms.now → ⊥ }
+        ensures denied { IsRunDenial (parts_of kept.now) terms.now result }
+        ensures holds { result ≢ HANDLE }
+    {
+        if terms.windows < LEAST_WINDOWS || MOST_WINDOWS < terms.windows {
+            return WINDOWS;
+        }
+        match grant(kept.held(), terms) {
+            Ok(()) => self.begin(alloc, kept, terms),
+            Err(Lack::Services) => SERVICES,
+            Err(Lack::Turns) => TURNS,
         }
     }
 }

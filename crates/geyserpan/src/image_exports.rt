@@ -5,14 +5,14 @@ ghost use Rattle.sbx_image.specs.Reading.{reading};
 ghost use Rattle.sbx_flat.specs.Runs.{FlatSafe};
 ghost use Rattle.geyserpan.specs.Denials.{IsAdmitted, IsDenial};
 ghost use Rattle.geyserpan.specs.Facts.{HasFacts};
-ghost use Rattle.geyserpan.specs.Images.{HasFactsOf, HasReportOf, HasRunOf, Holds, IsTooMuchOf};
+ghost use Rattle.geyserpan.specs.Images.{HasFactsOf, HasReportOf, HasRunOf, Holds, IsTooMuchOf, Shares};
 ghost use Rattle.geyserpan.specs.Reports.{HasRunOn, IsTooLongOn, IsTooMuchOn};
 ghost use Rattle.geyserpan.specs.declared.terms.Terms.{Terms};
 
 use crate::admitting::{admit, judge};
 use crate::facts::{Facts, facts_of};
 use crate::image_handle::ImageHandle;
-use crate::image_slot::{ImageSlot, Kept};
+use crate::image_slot::ImageSlot;
 use crate::numbers::tell;
 use crate::running::{Report, run_into};
 use crate::statuses::{HANDLE, MEMORY, NO_IMAGE, OK, OUTPUT, REFUSED, ROOM};
@@ -108,14 +108,22 @@ pub extern "C" fn geyserpan_open(
     ensures holds { result ≢ HANDLE }
 {
     match admit(alloc, image, terms) {
-        Ok(accepted) => {
-            handle.lent().kept = Some(Kept {
-                accepted,
-                terms: *terms,
-            });
-            OK
-        }
+        Ok(accepted) => handle.lent().keep(alloc, accepted, terms),
         Err(denial) => tell(denial, why),
+    }
+}
+
+/// Has another handle hold the image that a handle holds, on the same terms.
+#[unsafe(no_mangle)]
+pub extern "C" fn geyserpan_image_share(image: &mut ImageHandle, other: &mut ImageHandle) -> u32
+    ensures shared { result ≡ OK → Shares image.old.value other.new.value }
+    ensures stays { result ≢ OK → other.new.value ≡ other.old.value }
+    ensures image { image.new.value ≡ image.old.value }
+    ensures empty { result ≡ HANDLE → image.old.value.kept ≡ None }
+{
+    match &image.lent().kept {
+        Some(kept) => other.lent().share(kept),
+        None => HANDLE,
     }
 }
 
@@ -128,7 +136,7 @@ pub extern "C" fn geyserpan_facts_of(handle: &mut ImageHandle, facts: &mut Facts
 {
     match &handle.lent().kept {
         Some(kept) => {
-            *facts = facts_of(kept.accepted.image());
+            *facts = facts_of(kept.held().image());
             OK
         }
         None => HANDLE,
@@ -155,7 +163,7 @@ pub extern "C" fn geyserpan_run_image(
     ensures kept { handle.new.value ≡ handle.old.value }
 {
     match &handle.lent().kept {
-        Some(kept) => run_into(alloc, &kept.accepted, &kept.terms, input, room, report),
+        Some(kept) => run_into(alloc, kept.held(), &kept.terms, input, room, report),
         None => HANDLE,
     }
 }

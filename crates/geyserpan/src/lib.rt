@@ -11,6 +11,7 @@ mod image_exports;
 mod image_handle;
 mod image_slot;
 mod loose;
+mod names;
 mod numbers;
 mod room;
 mod run_exports;

@@ -1,11 +1,13 @@
 //! The calls of runs in pieces.
 ghost use Rattle.std.specs.Prelude.{◌≡◌, ◌≢◌, None};
-ghost use Rattle.geyserpan.specs.Runs.{BeginsOf, IsForOthers, IsLacking, StepsSo, met_of};
+ghost use Rattle.geyserpan.specs.Images.{RunDenialOf};
+ghost use Rattle.geyserpan.specs.Runs.{BeginsOf, BeginsOn, IsForOthers, IsLacking, StepsSo, met_of};
 
 use crate::image_handle::ImageHandle;
 use crate::run_handle::RunHandle;
 use crate::run_slot::{Done, RunSlot};
 use crate::statuses::{HANDLE, MEMORY, OK, WINDOWS};
+use crate::terms::Terms;
 use std::alloc::Global;
 
 /// Makes the handle of a run, which holds none.
@@ -43,7 +45,28 @@ pub extern "C" fn geyserpan_begin(
     ensures empty { result ≡ HANDLE → image.old.value.kept ≡ None }
 {
     match &image.lent().kept {
-        Some(kept) => run.lent().begin(alloc, kept),
+        Some(kept) => run.lent().begin(alloc, kept, &kept.terms),
+        None => HANDLE,
+    }
+}
+
+/// The same on terms of the run's own.
+#[unsafe(no_mangle)]
+pub extern "C" fn geyserpan_begin_with(
+    alloc: Global,
+    run: &mut RunHandle,
+    image: &mut ImageHandle,
+    terms: &Terms,
+) -> u32
+    ensures begun { result ≡ OK → BeginsOn image.old.value terms.now run.new.value }
+    ensures stays { result ≢ OK → run.new.value ≡ run.old.value }
+    ensures image { image.new.value ≡ image.old.value }
+    ensures windows { result ≡ WINDOWS → terms.now.windows ≢ 8 }
+    ensures denied { RunDenialOf image.old.value terms.now result }
+    ensures empty { result ≡ HANDLE → image.old.value.kept ≡ None }
+{
+    match &image.lent().kept {
+        Some(kept) => run.lent().begin_with(alloc, kept, terms),
         None => HANDLE,
     }
 }
@@ -58,7 +81,7 @@ pub extern "C" fn geyserpan_restart(run: &mut RunHandle, image: &mut ImageHandle
     ensures empty { result ≡ HANDLE → IsLacking image.old.value run.old.value }
 {
     match &image.lent().kept {
-        Some(kept) => run.lent().restart(kept),
+        Some(kept) => run.lent().restart(kept, &kept.terms),
         None => HANDLE,
     }
 }

@@ -2,8 +2,12 @@
 ghost use Rattle.std.specs.Prelude.{◌≡◌, ◌≢◌, ◌<◌, ◌≤◌, false, None};
 ghost use Rattle.sbx_session.specs.Steps.{IsVouched};
 
+use crate::admitting::{Lack, grant};
 use crate::image_slot::Kept;
-use crate::statuses::{ENDED, FULL, HANDLE, LOST, MEMORY, OK, OUTPUT, PAUSED, WANTS, WINDOWS};
+use crate::statuses::{
+    ENDED, FULL, HANDLE, LOST, MEMORY, OK, OUTPUT, PAUSED, SERVICES, TURNS, WANTS, WINDOWS,
+};
+use crate::terms::Terms;
 use sbx_session::{Session, Stand};
 use std::alloc::Global;
 
@@ -88,26 +92,30 @@ impl Going {
 }
 
 impl RunSlot {
+    ghost use Rattle.geyserpan.specs.Denials.{Grants};
+    ghost use Rattle.geyserpan.specs.Images.{IsRunDenial, parts_of};
     ghost use Rattle.geyserpan.specs.Runs.{Begins};
 
-    /// Begins a run of a kept image on the board that is there, else on a new one.
-    pub fn begin(&mut self, alloc: Global, kept: &Kept) -> u32
-        ensures begun { result ≡ OK → Begins kept.now self.new }
+    /// Begins a run of a kept image on these terms, on the board that is there, else on a new one.
+    pub fn begin(&mut self, alloc: Global, kept: &Kept, terms: &Terms) -> u32
+        ensures begun { result ≡ OK → Begins (parts_of kept.now) terms.now self.new }
+        ensures eight { result ≡ OK → terms.now.windows ≡ 8 }
         ensures stays { result ≢ OK → self.new ≡ self.old }
-        ensures windows { result ≡ WINDOWS → kept.now.terms.windows ≢ 8 }
+        ensures windows { result ≡ WINDOWS → terms.now.windows ≢ 8 }
         ensures holds { result ≢ HANDLE }
+        ensures granted { (result ≢ SERVICES) × (result ≢ TURNS) }
     {
         if self.going.is_some() {
-            return self.restart(kept);
+            return self.restart(kept, terms);
         }
-        if kept.terms.windows != RUN_WINDOWS {
+        if terms.windows != RUN_WINDOWS {
             return WINDOWS;
         }
-        match Session::new(alloc, &kept.accepted) {
+        match Session::new(alloc, kept.held()) {
             Ok(session) => {
                 self.going = Some(Going {
                     session,
-                    granted: kept.terms.output,
+                    granted: terms.output,
                 });
                 OK
             }
@@ -115,23 +123,45 @@ impl RunSlot {
         }
     }
 
-    /// Begins a run of a kept image on the board that is there.
-    pub fn restart(&mut self, kept: &Kept) -> u32
-        ensures begun { result ≡ OK → Begins kept.now self.new }
+    /// Begins a run of a kept image on these terms, on the board that is there.
+    pub fn restart(&mut self, kept: &Kept, terms: &Terms) -> u32
+        ensures begun { result ≡ OK → Begins (parts_of kept.now) terms.now self.new }
+        ensures eight { result ≡ OK → terms.now.windows ≡ 8 }
         ensures stays { result ≢ OK → self.new ≡ self.old }
-        ensures windows { result ≡ WINDOWS → kept.now.terms.windows ≢ 8 }
+        ensures windows { result ≡ WINDOWS → terms.now.windows ≢ 8 }
         ensures empty { result ≡ HANDLE → self.old.going ≡ None }
+        ensures granted { (result ≢ SERVICES) × (result ≢ TURNS) }
     {
-        if kept.terms.windows != RUN_WINDOWS {
+        if terms.windows != RUN_WINDOWS {
             return WINDOWS;
         }
         match &mut self.going {
             Some(going) => {
-                going.session.restart(&kept.accepted);
-                going.granted = kept.terms.output;
+                going.session.restart(kept.held());
+                going.granted = terms.output;
                 OK
             }
             None => HANDLE,
+        }
+    }
+
+    /// Begins a run of a kept image as `begin` does, where these terms grant what it declares.
+    pub fn begin_with(&mut self, alloc: Global, kept: &Kept, terms: &Terms) -> u32
+        ensures begun { result ≡ OK → Begins (parts_of kept.now) terms.now self.new }
+        ensures granted { result ≡ OK → Grants terms.now (parts_of kept.now) }
+        ensures eight { result ≡ OK → terms.now.windows ≡ 8 }
+        ensures stays { result ≢ OK → self.new ≡ self.old }
+        ensures windows { result ≡ WINDOWS → terms.now.windows ≢ 8 }
+        ensures denied { IsRunDenial (parts_of kept.now) terms.now result }
+        ensures holds { result ≢ HANDLE }
+    {
+        if terms.windows != RUN_WINDOWS {
+            return WINDOWS;
+        }
+        match grant(kept.held(), terms) {
+            Ok(()) => self.begin(alloc, kept, terms),
+            Err(Lack::Services) => SERVICES,
+            Err(Lack::Turns) => TURNS,
         }
     }
 }

@@ -1,12 +1,13 @@
 //! Statuses in words.
 
+use crate::facts::Facts;
 use crate::statuses::{
     ENDED, FULL, HANDLE, LOST, MEMORY, NO_IMAGE, OK, OUTPUT, PAUSED, REFUSED, ROOM, SERVICES,
     SOURCE, TURNS, WANTS, WINDOWS,
 };
-use crate::terms::Why;
+use crate::terms::{LEAST_WINDOWS, MOST_WINDOWS, Terms, Why};
 use arrayvec::ArrayString;
-use std::fmt::{self, Write};
+use std::fmt::{self, Display, Formatter, Write};
 
 /// A line of text, which has room for each of these.
 pub type Line = ArrayString<96>;
@@ -44,6 +45,80 @@ fn write_cause(line: &mut Line, why: &Why) -> fmt::Result {
         why.address,
         why.number.saturating_sub(before)
     )
+}
+
+/// A number by groups of three digits.
+#[derive(Clone, Copy)]
+struct Grouped(u64);
+
+/// What the groups count, the greatest first.
+const UNITS: [u64; 7] = [
+    1_000_000_000_000_000_000,
+    1_000_000_000_000_000,
+    1_000_000_000_000,
+    1_000_000_000,
+    1_000_000,
+    1_000,
+    1,
+];
+
+impl Display for Grouped {
+    fn fmt<W: fmt::Write>(&self, f: &mut Formatter<W>) -> fmt::Result {
+        let mut begun = false;
+        for unit in &UNITS {
+            let group = self.0.checked_div(*unit).unwrap_or(0) % 1000;
+            if begun {
+                write!(f, ",{group:03}")?;
+            } else if group != 0 || *unit == 1 {
+                write!(f, "{group}")?;
+                begun = true;
+            }
+        }
+        Ok(())
+    }
+}
+
+/// Services by their names.
+#[derive(Clone, Copy)]
+struct Named(u32);
+
+impl Display for Named {
+    fn fmt<W: fmt::Write>(&self, f: &mut Formatter<W>) -> fmt::Result {
+        let names = match self.0 % 8 {
+            0 => "nothing",
+            1 => "exit",
+            2 => "get",
+            3 => "exit and get",
+            4 => "put",
+            5 => "exit and put",
+            6 => "get and put",
+            _ => "exit, get and put",
+        };
+        f.write_str(names)
+    }
+}
+
+/// What a status of terms means, with what the image asks for and what is granted.
+pub fn terms_line_of(status: u32, facts: &Facts, terms: &Terms) -> Line {
+    let mut line = Line::new();
+    let turns = (Grouped(facts.budget), Grouped(terms.turns));
+    let services = (Named(facts.services), Named(terms.services));
+    let _ = match status {
+        TURNS => write!(line, "asks for {} turns, {} are granted", turns.0, turns.1),
+        SERVICES => write!(line, "asks for {}; granted: {}", services.0, services.1),
+        WINDOWS => write!(
+            line,
+            "no run on {} windows: {LEAST_WINDOWS} to {MOST_WINDOWS}, in pieces on a board 8",
+            terms.windows
+        ),
+        OUTPUT => write!(
+            line,
+            "puts out more than the {} bytes that are granted",
+            Grouped(terms.output)
+        ),
+        _ => line.write_str(text_of(status)),
+    };
+    line
 }
 
 /// What a status means, with the numbers that tell why: the line that `sandbox` tells, where it has one.

@@ -3,6 +3,9 @@
 /// The least count of windows that a host may ask for.
 pub const LEAST_WINDOWS: u32 = 4;
 
+/// The greatest.
+pub const MOST_WINDOWS: u32 = 32;
+
 /// What a host grants: so many turns and bytes of output at most, these services, and on how many windows a run is
 /// made.
 #[repr(C)]
