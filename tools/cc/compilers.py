@@ -8,6 +8,7 @@ import subprocess
 
 from assembly import Assembly
 from fault import Fault
+from kept import settle
 from request import ending_of, is_plus
 
 TOP = os.path.dirname(os.path.dirname(os.path.dirname(os.path.abspath(__file__))))
@@ -179,12 +180,12 @@ class Gcc(Compiler):
         archive, objects = runtime.place("library.a"), runtime.objects(self.ending, *self.kind)
         if not os.path.exists(archive):
             subprocess.run([self.archiver, "rcs", f"{archive}.{os.getpid()}", *objects], check=True)
-            os.replace(f"{archive}.{os.getpid()}", archive)
-        if self.request.debugs:
-            # (what the compiler told of the library's sources is left beside the archive by its name)
-            os.symlink(archive, f"{runtime.work}/library.a")
-            archive = f"{runtime.work}/library.a"
-        return [archive]
+            settle(f"{archive}.{os.getpid()}", archive)
+        # (what the compiler told of the library's sources is left beside the archive by its name, in each call)
+        own = f"{runtime.work}/library.a"
+        if archive != own:
+            os.symlink(archive, own)
+        return [own]
 
     def whole(self, objects, library, work):
         """Makes one assembly of all; returns its path."""
@@ -244,7 +245,7 @@ class Clang(Compiler):
             draft = f"{path}.{os.getpid()}"
             subprocess.run([*self.linked("-mlink-bitcode-file", parts), *self.kind, "-O2", "-x", "c", os.devnull,
                             "-o", draft], check=True)
-            os.replace(draft, path)
+            settle(draft, path)
         return [path]
 
     def linked(self, how, paths):

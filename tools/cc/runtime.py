@@ -8,6 +8,7 @@ import tempfile
 
 from compilers import HEADERS, PLUS, TOP
 from fault import Fault
+from kept import settle
 
 # (gcc keeps what has a builtin's name, called or not, where it takes it for one)
 WORDS = ["-w", "-fno-builtin"]
@@ -48,7 +49,7 @@ class Runtime:
             if ran.returncode:
                 os.unlink(draft)
                 raise Fault(125, f"{self.request.name}: {source} can't be compiled: {ran.stderr}")
-            os.replace(draft, path)
+            settle(draft, path)
         return path
 
     def all(self, sources, *words):
