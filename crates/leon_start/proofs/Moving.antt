@@ -21,7 +21,9 @@ moved_more place own loaded ram new n w moved so_far there is small fits made k 
     let split : (k < n) ⊎ (k ≡ n) = search arith in
     elim split [
       | inl before ↦ (
-          let apart : entry_of new (4 * k) ≡ entry_of ram (4 * k) = ap (λ r. entry_of r (4 * k)) made ∙ entry_elsewhere ram (4 * n) (4 * k) moved (record { aligned = omega arith; fits = fits }) (inl (omega (arith, before))) in
+          let stays : entry_of (with_entry ram (4 * n) moved) (4 * k) ≡ entry_of ram (4 * k) =
+          entry_elsewhere ram (4 * n) (4 * k) moved (record { aligned = omega arith; fits = fits }) (inl (omega (arith, before))) in
+          let apart : entry_of new (4 * k) ≡ entry_of ram (4 * k) = ap (λ r. entry_of r (4 * k)) made ∙ stays in
           rw apart (so_far k before)
           )
       | inr last ↦ (
