@@ -5,11 +5,13 @@
 mod counts;
 mod flat_run;
 mod flat_session;
+mod opened;
 mod runs;
 mod tally;
 
 pub use flat_run::{FlatRun, FlatStop};
 pub use flat_session::{FlatSession, FlatStand, FlatStep};
-pub use runs::{FlatFinished, run_flat};
+pub use opened::Opened;
+pub use runs::{FlatFinished, run_flat, run_opened};
 pub use sbx_verify::Accepted;
 pub use tally::Tally;

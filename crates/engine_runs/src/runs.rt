@@ -1,12 +1,17 @@
 //! Runs of accepted images to their end, of a whole input.
 ghost use Rattle.std.specs.Prelude.{◌≢◌, ◌<◌, ◌≤◌, ◌^◌, IfOk, length};
+ghost use Rattle.std.specs.Arc.{arc_value};
 ghost use Rattle.sbx_flat.specs.Runs.{AreBytes};
+ghost use Rattle.engine_core.specs.Shows.{IsCodeOf};
 ghost use Rattle.engine_runs.specs.Answer.{IsAnswer, Serves};
 ghost use Rattle.engine_runs.specs.Halts.{HaltsSo};
 
 use crate::flat_run::{FlatRun, FlatStop, MOST};
+use crate::opened::{Opened, code_of};
+use engine_store::DecodedCode;
 use sbx_verify::Accepted;
 use std::alloc::{AllocError, Global};
+use std::sync::Arc;
 
 /// What a run gave: the exit word, the bytes written, the turns that it would make on a machine with the windows that
 /// were asked for, and how often that would have no window to save to or to restore from.
@@ -63,20 +68,20 @@ fn serve(
     }
 }
 
-/// Runs an accepted image on an input to its end, on the flat machine. The output and the status are those of every run
-/// on the flat machine, and so of `run_accepted`; turns, overflows and underflows are those of a board of so many
-/// windows, 2 or more, which are counted and not made. The only fault is want of memory.
-pub fn run_flat(
+/// The same as `run_flat`, by the image's code.
+fn run_over(
     alloc: Global,
     accepted: &Accepted,
+    code: Arc<DecodedCode>,
     windows: u32,
     input: &[u8],
 ) -> Result<FlatFinished, AllocError>
-    requires { 2 ≤ windows }
+    requires many { 2 ≤ windows }
+    requires decoded { IsCodeOf accepted.now (arc_value code) }
     ensures { IfOk result (λ finished. IsAnswer accepted.now windows input.now finished) }
 {
     tells_bytes(input);
-    let mut course = FlatRun::new(alloc, accepted, windows)?;
+    let mut course = FlatRun::over(alloc, accepted, code, windows)?;
     let mut output = Vec::new(alloc);
     let mut read = 0;
     'rounds: for _round in 0..u64::MAX {
@@ -96,4 +101,34 @@ pub fn run_flat(
         }
     }
     unreachable!()
+}
+
+/// Runs an accepted image on an input to its end, on the flat machine. The output and the status are those of every run
+/// on the flat machine, and so of `run_accepted`; turns, overflows and underflows are those of a board of so many
+/// windows, 2 or more, which are counted and not made. The only fault is want of memory.
+pub fn run_flat(
+    alloc: Global,
+    accepted: &Accepted,
+    windows: u32,
+    input: &[u8],
+) -> Result<FlatFinished, AllocError>
+    requires { 2 ≤ windows }
+    ensures { IfOk result (λ finished. IsAnswer accepted.now windows input.now finished) }
+{
+    let code = code_of(alloc, accepted)?;
+    run_over(alloc, accepted, code, windows, input)
+}
+
+/// The same of an image that is open, whose code is decoded.
+pub fn run_opened(
+    alloc: Global,
+    opened: &Opened,
+    windows: u32,
+    input: &[u8],
+) -> Result<FlatFinished, AllocError>
+    requires { 2 ≤ windows }
+    ensures { IfOk result (λ finished. IsAnswer opened.now windows input.now finished) }
+{
+    let code = opened.code()?;
+    run_over(alloc, opened.accepted(), code, windows, input)
 }

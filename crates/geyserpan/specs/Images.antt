@@ -15,7 +15,7 @@ use Rattle.geyserpan.specs.Reports.{HasReport, HasRun}
 
 -- the image that is kept, of which other handles may be owners too
 abbrev pub parts_of : Kept → Parts
-parts_of kept = arc_value kept.accepted
+parts_of kept = arc_value kept.opened
 
 -- it holds this image, and these terms
 abbrev pub Holds : ImageSlot → Parts → Terms → Type 0

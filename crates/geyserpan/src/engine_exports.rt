@@ -126,7 +126,7 @@ pub extern "C" fn geyserpan_engine_run(
     ensures kept { handle.new.value ≡ handle.old.value }
 {
     match &handle.lent().kept {
-        Some(kept) => run_engine_into(alloc, kept.held(), &kept.terms, input, room, report),
+        Some(kept) => run_engine_into(alloc, kept.opened(), &kept.terms, input, room, report),
         None => HANDLE,
     }
 }

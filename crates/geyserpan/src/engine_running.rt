@@ -6,8 +6,7 @@ use crate::room::hand_on;
 use crate::running::Report;
 use crate::statuses::{HANDLE, MEMORY, OK, OUTPUT, ROOM, WINDOWS};
 use crate::terms::{LEAST_WINDOWS, Terms};
-use engine_runs::{FlatFinished, run_flat};
-use sbx_run::Accepted;
+use engine_runs::{FlatFinished, Opened, run_opened};
 use std::alloc::Global;
 
 /// The report of a run on the engine, which has no pages.
@@ -26,29 +25,29 @@ fn report_of(finished: &FlatFinished) -> Report
     }
 }
 
-/// Runs an accepted image to its end, counts on the terms' windows, and writes its output to the front of the room.
+/// Runs an image to its end, counts on the terms' windows, and writes its output to the front of the room.
 pub fn run_engine_into(
     alloc: Global,
-    accepted: &Accepted,
+    opened: &Opened,
     terms: &Terms,
     input: &[u8],
     room: &mut [u8],
     report: &mut Report,
 ) -> u32
-    ensures ran { result ≡ OK → HasRun accepted.now terms.now.windows input.now room.old room.new report.new }
+    ensures ran { result ≡ OK → HasRun opened.now terms.now.windows input.now room.old room.new report.new }
     ensures stays { result ≢ OK → room.new ≡ room.old }
     ensures granted { result ≡ OK → report.new.output ≤ terms.now.output }
     ensures untold { result ≢ OK → result ≢ ROOM → result ≢ OUTPUT → report.new ≡ report.old }
-    ensures longer { result ≡ OUTPUT → HasReport accepted.now terms.now.windows input.now report.new
+    ensures longer { result ≡ OUTPUT → HasReport opened.now terms.now.windows input.now report.new
         × (terms.now.output < report.new.output) }
-    ensures small { result ≡ ROOM → HasReport accepted.now terms.now.windows input.now report.new
+    ensures small { result ≡ ROOM → HasReport opened.now terms.now.windows input.now report.new
         × (length room.old < report.new.output) }
     ensures holds { result ≢ HANDLE }
 {
     if terms.windows < LEAST_WINDOWS {
         return WINDOWS;
     }
-    match run_flat(alloc, accepted, terms.windows, input) {
+    match run_opened(alloc, opened, terms.windows, input) {
         Err(_refused) => MEMORY,
         Ok(finished) => {
             *report = report_of(&finished);

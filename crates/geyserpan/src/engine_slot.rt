@@ -93,7 +93,7 @@ impl EngineSlot {
         if terms.windows < LEAST_WINDOWS || MOST_WINDOWS < terms.windows {
             return WINDOWS;
         }
-        match FlatSession::new(alloc, kept.held(), terms.windows) {
+        match FlatSession::of(alloc, kept.opened(), terms.windows) {
             Ok(paced) => {
                 self.run = Some(EngineRun {
                     paced,

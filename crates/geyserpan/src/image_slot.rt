@@ -1,19 +1,21 @@
 //! What the handle of an image holds.
-ghost use Rattle.std.specs.Prelude.{◌≡◌, ◌≢◌, ℕ, List};
+ghost use Rattle.std.specs.Arc.{arc_value};
+ghost use Rattle.std.specs.Prelude.{◌≡◌, ◌≢◌, ℕ, IfOk, List};
 ghost use Rattle.geyserpan.specs.Denials.{IsDenial};
 ghost use Rattle.geyserpan.specs.declared.terms.Terms.{Terms};
 ghost use Rattle.geyserpan.specs.declared.terms.Why.{Why};
 
 use crate::statuses::{HANDLE, MEMORY, OK};
 use crate::terms::Terms;
+use engine_runs::Opened;
 use sbx_run::Accepted;
-use std::alloc::Global;
+use std::alloc::{AllocError, Global};
 use std::sync::Arc;
 
-/// An accepted image, which other handles may hold too, and the terms that it was admitted on.
+/// An accepted image with its words decoded, which other handles may hold too, and the terms that it was admitted on.
 #[derive(Drop)]
 pub struct Kept {
-    pub accepted: Arc<Accepted>,
+    pub opened: Arc<Opened>,
     pub terms: Terms,
 }
 
@@ -24,8 +26,23 @@ impl Kept {
     pub fn held(&self) -> &Accepted
         ensures { result.now ≡ parts_of self.now }
     {
-        &self.accepted
+        self.opened.accepted()
     }
+
+    /// The image with its words decoded.
+    pub fn opened(&self) -> &Opened
+        ensures { result.now ≡ parts_of self.now }
+    {
+        &self.opened
+    }
+}
+
+/// An accepted image with its words decoded, of which there may be several owners.
+fn opened_of(alloc: Global, accepted: Accepted) -> Result<Arc<Opened>, AllocError>
+    ensures { IfOk result (λ opened. arc_value opened ≡ accepted) }
+{
+    let opened = Opened::new(alloc, accepted)?;
+    Ok(Arc::new(alloc, opened)?)
 }
 
 /// An image, or none.
@@ -44,10 +61,10 @@ impl ImageSlot {
         ensures holds { result ≢ HANDLE }
         ensures denies_not { (bytes : List ℕ) → (of : Terms) → (why : Why) → IsDenial bytes of result why }
     {
-        match Arc::new(alloc, accepted) {
-            Ok(accepted) => {
+        match opened_of(alloc, accepted) {
+            Ok(opened) => {
                 self.kept = Some(Kept {
-                    accepted,
+                    opened,
                     terms: *terms,
                 });
                 OK
@@ -62,10 +79,10 @@ impl ImageSlot {
         ensures stays { result ≢ OK → self.new ≡ self.old }
         ensures holds { result ≢ HANDLE }
     {
-        match Arc::try_clone(&kept.accepted) {
-            Ok(accepted) => {
+        match Arc::try_clone(&kept.opened) {
+            Ok(opened) => {
                 self.kept = Some(Kept {
-                    accepted,
+                    opened,
                     terms: kept.terms,
                 });
                 OK

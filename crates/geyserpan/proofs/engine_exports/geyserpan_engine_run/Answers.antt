@@ -8,7 +8,7 @@ returns-in-Some-clause-ran c = λ done. (
   c.in-Some.kept,
   search rules,
   subst (λ (parts : Parts). HasRun parts c.in-Some.kept.terms.windows c.args.input.now c.args.room.now c.run_engine_into.new.room c.run_engine_into.new.report)
-      c.held.ensures (c.run_engine_into.ensures.ran done),
+      c.opened.ensures (c.run_engine_into.ensures.ran done),
   c.run_engine_into.ensures.granted done,
 )
 
@@ -16,7 +16,7 @@ pub returns-in-Some-clause-longer : goal.returns-in-Some-clause-longer
 returns-in-Some-clause-longer c = λ is. let (told, more) = c.run_engine_into.ensures.longer is in (
   c.in-Some.kept,
   search rules,
-  subst (λ (parts : Parts). HasReport parts c.in-Some.kept.terms.windows c.args.input.now c.run_engine_into.new.report) c.held.ensures told,
+  subst (λ (parts : Parts). HasReport parts c.in-Some.kept.terms.windows c.args.input.now c.run_engine_into.new.report) c.opened.ensures told,
   more,
 )
 
@@ -25,7 +25,7 @@ returns-in-Some-clause-small c = λ is. let (told, more) = c.run_engine_into.ens
   (
     c.in-Some.kept,
     search rules,
-    subst (λ (parts : Parts). HasReport parts c.in-Some.kept.terms.windows c.args.input.now c.run_engine_into.new.report) c.held.ensures told,
+    subst (λ (parts : Parts). HasReport parts c.in-Some.kept.terms.windows c.args.input.now c.run_engine_into.new.report) c.opened.ensures told,
   ),
   more,
 )

@@ -7,4 +7,4 @@ use Rattle.geyserpan.proofs.engine_slot.EngineSlot.begin.Goals as goal
 pub returns-in-Ok-clause-begun : goal.returns-in-Ok-clause-begun
 returns-in-Ok-clause-begun c = λ done.
     let run : EngineRun = record { paced = c.in-Ok.paced; granted = c.args.terms.now.output } in
-    (run, refl, subst (λ (parts : Parts). IsBegun parts c.args.terms.now.windows c.in-Ok.paced) c.held.ensures c.in-Ok.ensures, refl)
+    (run, refl, subst (λ (parts : Parts). IsBegun parts c.args.terms.now.windows c.in-Ok.paced) c.opened.ensures c.in-Ok.ensures, refl)

@@ -4,7 +4,7 @@ use Rattle.engine_runs.specs.Answer.{HasRead, Serves}
 use Rattle.engine_runs.specs.declared.flat_run.FlatRun.{FlatRun}
 use Rattle.engine_runs.proofs.Ends.{few}
 use Rattle.engine_runs.proofs.Ran.{answered, known_so}
-use Rattle.engine_runs.proofs.runs.run_flat.Goals as goal
+use Rattle.engine_runs.proofs.runs.run_over.Goals as goal
 
 pub serve-requires-clause-few : goal.serve-requires-clause-few
 serve-requires-clause-few c =

@@ -1,6 +1,6 @@
 use Rattle.std.proofs.Common.{◌≤◌, ◌^◌, length}
 use Rattle.engine_runs.specs.Answer.{HasRead}
-use Rattle.engine_runs.proofs.runs.run_flat.Given as goal
+use Rattle.engine_runs.proofs.runs.run_over.Given as goal
 
 -- What was read and written so far the run has read and written. Each round makes turns.
 abbrev pub invariant-rounds : goal.invariant-rounds
