@@ -1,5 +1,6 @@
 //! The boot stub: what `boot.s` assembles to.
-ghost use Rattle.std.specs.Prelude.{◌≤◌};
+ghost use Rattle.leon_words.specs.Words.{stub};
+ghost use Rattle.std.specs.Prelude.{◌≡◌, ◌≤◌};
 
 /// The words of the stub.
 pub const BOOT_WORDS: usize = 62;
@@ -20,6 +21,7 @@ pub struct Boot {
 pub fn boot_words(boot: &Boot) -> [u32; BOOT_WORDS]
     requires few { 4 ≤ boot.now.windows }
     requires many { boot.now.windows ≤ 32 }
+    ensures { result ≡ stub boot.now.windows boot.now.base boot.now.leave }
 {
     let highest = boot.windows - 1;
     let leave = boot.leave;
