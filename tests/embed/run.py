@@ -324,8 +324,17 @@ def try_valgrind(calls, filter_image):
     gives("valgrind: edges", run([*VALGRIND, calls, "edges", filter_image], b"HAL!", seconds=None), b"edges\n")
 
 
-def try_growths(prefix, work, image):
-    """Refuses each growth in turn: by itself, under AddressSanitizer and under valgrind."""
+def growths_of(way, image):
+    """How many growths each call asked for, refused in turn, of runs of an image; None where that fails."""
+    ran = run([*way, image, image.replace(".img", ".s")], b"abc" * 100, seconds=None)
+    holds = ran.status == 0 and ran.out.endswith(b" growths\n") and not ran.err
+    TALLY.check(f"growths by {way[0]}, {os.path.basename(image)}", holds, f"wanted counts, came {shown(tuple(ran))}")
+    return [int(it) for it in ran.out.split()[:-1]] if holds else None
+
+
+def try_growths(prefix, work, images):
+    """Refuses each growth in turn: by itself, under AddressSanitizer and under valgrind. Each call asks for some of one
+    of the images: of one without data a run on the engine begins with none."""
     words = ["cc", "-g", "-O1", "-Wall", "-Wextra", "-Werror", f"-I{prefix}/include", f"{SOURCES}/growths.c",
              f"{prefix}/lib/libgeyserpan.a"]
     plain, checked = f"{work}/growths", f"{work}/growths-address"
@@ -337,10 +346,11 @@ def try_growths(prefix, work, image):
     else:
         ways.append([checked])
     for way in ways:
-        ran = run([*way, image, image.replace(".img", ".s")], b"abc" * 100, seconds=None)
-        holds = ran.status == 0 and ran.out.endswith(b" growths\n") and not ran.err
-        TALLY.check(f"growths by {way[0]}", holds, f"wanted a count, came {shown(tuple(ran))}")
-    print("refused in turn:", ran.out.decode().strip())
+        counts = [growths_of(way, image) for image in images]
+        if None not in counts:
+            all_of = [sum(it) for it in zip(*counts)]
+            TALLY.check(f"growths of each call by {way[0]}", min(all_of) > 0, f"wanted some of each, came {all_of}")
+            print("refused in turn:", sum(all_of), "growths")
 
 
 # ---- images that are shared, terms of a run, names
@@ -665,7 +675,7 @@ def try_all(prefix, work):
     try_bytes(calls, work)
     gives("threads", run([calls, "threads", echo, "8", "2000"], seconds=None), b"threads\n")
     gives("many runs", run([calls, "many", filter_image, "50000"], b"HAL", seconds=None), b"IBM")
-    try_growths(prefix, work, echo)
+    try_growths(prefix, work, [echo, f"{EXAMPLES}/crc/crc.img"])
     try_shares(prefix, work, echo)
     try_sanitizers(prefix, work, filter_image, echo)
     try_valgrind(calls, filter_image)
