@@ -3,7 +3,8 @@
 import os
 import sys
 
-sys.dont_write_bytecode = True
+# What Python compiles of the scripts is kept beside the library, and not in the checkout.
+sys.pycache_prefix = os.path.expanduser(os.environ.get("XDG_CACHE_HOME") or "~/.cache") + "/geyserpan/python"
 TOP = os.path.dirname(os.path.realpath(__file__))
 NAME = "c++" if os.path.basename(__file__) == "c++" else "cc"
 sys.path.insert(0, f"{TOP}/tools/cc")

@@ -1,4 +1,4 @@
-/* What a compiler calls without being asked: it copies and clears structures by memcpy and memset, and computes with 64 bits by
+/* What a compiler calls unasked: it copies and clears structures by memcpy and memset, and computes with 64 bits by
    functions of these names. Of the program's own calls plug.h has the bodies. */
 typedef __SIZE_TYPE__ size_t;
 typedef unsigned long long u64;

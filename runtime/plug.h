@@ -1,4 +1,4 @@
-/* What a program sees of its host: three services, and a little of string.h. Compiled with -DNATIVE the same program runs under
+/* What a program sees of its host: three services, and a little of string.h. Compiled with -DNATIVE it runs under
    an ordinary system: get, put and quit are stdio's and stdlib's then. */
 #ifndef PLUG_H
 #define PLUG_H
@@ -16,7 +16,11 @@ static inline void quit(int word) { exit(word != 0); }
 #else
 
 typedef __SIZE_TYPE__ size_t;
+#ifdef __cplusplus
+#define NULL __null
+#else
 #define NULL ((void *)0)
+#endif
 
 /* The next byte of the input, 0 to 255; -1 at its end, and from then on. */
 static inline int get(void) {

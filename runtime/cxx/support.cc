@@ -44,7 +44,8 @@ void __throw_overflow_error(const char *) { abort(); }
 extern "C" {
 void *__dso_handle;
 
-void __cxa_pure_virtual() { std::abort(); }
+/* (a program may have its own) */
+__attribute__((weak)) void __cxa_pure_virtual() { std::abort(); }
 void __cxa_deleted_virtual() { std::abort(); }
 void __cxa_throw_bad_array_new_length() { std::abort(); }
 

@@ -1,8 +1,10 @@
 """Images beside the same C compiled for this machine, or run by qemu: programs, inputs, and what both put out."""
+import functools
 import os
 import re
+import struct
 
-from run import EXAMPLES, FIT, SANDBOX, TOP, has, put, run
+from run import EXAMPLES, FIT, SANDBOX, TOP, Ran, has, put, run_within
 
 HERE = os.path.dirname(os.path.abspath(__file__))
 SPARC = "sparc64-linux-gnu-gcc"
@@ -21,7 +23,7 @@ def native(source, program):
     """Compiles a program for this machine; None where that can't be done."""
     sign = "-funsigned-char" if "unsigned-char" in source else "-fsigned-char"
     words = ["gcc", "-O1", "-fwrapv", sign, "-w", "-DNATIVE", "-I", f"{TOP}/runtime", "-o", program, source]
-    return [program] if run(words).status == 0 else None
+    return [program] if run_within(words).status == 0 else None
 
 
 def under_qemu(source, program, flags=()):
@@ -29,14 +31,14 @@ def under_qemu(source, program, flags=()):
     words = [SPARC, "-O1", "-m32", "-mcpu=v8", "-ffreestanding", "-fwrapv", "-w", "-fno-stack-protector", "-nostdlib",
              "-static", *flags, "-I", f"{HERE}/qemu", "-o", program, source, f"{TOP}/runtime/plug.c"]
     qemu = "qemu-sparc32plus" if has("qemu-sparc32plus") else "qemu-sparc"
-    return [qemu, program] if run(words).status == 0 else None
+    return [qemu, program] if run_within(words).status == 0 else None
 
 
 def compilers():
     """The compilers for SPARC that are here."""
     if has(SPARC):
         yield SPARC
-    if has("clang") and re.search(rb"^ *sparc ", run(["clang", "--print-targets"]).out, re.M):
+    if has("clang") and re.search(rb"^ *sparc ", run_within(["clang", "--print-targets"]).out, re.M):
         yield "clang"
 
 
@@ -61,40 +63,101 @@ def inputs_like(stored, count, chance):
             yield bytes([chance.randrange(10, 60), *wide])
 
 
+# So many turns may a run by the model take, and so many of a program's inputs are run on the board as well.
+MOST_TURNS, ON_BOARD = 2 * 10**8, 3
+
+
+def framed(inputs):
+    """Inputs, each behind its length, as programs take them that run on many."""
+    return b"".join(struct.pack(">I", len(it)) + it for it in inputs)
+
+
+def outputs_in(told):
+    """What such programs put out: a word and the output of each run."""
+    at = 0
+    while at + 8 <= len(told):
+        word, length = struct.unpack_from(">II", told, at)
+        yield word, told[at + 8:at + 8 + length]
+        at += 8 + length
+
+
+def runs_under_qemu(program, inputs):
+    """What a program of `under_qemu` comes to on each input: its status and its output; none where it has no end."""
+    ran = run_within(program, framed(inputs), SECONDS)
+    return [None if word == 2 else Ran(word, out, b"") for word, out in outputs_in(ran.out)]
+
+
+def are_alike(mine, theirs):
+    """Whether two runs put out the same, and both end well or neither does."""
+    return mine.status is not None and (mine.out, bool(mine.status)) == (theirs.out, bool(theirs.status))
+
+
 class Comparison:
     """Runs of images beside others, counted; sources and inputs that show a difference are kept."""
 
     def __init__(self, tally, work):
         self.tally, self.work, self.runs = tally, work, 0
 
+    @functools.cached_property
+    def model(self):
+        """The model of the machine, compiled for this one."""
+        made = run_within(["gcc", "-O2", "-o", f"{self.work}/model", f"{HERE}/model/model.c"])
+        return self.tally.check("model", made.status == 0, f"wanted a program, came {made}") and f"{self.work}/model"
+
+    def modelled(self, name, image, inputs):
+        """Runs of an image on inputs by the model, from two starts each that differ in all that a start leaves open;
+        that both put out the same is checked."""
+        ran = run_within([self.model, image, str(MOST_TURNS)], framed(inputs))
+        self.tally.check(f"{name}, two starts", ran.status == 0, f"wanted one output, came {ran.said}", (image,))
+        return [Ran(int(word > 0), out, b"") for word, out in outputs_in(ran.out)]
+
+    def compare_many(self, name, image, other, inputs):
+        """Compares an image with a program of `under_qemu` on many inputs, by the model, and on the first few of them
+        by the board as well. Where that program doesn't end well by itself, nothing is compared."""
+        inputs = list(inputs)
+        wanted, runs, different = runs_under_qemu(other, inputs), 0, []
+        modelled = self.modelled(name, image, inputs)
+        for number, theirs in enumerate(wanted):
+            if theirs is None:
+                continue
+            runs += 1
+            came = modelled[number:number + 1]
+            if number < ON_BOARD:
+                came.append(run_within([SANDBOX, "run", image], inputs[number], SECONDS))
+            if not came or not all(are_alike(it, theirs) for it in came):
+                different.append(put(f"{self.work}/{os.path.basename(image)}.{number}.in", inputs[number]))
+        self.count(name, runs, len(different), (*different[:1], image))
+
     def compare(self, name, image, other, inputs):
-        """Runs an image and the program that it is compared with on inputs: the same bytes, and both end well or
-        neither does. Where the program doesn't end well by itself, nothing is compared."""
-        different = runs = 0
+        """Runs an image and a native program on inputs: the same bytes, and both end well or neither does. Where the
+        program doesn't end well by itself, nothing is compared."""
+        runs, different = 0, []
         for number, given in enumerate(inputs):
-            theirs = run(other, given, SECONDS)
+            theirs = run_within(other, given, SECONDS)
             if theirs.status is None or theirs.status < 0:
                 continue
-            mine = run([SANDBOX, "run", image], given, SECONDS)
             runs += 1
-            is_same = mine.status is not None and mine.out == theirs.out and bool(mine.status) == bool(theirs.status)
-            if not is_same and not different:
-                kept = put(f"{self.work}/{os.path.basename(image)}.{number}.in", given)
-                self.tally.check(f"{name}, input {number}", False, f"wanted {theirs}, came {mine}", (kept, image))
-            different += not is_same
+            mine = run_within([SANDBOX, "run", image], given, SECONDS)
+            if not are_alike(mine, theirs):
+                different.append(put(f"{self.work}/{os.path.basename(image)}.{number}.in", given))
+        self.count(name, runs, len(different), (*different[:1], image))
+
+    def count(self, name, runs, different, files):
+        """Counts runs that were compared, of which so many differ."""
         with self.tally.lock:
             self.runs += runs
-        self.tally.check(name, not different, f"wanted the same on {runs} inputs, came another output on {different}")
+        told = f"wanted the same on {runs} inputs, came another output on {different}"
+        self.tally.check(name, not different, told, files)
 
     def accepted(self, name, source, image, files=()):
         """Whether a fitted source is assembled and accepted."""
-        made = run([SANDBOX, "asm", source, image])
-        told = run([SANDBOX, "verify", image]) if made.status == 0 else made
+        made = run_within([SANDBOX, "asm", source, image])
+        told = run_within([SANDBOX, "verify", image]) if made.status == 0 else made
         return self.tally.check(name, told.out == b"accepted\n", f"wanted it accepted, came {told.said}",
                                 (source, *files))
 
     def fitted(self, name, sources, made, image, files=()):
         """Whether sources are fitted, and what is made of them is accepted."""
-        told = run([FIT, *sources, "-o", made])
+        told = run_within([FIT, *sources, "-o", made])
         return self.tally.check(name, told.status == 0, f"wanted a source, came {told}", files or sources) \
             and self.accepted(name, made, image, files or sources)

@@ -5,7 +5,7 @@ import shutil
 
 import generator
 from compared import SPARC, compilers, under_qemu
-from run import CC, FIT, SANDBOX, TOP, has, put, run
+from run import CC, FIT, SANDBOX, TOP, has, put, run_within
 
 LEVELS = ("-O0", "-O1", "-O2", "-O3", "-Os")
 # Without these `fit` refuses what gcc writes, or it means something else than under qemu: those of ./cc, but for what
@@ -16,14 +16,14 @@ PLAIN = """-g1 -m32 -mcpu=v8 -msoft-float -mno-app-regs -ffixed-o7 -fno-delayed-
 # What the programs, and gcc of itself, call.
 HELPERS = ("plug", "integer")
 MOST_TURNS = str(10**12)
-INPUTS = 6
+INPUTS = 14
 
 
 def by_cc(compiler, level):
     """How ./cc makes an image by a compiler."""
     def made(to, sources, image):
-        return run([CC, *sources, "-w", level, "--turns", MOST_TURNS, "-o", image], seconds=240,
-                   env={**os.environ, "CC_SPARC": compiler})
+        return run_within([CC, *sources, "-w", level, "--turns", MOST_TURNS, "-o", image], seconds=240,
+                          env={**os.environ, "CC_SPARC": compiler})
 
     return f"cc {level} by {compiler}", made
 
@@ -34,12 +34,12 @@ def by_plain_flags(level):
         files = [f"{to.work}/{name}.plain.s" for name in HELPERS]
         for source in sources:
             files.append(f"{source}.s")
-            ran = run([SPARC, level, *PLAIN, "-I", f"{TOP}/runtime", "-S", "-o", files[-1], source])
+            ran = run_within([SPARC, level, *PLAIN, "-I", f"{TOP}/runtime", "-S", "-o", files[-1], source])
             if ran.status != 0:
                 return ran
-        ran = run([FIT, *files, "-o", f"{image}.s", "--turns", MOST_TURNS], seconds=240)
+        ran = run_within([FIT, *files, "-o", f"{image}.s", "--turns", MOST_TURNS], seconds=240)
         for words in ([SANDBOX, "asm", f"{image}.s", image], [SANDBOX, "verify", image]):
-            ran = run(words) if ran.status == 0 else ran
+            ran = run_within(words) if ran.status == 0 else ran
         return ran
 
     return f"gcc {level} with plain flags", made
@@ -49,7 +49,7 @@ def ways(to):
     """All ways in which random programs are compiled, each by its name."""
     found = [by_cc(SPARC, level) for level in LEVELS]
     for name in HELPERS:
-        run([SPARC, "-Os", *PLAIN, "-S", "-o", f"{to.work}/{name}.plain.s", f"{TOP}/runtime/{name}.c"])
+        run_within([SPARC, "-Os", *PLAIN, "-S", "-o", f"{to.work}/{name}.plain.s", f"{TOP}/runtime/{name}.c"])
     found += [by_plain_flags(level) for level in LEVELS]
     if "clang" in compilers():
         found += [by_cc("clang", level) for level in ("-O1", "-O2")]
@@ -79,7 +79,7 @@ def try_program(to, seed, way):
         to.tally.check(name, is_refused, f"wanted an image or a reason, came {ran}", sources)
         print(f"{name}: {ran.said.splitlines()[-1:]}", flush=True)
         return "refused"
-    to.compare(name, image, other, inputs_of(seed))
+    to.compare_many(name, image, other, inputs_of(seed))
     shutil.rmtree(folder)
     return "compared"
 

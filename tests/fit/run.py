@@ -14,9 +14,12 @@ Tries that what `./fit` and `./cc` make means what the C means. Parts, all where
   size      each program of examples/c, all of them four times as one program of more than 2,000 lines of C, and all of
             them in one loop: accepted, in so much processor time and memory
   random    N programs of generator.py (240), each compiled in one of twelve ways: by ./cc with gcc and clang, and by
-            gcc with few flags of its own, at several levels; and their outputs under qemu
+            gcc with few flags of its own, at several levels; and their outputs on 14 inputs under qemu
   csmith    N programs by csmith (620, some of which don't end under qemu), whose globals are changed by 20 inputs
             each, and their outputs under qemu
+
+Images of random programs are run by a model of the machine (model/model.c), from two starts that differ in all that a
+start leaves open, and on three inputs by the board, too.
 
 What isn't here (gcc, sparc64-linux-gnu-gcc, clang with its SPARC target, qemu-sparc, csmith, libcsmith-dev) is told
 and skipped. With --keep what differs is left in a folder. Tells how many runs were compared."""
@@ -31,9 +34,10 @@ import tempfile
 sys.dont_write_bytecode = True
 HERE = os.path.dirname(os.path.abspath(__file__))
 sys.path.insert(0, f"{os.path.dirname(HERE)}/lib")
-from compared import SPARC, STORED, Comparison, compilers, inputs_like, native, programs, under_qemu
+from compared import (SPARC, STORED, Comparison, compilers, inputs_like, native, programs, runs_under_qemu,
+                      under_qemu)
 from randoms import try_randoms
-from run import CC, EXAMPLES, FIT, SANDBOX, built, bytes_of, has, put, run, text_of
+from run import CC, EXAMPLES, FIT, SANDBOX, built, bytes_of, has, put, run_within, text_of
 from sources import ENTERED_TWICE, FAULTS, HEAD, LINELESS, calls_of_loops
 from tally import Tally, Words
 
@@ -57,7 +61,8 @@ def try_example(to, name, options):
         to.compare(name, f"{made}.img", other, inputs)
     for compiler in compilers():
         image, called = f"{made}.{compiler}.img", f"cc {name} by {compiler}"
-        ran = run([CC, f"{EXAMPLES}/c/{name}.c", "-o", image], seconds=240, env={**os.environ, "CC_SPARC": compiler})
+        ran = run_within([CC, f"{EXAMPLES}/c/{name}.c", "-o", image], seconds=240,
+                         env={**os.environ, "CC_SPARC": compiler})
         if to.tally.check(called, ran.status == 0, f"wanted an image, came {ran}") and other:
             inputs = inputs_like(stored, options.inputs // 10, random.Random(f"{options.seed} {name} {compiler}"))
             to.compare(called, image, other, inputs)
@@ -91,7 +96,7 @@ def try_feature(to, file, options):
     name, source = file[:-2], f"{HERE}/c/{file}"
     said = re.match(r"/\* (accepted, big-endian|accepted|stopped: \w+|refused: [^*]+?) \*/", text_of(source))[1]
     image = f"{to.work}/{name}.img"
-    made = run([CC, source, "-o", image], seconds=240)
+    made = run_within([CC, source, "-o", image], seconds=240)
     if said.startswith("refused: "):
         line = re.search(rf"^{re.escape(source)}:\d+: refused: (.*)$", made.said, re.M)
         holds = made.status == 2 and line and said[9:] in line[1] and not os.path.exists(image)
@@ -101,12 +106,13 @@ def try_feature(to, file, options):
         return
     inputs = inputs_like(b"abc(1+2)+3\n", options.inputs // 4, random.Random(f"{options.seed} {name}"))
     if said.startswith("stopped: "):
-        stopped = run([SANDBOX, "run", image], bytes([200, *range(100)]))
+        stopped = run_within([SANDBOX, "run", image], bytes([200, *range(100)]))
         to.tally.check(name, stopped.status == 1, f"wanted that it is stopped, came {stopped}")
         inputs = (bytes([15, *range(it)]) for it in range(40))
     other = other_of(to, name, source, said)
     if other:
-        to.compare(name, image, other, inputs)
+        compare = to.compare_many if said.endswith("big-endian") else to.compare
+        compare(name, image, other, inputs)
 
 
 def try_features(to, options):
@@ -126,7 +132,7 @@ def try_fault(to, name, given, part):
     if part is None:
         to.fitted(f"fault {name}", [file], out, f"{to.work}/fault.img")
         return
-    told = run([FIT, file, "-o", out])
+    told = run_within([FIT, file, "-o", out])
     said = told.err.decode(errors="replace")
     begins = re.match(r"refused: " if name in LINELESS else rf"{re.escape(file)}:[1-9]\d*: refused: ", said)
     is_refused = told.status == 2 and begins and not os.path.exists(out)
@@ -155,7 +161,7 @@ def try_changed(to, options):
     for number in range(options.inputs // 2):
         lines = bytes_of(f"{STORED}/{chance.choice(names[:-1])}").split(b"\n")
         file = put(f"{to.work}/changed.s", b"\n".join(changed(lines, chance)))
-        told = run([FIT, file, PLUG, "-o", out])
+        told = run_within([FIT, file, PLUG, "-o", out])
         if told.status == 0:
             to.accepted(f"changed {number}", out, f"{to.work}/changed.img", (file,))
         else:
@@ -174,9 +180,9 @@ def try_words(to):
         ([stored, "-o", x, "--turns", "1000000000000"], 0), ([stored, "-o", x, "--turns", "1"], 2),
         ([f"{STORED}/csv.s", "-o", x, "--strict"], 1),
     ]:
-        tally.same(f"fit {' '.join(words)}: status", run([FIT, *words], cwd=to.work).status, status)
-    run([FIT, stored, "-o", x])
-    told = run([FIT, stored, "-o", "-"], cwd=to.work)
+        tally.same(f"fit {' '.join(words)}: status", run_within([FIT, *words], cwd=to.work).status, status)
+    run_within([FIT, stored, "-o", x])
+    told = run_within([FIT, stored, "-o", "-"], cwd=to.work)
     holds = told.status == 0 and told.out == bytes_of(x) and not os.path.exists(f"{to.work}/-")
     tally.check("fit -o -", holds, f"wanted the source on standard output and no file, came status {told.status}")
 
@@ -199,7 +205,7 @@ def try_budgets(to):
         to.fitted(f"{calls} calls of a loop", words, made, f"{to.work}/many.img", [source])
     for name in ("upper", "json", "csv", "sort"):
         for turns in (1, 100, 10_000, 1_000_000, 10**9, 10**11, 10**12):
-            told = run([FIT, f"{STORED}/{name}.s", PLUG, "-o", made, "--turns", str(turns)])
+            told = run_within([FIT, f"{STORED}/{name}.s", PLUG, "-o", made, "--turns", str(turns)])
             holds = told.status == 0 or told.status == 2 and b"refused: " in told.err
             to.tally.check(f"{name} of {turns} turns", holds, f"wanted a source or a reason, came {told}")
             if told.status == 0:
@@ -217,12 +223,12 @@ def try_found(to, file):
     with open(source, encoding="utf-8") as lines:
         text = lines.read()
     turns = TURNS.search(text)
-    told = run([FIT, source, PLUG, "-o", made, *(turns[1].split() if turns else [])])
+    told = run_within([FIT, source, PLUG, "-o", made, *(turns[1].split() if turns else [])])
     is_made = to.tally.check(f"found {file}", told.status == 0, f"wanted a source, came {told}", [source])
     if not is_made or not to.accepted(f"found {file}", made, image, [source]):
         return
     for given, wanted, status in GIVEN.findall(text):
-        mine = run([SANDBOX, "run", image], bytes.fromhex(given))
+        mine = run_within([SANDBOX, "run", image], bytes.fromhex(given))
         holds = mine.out.hex() == wanted and mine.status == int(status)
         to.tally.check(f"found {file} on {given}", holds, f"wanted {wanted}, status {status}, came {mine}")
 
@@ -274,16 +280,16 @@ def try_program(to, number, options):
     base, level = f"{to.work}/p{number}", ("-O1", "-O2", "-Os")[number % 3]
     name = f"csmith {number} {level}"
     # (it leaves a file where it runs)
-    text = run(["csmith", "--seed", str(options.seed * 100_000 + number), *CSMITH], seconds=60, cwd=to.work)
+    text = run_within(["csmith", "--seed", str(options.seed * 100_000 + number), *CSMITH], seconds=60, cwd=to.work)
     if text.status != 0:
         return "not made"
     source = put(f"{base}.c", with_inputs(text.out.decode()))
     headers = ["-I", f"{HERE}/csmith", "-I", HEADERS]
     other = under_qemu(source, f"{base}.qemu", headers)
     to.tally.check(name, other, "wanted a program to compare with, came none", (source,))
-    if other is None or run(other, seconds=5).status is None:
+    if other is None or runs_under_qemu(other, [b""]) == [None]:
         return "endless"
-    made = run([CC, source, *headers, level, "--turns", str(10**12), "-o", f"{base}.img"], seconds=240)
+    made = run_within([CC, source, *headers, level, "--turns", str(10**12), "-o", f"{base}.img"], seconds=240)
     if made.status != 0:
         is_refused = made.status == 2 and "refused: " in made.said
         to.tally.check(name, is_refused, f"wanted an image or a reason, came {made}", (source,))
@@ -291,7 +297,7 @@ def try_program(to, number, options):
         return "refused"
     chance = random.Random(f"{options.seed} {number}")
     inputs = [b"", *(chance.randbytes(chance.randrange(200)) for _ in range(19))]
-    to.compare(name, f"{base}.img", other, inputs)
+    to.compare_many(name, f"{base}.img", other, inputs)
     for end in (".qemu", ".img", ".c"):
         os.remove(f"{base}{end}")
     return "compared"
@@ -369,7 +375,7 @@ def try_size(to, _options):
         to.tally.skip("one loop of all programs", SPARC)
         return
     source, kept = put(f"{to.work}/loop.c", in_one_loop(programs())), f"{to.work}/loop"
-    made = run([CC, source, "-o", f"{to.work}/loop.img", "--keep", kept], seconds=240)
+    made = run_within([CC, source, "-o", f"{to.work}/loop.img", "--keep", kept], seconds=240)
     if to.tally.check("one loop", made.status == 0, f"wanted an image, came {made}"):
         files = sorted(it for it in os.listdir(kept) if it.endswith(".s") and it != "fitted.s")
         measured(to, "all in one loop", [f"{kept}/{it}" for it in files], SECONDS_LONG)

@@ -96,6 +96,10 @@ def calls_of_loops(count):
         + "\t.size\tmain, .-main\n"
 
 
+# A function that takes its seventh argument from memory, and what calls it with that one stored in a line.
+TAKES_SEVEN = f"{ENTER}; ld [%fp+92],%o0; ta 2; {LEAVE}"
+GIVES_SEVEN = f"{ENTER.replace('96', '112')}; mov 65,%l0; st %l0,[%sp+92]; {{}}call f, 0; {SLOT}; {LEAVE}"
+
 # A loop of ten rounds that is entered at two places.
 ENTERED_TWICE = main_of(f"mov 10,%o1; ta 1; cmp %o0,65; be .L2; {SLOT}; .L1:; add %o2,1,%o2; .L2:; subcc %o1,1,%o1; "
                         f"bne .L1; {SLOT}")
@@ -159,6 +163,11 @@ FAULTS = {
     "a long source": (with_word(kept_words("main", 58, 2040, "f") + kept_words("f", 58, 2040)),
                       "the blocks of all functions would be"),
     "row of calls": (row_of_calls(250), None),
+    "an argument in memory": (TEXT + function("main", GIVES_SEVEN.format("")) + function("f", TAKES_SEVEN), None),
+    # the call between would leave its own argument where the first one is
+    "an argument over a call": (TEXT + function("main", GIVES_SEVEN.format(f"call g, 0; {SLOT}; "))
+                                + function("g", GIVES_SEVEN.format("")) + function("f", TAKES_SEVEN),
+                                "an argument in memory over a call"),
 }
 
 # Where no line can be told: there is none.

@@ -49,6 +49,11 @@ def run(words, given=b"", seconds=SECONDS, **how):
     return Ran(ran.returncode, ran.stdout or b"", ran.stderr or b"")
 
 
+def run_within(words, given=b"", seconds=SECONDS, **how):
+    """The same for so many seconds of processor, each process: beside other work it has sixty times as long."""
+    return run(["prlimit", f"--cpu={seconds}", *words], given, 60 * seconds, **how)
+
+
 def built(*names):
     """Has the programs of these scripts stand, or ends the suite: they are proved and built where that is due."""
     for name in names:

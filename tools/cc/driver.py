@@ -11,7 +11,6 @@ from assembly import LAST, Assembly, started, without_traps
 from compilers import TOP, compiler_of, limited
 from fault import Fault
 from request import ending_of, request_of
-from runs import Comparison, run_image
 from runtime import Runtime
 from telling import Teller, demangled
 
@@ -234,6 +233,9 @@ def perform(request):
         if request.out:
             shutil.copyfile(image, request.out)
             say(*left_beside(build))
+        if not (request.inputs or request.runs):
+            return 0
+        from runs import Comparison, run_image  # (which most calls don't need)
         status = Comparison(request, image, build.mapped, work).all() if request.inputs else 0
         return run_image(request, image, build.mapped) if request.runs else status
 

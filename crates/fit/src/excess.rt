@@ -1,7 +1,7 @@
-//! What is told where a function has more blocks than there may be: how many too many, and whose lines most of them
-//! come from.
+//! The message where a function has more blocks than there may be: how many too many, and whose lines most of them come
+//! from.
 use crate::files::{REFUSED, refused};
-use fit_gas::Assembly;
+use fit_gas::{Assembly, CodeBody};
 use fit_passes::{Reason, Refusal};
 use fit_text::FaultLine;
 use std::collections::BTreeMap;
@@ -59,15 +59,21 @@ fn key_of(file: usize, number: u32) -> u64 {
 fn codes_by_line(source: &Assembly) -> BTreeMap<u64, usize> {
     let mut found: BTreeMap<u64, usize> = BTreeMap::new(source.memory.alloc);
     let mut is_full = false;
-    for number in 0..source.codes.len() {
-        for item in source.codes[number].items.as_slice() {
-            let key = key_of(item.line.file, item.line.number);
-            if !is_full && found.get(&key).is_none() {
-                is_full = found.insert(key, number).is_err();
-            }
-        }
+    for (number, code) in source.codes.as_slice().iter().enumerate() {
+        is_full = is_full || !add_lines(&mut found, number, code);
     }
     found
+}
+
+/// Adds the lines of a function, by its number, that no function before has; says whether memory sufficed.
+fn add_lines(found: &mut BTreeMap<u64, usize>, number: usize, code: &CodeBody) -> bool {
+    for item in code.items.as_slice() {
+        let key = key_of(item.line.file, item.line.number);
+        if found.get(&key).is_none() && found.insert(key, number).is_err() {
+            return false;
+        }
+    }
+    true
 }
 
 /// Takes the greatest of some counts, by its place, and leaves 0 there; nothing where all are 0.
@@ -86,8 +92,8 @@ fn take_greatest(counts: &mut [usize]) -> Option<Share> {
     Some((place, greatest))
 }
 
-/// The functions of the assembly from whose lines most blocks come, the greatest one first.
-fn shares_of(refusal: &Refusal, source: &Assembly) -> Vec<Share> {
+/// For each function of the assembly how many blocks come from its lines.
+fn counts_of(refusal: &Refusal, source: &Assembly) -> Vec<usize> {
     let mut memory = source.memory;
     let codes = codes_by_line(source);
     let mut counted = memory.repeat(0usize, source.codes.len());
@@ -99,9 +105,16 @@ fn shares_of(refusal: &Refusal, source: &Assembly) -> Vec<Share> {
             counts[*code] = counts[*code].saturating_add(1);
         }
     }
+    counted
+}
+
+/// The functions of the assembly from whose lines most blocks come, the greatest one first.
+fn shares_of(refusal: &Refusal, source: &Assembly) -> Vec<Share> {
+    let mut memory = source.memory;
+    let mut counts = counts_of(refusal, source);
     let mut shares = Vec::new(memory.alloc);
     for _ in 0..NAMED {
-        if let Some(share) = take_greatest(counts) {
+        if let Some(share) = take_greatest(counts.as_mut_slice()) {
             memory.push(&mut shares, share);
         }
     }

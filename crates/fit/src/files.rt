@@ -70,8 +70,8 @@ fn is_source(rt: &HostRuntime, words: &Arguments<'_>, path: &str) -> bool {
 }
 
 /// Writes a source to the file that words name, or to standard output where they name none or `-`, and gives the exit
-/// status; what is wrong with the file is told, as that it is a source itself. Where something isn't shown, and the words
-/// say that this is an error, none is written.
+/// status; what is wrong with the file is told, as that it is a source itself. Where something isn't shown, and the
+/// words say that this is an error, none is written.
 pub fn write_source(rt: &HostRuntime, words: &Arguments<'_>, has_lacks: bool, text: &[u8]) -> u8 {
     if words.is_strict && has_lacks {
         return 1;

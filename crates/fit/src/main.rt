@@ -1,4 +1,5 @@
-//! The program `fit`: compiler-made SPARC assembly as an annotated source.
+//! The program `fit`: compiler-made SPARC assembly as an annotated source. Nothing rests on it: the verifier judges the
+//! image, whoever made it.
 #![tactic(auto)]
 
 mod annotate;

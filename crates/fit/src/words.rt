@@ -1,4 +1,4 @@
-//! What the words of a command line ask for.
+//! The words of a command line.
 
 /// The turns that a program's loops may take where the words say nothing.
 pub const TURNS: u64 = 1_000_000_000;

@@ -1,9 +1,9 @@
-//! What is found of a source's program beside what the source says of it.
+//! The search for what a source hasn't said of its program.
 use crate::additions::{Annotated, FunctionKnown};
 use crate::lines::{CellLine, Head};
 use crate::notes::{NO_CALLEE, NO_WAY, Unproved};
 use fit_checks::{Asking, asks_of};
-use fit_code::{Fault, Program, Reason};
+use fit_code::{Block, Fault, Program, Reason};
 use fit_fuel::{CallTotal, Task, bounds_of, declare_function, total_of};
 use fit_ranges::Ranges;
 use fit_text::BlockNotes;
@@ -24,17 +24,25 @@ pub struct AnnotationSearch<'i, 'p, 's> {
     pub totals: Vec<Option<CallTotal>>,
 }
 
+/// Whether a block calls a function whose budget isn't known.
+fn waits_in(block: &Block, totals: &[Option<CallTotal>]) -> bool {
+    for step in block.steps.as_slice() {
+        if let Some(callee) = step.callee
+            && callee < totals.len()
+            && let Some(CallTotal { budget: None, .. }) = totals[callee]
+        {
+            return true;
+        }
+    }
+    false
+}
+
 /// Whether a function of a program calls one whose budget isn't known.
 fn is_waiting(program: &Program, number: usize, totals: &[Option<CallTotal>]) -> bool {
     if number < program.functions.len() {
         for block in program.functions[number].blocks.as_slice() {
-            for step in block.steps.as_slice() {
-                if let Some(callee) = step.callee
-                    && callee < totals.len()
-                    && let Some(CallTotal { budget: None, .. }) = totals[callee]
-                {
-                    return true;
-                }
+            if waits_in(block, totals) {
+                return true;
             }
         }
     }

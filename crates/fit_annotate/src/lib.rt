@@ -1,5 +1,6 @@
 //! Annotations for the project's own assembly language: what a source with none, or with some, hasn't got of what is
-//! found of its program. How it is put in stands in `fit_kept`, which doesn't trust what is found.
+//! found of its program. Nothing rests on what is found: `fit_kept` looks at how it is put in, and the verifier at what
+//! it says.
 #![tactic(auto)]
 
 mod additions;

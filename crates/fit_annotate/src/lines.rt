@@ -1,4 +1,4 @@
-//! Where the words, the blocks and the annotations of a source stand.
+//! Places in a source: of its words, its blocks and its annotations.
 use fit_code::Heap;
 use sbx_asm::first_line;
 use sbx_directives::{Directive, Name, Statement, label_count, read_statement};

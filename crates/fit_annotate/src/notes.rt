@@ -1,4 +1,4 @@
-//! What isn't shown of a source, as notes to its author.
+//! Notes to the author of a source, of what isn't shown of it.
 use fit_checks::{NotShown, UnshownAccess, needed_alignment};
 use fit_code::Fault;
 use fit_text::FaultWords;

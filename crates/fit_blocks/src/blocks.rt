@@ -2,16 +2,13 @@
 //! which it is.
 use crate::codes::prune;
 use crate::plain::step_of;
-use crate::points::{
-    ControlFlow, Layout, Point, is_call_through_pointer, name_of, operands_read, points_of,
-    registers_of,
-};
+use crate::points::{ControlFlow, Layout, Point, is_call_through_pointer, name_of, points_of};
 use crate::slots::{frame_and_start, leads_of, may_go_before, number_marked};
 use crate::stops::Stops;
-use fit_code::{Block, End, Function, SourceLine, Step};
+use fit_code::{Block, End, Function, RegisterSet, SourceLine, Step, operands_read, writes};
 use fit_gas::{CodeBody, owned};
 use std::mem;
-use v8_formats::{Instr, Operand, Three, decode};
+use v8_formats::{Instr, Operand, Three};
 use v8_word::{Cond, Reg, reg_at};
 
 /// RESTORE of nothing.
@@ -20,9 +17,6 @@ const PLAIN: Three = Three {
     rs1: Reg::G0,
     operand2: Operand::Register(Reg::G0),
 };
-
-/// CALL of nothing.
-const CALL: u32 = 0x4000_0000;
 
 /// The blocks of a function, as they are made.
 #[derive(Drop)]
@@ -162,10 +156,10 @@ impl Builder<'_, '_> {
         }
     }
 
-    /// Whether what stands in the slot of a call at a place writes one of some registers, each of which has a bit.
-    fn slot_writes(&mut self, place: usize, registers: u32, line: SourceLine) -> bool {
+    /// Whether what stands in the slot of a call at a place writes one of some registers.
+    fn slot_writes(&mut self, place: usize, registers: RegisterSet, line: SourceLine) -> bool {
         match self.slot(place, line) {
-            Some(slot) => registers_of(&slot.instr).writes & registers != 0,
+            Some(slot) => !writes(&slot.instr).is_disjoint(registers),
             None => false,
         }
     }
@@ -246,11 +240,11 @@ pub fn result_register() -> Reg {
     reg_at(8, 0)
 }
 
-/// The registers that a call through a pointer reads, each of which has a bit.
-fn pointer_read(step: &Step) -> u32 {
+/// The registers that a call through a pointer reads.
+fn pointer_read(step: &Step) -> RegisterSet {
     match step.instr {
-        Instr::Jmpl(pointer) => operands_read(&pointer),
-        _ => 0,
+        Instr::Jmpl(pointer) => operands_read(pointer.rs1, pointer.operand2),
+        _ => RegisterSet::NONE,
     }
 }
 
@@ -271,7 +265,7 @@ fn passing_step(step: &Step) -> Step {
 fn plain_call(step: &Step) -> Step {
     let mut call = *step;
     if is_call_through_pointer(step) {
-        call.instr = decode(CALL);
+        call.instr = Instr::Call(0);
     }
     call
 }

@@ -40,7 +40,7 @@ fn block_of_several(
         if let Some(asked) = asked_of(&blocks[number]) {
             let setters = setters_of(memory, blocks, before, number, CodesOrY::Codes);
             let is_kept = has_register & setters.is_set & !setters.is_lost;
-            if !(is_kept && asked.is_one_word()) && one_setter(&setters, asked) == 0 {
+            if !(is_kept && asked.is_one_word()) && one_setter(&setters, asked).is_none() {
                 let found = several_before(blocks, before, number);
                 if found.is_some() {
                     return found;
@@ -56,7 +56,12 @@ fn several_before(blocks: &[Block], before: &[Vec<usize>], block: usize) -> Opti
     let mut number = block;
     for _ in 0..blocks.len() {
         match before.get(number)?.as_slice() {
-            [one] if codes_of(blocks.get(*one)?.steps.as_slice()).setter == 0 => number = *one,
+            [one]
+                if codes_of(blocks.get(*one)?.steps.as_slice())
+                    .setter
+                    .is_none() => {
+                number = *one;
+            }
             [_, _, ..] => return Some(number),
             _ => return None,
         }

@@ -1,12 +1,12 @@
-//! The instructions of the functions that compilers wrote: data laid out, numbers filled in, what each instruction
-//! reads and writes, and what it does to the flow of control.
+//! The instructions of the functions that compilers wrote: data laid out, numbers filled in, and what each instruction
+//! does to the flow of control.
 mod fields;
 mod flow;
 mod layout;
 
 use crate::plain::step_of;
 use crate::points::flow::flow_of;
-pub use fields::{MemoryAccess, access_of, bit_of, operands_read, registers_of, signed};
+pub use fields::{MemoryAccess, access_of, signed};
 use fit_code::Step;
 use fit_gas::{AddressPart, CodeBody, SymbolPlace, with_part};
 pub use layout::{Layout, layout_of, name_of, pointer_word};

@@ -3,17 +3,17 @@
 mod starts;
 
 use crate::codes::codes_of;
-use crate::points::{bit_of, operands_read};
-use fit_code::Step;
+use fit_code::{RegisterSet, Step, fields_of, named_by};
 pub use starts::{frame_and_start, leads_of, number_marked};
 use std::slice;
-use v8_formats::three_of;
 
 /// Whether the slot of a branch may run before it: it doesn't set the codes, and doesn't write what the last
 /// compare before it read.
 pub fn may_go_before(slot: &Step, steps: &[Step]) -> bool {
-    let compare = three_of(codes_of(steps).setter);
-    let compared = operands_read(&compare) | bit_of(compare.rd);
+    let compared = match &codes_of(steps).setter {
+        Some(compare) => named_by(&fields_of(compare)),
+        None => RegisterSet::NONE,
+    };
     let slot = codes_of(slice::from_ref(slot));
-    (slot.setter == 0) & (slot.written & compared == 0)
+    slot.setter.is_none() & slot.written.is_disjoint(compared)
 }

@@ -1,4 +1,4 @@
-//! What stops the making of a program: it is noted where it is found, and told once.
+//! The first reason that stops the making of a program: it is noted where it is found, and told once.
 use crate::points::name_of;
 use fit_code::{Fault, Heap, JUMP_THROUGH_POINTER, Naming, Reason, SourceLine};
 use fit_gas::{Assembly, owned};

@@ -1,10 +1,10 @@
-//! What the verifier would ask of a program's steps, and isn't shown: of locations, of accesses, of divisors. And sums
-//! of which more is known if they are written in another way.
+//! The list of what the verifier would ask of a program's steps, and isn't shown: of locations, of accesses, of
+//! divisors. And sums of which more is known if they are written in another way.
 mod shifted;
 
-use fit_code::{Block, Function, Heap, Program, SourceLine, Step};
+use fit_code::{Block, Function, Heap, Program, RegisterSet, SourceLine, Step};
 use fit_graph::{effects_of, read_at_end, return_from, run_to_call};
-use fit_ranges::{Origin, Ranges, Trace, end_of, origin_of, trace_of};
+use fit_ranges::{Origin, Ranges, Trace, end_of, origin_of};
 use sbx_domain::State;
 use sbx_range::{Cell, Range, excludes_zero, range_of_address};
 pub use shifted::{live_behind, shorten_steps};
@@ -63,14 +63,13 @@ pub struct Asking<'a> {
     pub wraps: bool,
 }
 
-/// %sp, %fp and the addresses of calls, which are never asked for, each of which has a bit.
-const RESERVED: u32 = 0xc000_c000;
-
-/// The first register that isn't defined of some that are read, or that are given to a callee; each has a bit.
-fn lack_of_registers(registers: u32, is_given: bool, state: &State) -> Option<NotShown> {
-    let asked = registers & !RESERVED;
-    for register in 1..32u16 {
-        if asked >> register & 1 == 1 && state.range(register).is_none() {
+/// The first register that isn't defined of some that are read, or that are given to a callee; what holds frames and
+/// ways back is never asked for.
+fn lack_of_registers(registers: RegisterSet, is_given: bool, state: &State) -> Option<NotShown> {
+    let asked = registers.difference(RegisterSet::HELD);
+    for number in 1..32u8 {
+        let register = u16::from(number);
+        if asked.has(number) && state.range(register).is_none() {
             return Some(if is_given {
                 NotShown::Given(register)
             } else {
@@ -139,9 +138,9 @@ impl Asking<'_> {
     ) -> Option<NotShown> {
         if let Some(callee) = step.callee {
             run_to_call(frame, step, state);
-            let params = self.ranges.params(callee).len().min(6) as u32;
+            let params = self.ranges.params(callee).len().min(6) as u8;
             // of %o0 to %o5 the first ones
-            let lack = lack_of_registers(0x3f >> (6 - params) << 8, true, state);
+            let lack = lack_of_registers(RegisterSet::range(8, params), true, state);
             return_from(self.ranges.results(), callee, state);
             return lack;
         }
@@ -198,20 +197,17 @@ impl Asking<'_> {
         asks: &mut Vec<Ask>,
         memory: &mut Heap,
     ) {
-        let (ranges, frame) = (self.ranges, code.frame);
+        let frame = code.frame;
         if !self.begin((function, number), cells, state) {
             return;
         }
-        let Ok(trace) = trace_of(self.alloc, frame, ranges.results(), block, state) else {
-            memory.is_refused = true;
-            return;
-        };
-        self.begin((function, number), cells, state);
+        let mut trace = Trace::new(self.alloc);
         let steps = block.steps.as_slice();
         for place in 0..steps.len().saturating_add(1) {
             let mut line = block.line;
             let lack = if place < steps.len() {
                 line = steps[place].line;
+                trace.push(memory, frame, &steps[place], &*state);
                 self.lack_at(frame, block, &trace, (place, &steps[place]), state)
             } else {
                 lack_of_registers(read_at_end(code, count, &block.end), false, state)

@@ -14,8 +14,7 @@ mod upper;
 
 pub use asks::{Asking, NotShown, UnshownAccess, asks_of, needed_alignment};
 pub use cuts::{
-    CODES, Y, insert_instr, number_in, push_block, push_instrs, register, shared_end, telling,
-    use_of,
+    insert_instr, number_in, push_block, push_instrs, register, shared_end, telling, use_of,
 };
 pub use plans::{Test, TestKind};
 pub use settling::{TestOptions, add_tests};

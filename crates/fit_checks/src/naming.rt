@@ -1,11 +1,14 @@
 //! Addresses outside of an object that steps work out from its own, as `a - 35` where an index counts from 35. They
 //! belong to it, wherever they lie: else an access by such a register would be held to the object that lies there.
-use fit_code::{Block, Function, Heap, Object, Program, Step};
+use fit_code::{Block, Function, Heap, Object, Program, RegisterSet, Step};
 use fit_graph::{effects_in, run_step};
 use fit_ranges::{Ranges, end_of, object_at};
 use sbx_domain::State;
 use sbx_range::is_single;
 use v8_formats::{Instr, Operand, Reg, Three};
+
+/// So often is looked for what is worked out from what was found before.
+const DERIVATIONS: u32 = 8;
 
 /// The objects whose addresses registers hold, as far as steps of a block have worked them out.
 type Held = [Option<usize>; 32];
@@ -32,13 +35,31 @@ fn number_of(register: Reg, state: &State) -> Option<i32> {
     }
 }
 
+/// The object outside of which an address lies that belongs to it; nothing where that are two.
+fn object_beside(program: &Program, address: u32) -> Option<usize> {
+    let mut found = None;
+    for (number, object) in program.objects.as_slice().iter().enumerate() {
+        if object.outside.contains(&address) {
+            if found.is_some() {
+                return None;
+            }
+            found = Some(number);
+        }
+    }
+    found
+}
+
 /// The object whose address a register holds: the one that steps of the block have worked it out from, else the one
-/// that has that address.
+/// that it belongs to though it lies outside, else the one that has that address. Where another one has it as well, an
+/// access may be to either.
 fn object_of(program: &Program, held: &Held, register: Reg, state: &State) -> Option<usize> {
     let number = number_of(register, state)?;
     match held[usize::from(register.number())] {
         Some(object) => Some(object),
-        None => object_at(program, i64::from(number)),
+        None => match object_beside(program, number.cast_unsigned()) {
+            Some(object) => Some(object),
+            None => object_at(program, i64::from(number)),
+        },
     }
 }
 
@@ -75,10 +96,10 @@ fn object_behind(program: &Program, held: &Held, step: &Step, state: &State) -> 
 }
 
 /// Takes in that a step leaves an object's address in what it writes, or none.
-fn take(held: &mut Held, writes: u32, object: Option<usize>) {
-    for register in 0..32 {
-        if writes >> register & 1 == 1 {
-            held[register] = object;
+fn take(held: &mut Held, writes: RegisterSet, object: Option<usize>) {
+    for register in 1..32u8 {
+        if writes.has(register) {
+            held[usize::from(register)] = object;
         }
     }
 }
@@ -106,8 +127,9 @@ fn add_named(
         let writes = effects_in(function.frame, step).writes;
         take(&mut held, writes, behind);
         if let Some(object) = behind
-            && (object < objects.len()) & (writes != 0)
-            && let Some(range) = state.range(writes.trailing_zeros() as u16)
+            && object < objects.len()
+            && let Some(register) = writes.first()
+            && let Some(range) = state.range(u16::from(register.number()))
             && is_single(range)
         {
             let address = range.lo.cast_unsigned();
@@ -118,24 +140,54 @@ fn add_named(
     }
 }
 
-/// Lets the addresses outside of objects that steps of a program work out from theirs belong to them.
-pub fn name_derived(memory: &mut Heap, program: &mut Program, ranges: &Ranges, state: &mut State) {
+/// The addresses outside of objects that steps of a program work out from theirs, and that aren't known as theirs.
+fn derived_in(
+    memory: &mut Heap,
+    program: &Program,
+    ranges: &Ranges,
+    state: &mut State,
+) -> Vec<Named> {
     let mut found = Vec::new(memory.alloc);
-    for (number, function) in program.functions.as_slice().iter().enumerate() {
-        for (place, block) in function.blocks.as_slice().iter().enumerate() {
-            if ranges.begin_block(&*program, number, place, state) {
-                add_named(
-                    memory,
-                    (&*program, ranges),
-                    (function, block),
-                    &mut found,
-                    state,
-                );
-            }
+    for number in 0..program.functions.len() {
+        add_named_in(memory, (program, ranges), number, &mut found, state);
+    }
+    found
+}
+
+/// Lets the addresses outside of objects that steps of a program work out from theirs belong to them, and those that
+/// other blocks work out from these.
+pub fn name_derived(memory: &mut Heap, program: &mut Program, ranges: &Ranges, state: &mut State) {
+    for _ in 0..DERIVATIONS {
+        let found = derived_in(memory, &*program, ranges, state);
+        if found.is_empty() {
+            return;
+        }
+        add_outside(memory, program.objects.as_mut_slice(), found.as_slice());
+    }
+}
+
+/// The same of the blocks of a function, by its number, to which control comes.
+fn add_named_in(
+    memory: &mut Heap,
+    (program, ranges): (&Program, &Ranges),
+    number: usize,
+    found: &mut Vec<Named>,
+    state: &mut State,
+) {
+    if number >= program.functions.len() {
+        return;
+    }
+    let function = &program.functions[number];
+    for (place, block) in function.blocks.as_slice().iter().enumerate() {
+        if ranges.begin_block(program, number, place, state) {
+            add_named(memory, (program, ranges), (function, block), found, state);
         }
     }
-    let objects = program.objects.as_mut_slice();
-    for named in found.as_slice() {
+}
+
+/// Lets addresses belong to their objects.
+fn add_outside(memory: &mut Heap, objects: &mut [Object], found: &[Named]) {
+    for named in found {
         if named.object < objects.len() {
             let object = &mut objects[named.object];
             if !has(&*object, named.address) {

@@ -4,16 +4,17 @@ mod sweeping;
 
 use crate::asks::{Ask, NotShown, UnshownAccess, live_behind, shorten_steps};
 use crate::cuts::{
-    CODES, SCRATCH, Y, copy_block, drop_compare, in_use, insert_instr, keep_carry, move_reader,
-    move_writer, number_in, push_block, push_instrs, register, set_codes_again, shared_end,
-    spare_register,
+    copy_block, drop_compare, in_use, insert_instr, keep_carry, move_reader, move_writer,
+    number_in, push_block, push_instrs, register, set_codes_again, shared_end, spare_register,
 };
 use crate::forms::check_forms;
 use crate::naming::name_derived;
 use crate::plans::{SUM, Test, TestKind, TestPlan, TestWay, plan_of, subtracting, take_division};
 use crate::undefined::clear_undefined;
 use crate::upper::write_upper;
-use fit_code::{Block, End, Fault, Function, Heap, NO_LINE, Program, Reason, with_operands};
+use fit_code::{
+    Block, End, Fault, Function, Heap, NO_LINE, Program, Reason, RegisterSet, with_operands,
+};
 use fit_graph::{enter, range_in};
 use fit_ranges::Ranges;
 use sbx_domain::State;
@@ -105,11 +106,11 @@ const EXIT_WORD: u8 = 8;
 /// to it are to stand twice, too.
 fn place_of_test(frame: u32, block: &Block, plan: &TestPlan) -> Option<usize> {
     let mut first = plan.first;
-    if plan.constants.is_some() && in_use(frame, block, plan.last) & plan.changed == 0 {
+    if plan.constants.is_some() && in_use(frame, block, plan.last).is_disjoint(plan.changed) {
         first = plan.last;
     }
     for place in first..plan.last.saturating_add(1) {
-        if in_use(frame, block, place) & plan.changed == 0 {
+        if in_use(frame, block, place).is_disjoint(plan.changed) {
             return Some(place);
         }
     }
@@ -128,16 +129,17 @@ fn make_place(
     if number < blocks.len() {
         let block = &mut blocks[number];
         let used = in_use(frame, block, place);
-        let is_free = used & Y != 0
-            && (move_reader(frame, block, place, Y) || move_writer(frame, block, place));
-        if !is_free & (used & CODES == 0) {
+        let is_free = !used.is_disjoint(RegisterSet::Y)
+            && (move_reader(frame, block, place, RegisterSet::Y)
+                || move_writer(frame, block, place));
+        if !is_free & used.is_disjoint(RegisterSet::CODES) {
             return Err(NO_PLACE);
         }
         let is_made = is_free
-            || move_reader(frame, block, place, CODES)
-            || keep_carry(memory, frame, block, place, spare);
+            || move_reader(frame, block, place, RegisterSet::CODES)
+            || keep_carry(memory, frame, block, place, &spare);
         if !is_made {
-            return set_codes_again(memory, frame, block, spare);
+            return set_codes_again(memory, frame, block, &spare);
         }
     }
     Ok(())
@@ -156,8 +158,9 @@ fn push_second(
         return first.exit;
     };
     let count = ask.place.saturating_add(1).saturating_sub(place);
+    let changed = RegisterSet::CODES_AND_Y.union(RegisterSet::SCRATCH);
     if first.rest < blocks.len()
-        && in_use(ask.frame, &blocks[first.rest], count) & (CODES | Y | SCRATCH) == 0
+        && in_use(ask.frame, &blocks[first.rest], count).is_disjoint(changed)
     {
         copy_block(memory, blocks, (first.rest, count), true);
     }
@@ -188,7 +191,7 @@ fn join_address(blocks: &mut [Block], ask: &Ask, access: &UnshownAccess) -> Opti
     let (rs1, operand2) = access.parts;
     if ask.block < blocks.len()
         && ask.place < blocks[ask.block].steps.len()
-        && in_use(ask.frame, &blocks[ask.block], ask.place) & SCRATCH == 0
+        && in_use(ask.frame, &blocks[ask.block], ask.place).is_disjoint(RegisterSet::SCRATCH)
         && rs1.number() != SUM
     {
         let (rd, step) = (register(SUM), &mut blocks[ask.block].steps[ask.place]);

@@ -1,6 +1,6 @@
-//! What is known of a function while tests are put into it. Each narrows what comes behind it, which is followed along
+//! The knowledge of a function while tests are put into it. Each narrows what comes behind it, which is followed along
 //! the function's order: what a test shows is known before a later one is asked for.
-use fit_code::{Block, Function, Heap, Step};
+use fit_code::{Block, Function, Heap, RegisterSet, Step};
 use fit_graph::{Growth, LocationSet, cells_of, effects_in, go_along, join, range_in, run_step};
 use fit_ranges::Ranges;
 use sbx_domain::State;
@@ -37,7 +37,7 @@ pub struct Sweep {
     is_new: Vec<bool>,
     ends: Vec<BlockEnds>,
     /// Whether a block was gone over, and the registers whose words may come, at its end, round a loop from blocks that
-    /// weren't: each has a bit. What is known of these may be narrower once the ranges are found anew.
+    /// weren't. What is known of these may be narrower once the ranges are found anew.
     is_swept: Vec<bool>,
     carried: Vec<Carried>,
     /// The loops around the block that is gone over, an inner one behind those around it.
@@ -46,28 +46,28 @@ pub struct Sweep {
     pub tested: Vec<CarriedWord>,
 }
 
-/// Of which registers the ranges that are found anew may say more, each of which has a bit.
+/// Of which registers the ranges that are found anew may say more.
 #[derive(Clone, Copy)]
 pub struct Carried {
     /// Those whose words may come round a loop from blocks that weren't gone over.
-    pub round: u32,
+    pub round: RegisterSet,
     /// Those of them that were tested since, or are worked out from such ones.
-    pub tested: u32,
+    pub tested: RegisterSet,
 }
 
 /// None.
 pub const NOT_CARRIED: Carried = Carried {
-    round: 0,
-    tested: 0,
+    round: RegisterSet::NONE,
+    tested: RegisterSet::NONE,
 };
 
 /// What a set of registers is behind a step that works out what it writes from what it reads: one of those that it
 /// reads is in the set, and so is what it writes then.
-fn passed(set: u32, reads: u32, writes: u32) -> u32 {
-    if reads & set == 0 {
-        set & !writes
+fn passed(set: RegisterSet, reads: RegisterSet, writes: RegisterSet) -> RegisterSet {
+    if reads.is_disjoint(set) {
+        set.difference(writes)
     } else {
-        set | writes
+        set.union(writes)
     }
 }
 
@@ -79,32 +79,33 @@ impl Carried {
             let effects = effects_in(frame, step);
             let is_computed = matches!(operation_of(&step.instr), Operation::Compute(..));
             let reads = if is_computed & step.callee.is_none() {
-                effects.reads
+                effects.reads.registers()
             } else {
-                0
+                RegisterSet::NONE
             };
-            found.round = passed(found.round, reads, effects.writes);
-            found.tested = passed(found.tested, reads, effects.writes);
+            let writes = effects.writes.registers();
+            found.round = passed(found.round, reads, writes);
+            found.tested = passed(found.tested, reads, writes);
         }
         found
     }
 
     /// Adds others.
     fn add(&mut self, others: Carried) {
-        self.round |= others.round;
-        self.tested |= others.tested;
+        self.round.add(others.round);
+        self.tested.add(others.tested);
     }
 }
 
 /// The registers of which cells have other words than some cells beside them.
-fn wider_in(cells: &[Cell], beside: &[Cell]) -> u32 {
-    let mut wider = 0;
+fn wider_in(cells: &[Cell], beside: &[Cell]) -> RegisterSet {
+    let mut wider = RegisterSet::NONE;
     for cell in cells {
         if cell.location < 32
             && let Some(range) = range_in(beside, cell.location)
             && !is_within(cell.range, range)
         {
-            wider |= 1u32 << (cell.location % 32);
+            wider.add(RegisterSet::range((cell.location % 32) as u8, 1));
         }
     }
     wider
@@ -193,16 +194,28 @@ impl Sweep {
         if end > place {
             memory.push(&mut self.loops, OpenLoop { head: block, end });
             if let Some(onward) = &onward {
-                for way in ranges.ways_to(function, block) {
-                    if !self.was_swept(*way / 2)
-                        && let Some(cells) = ranges.way_cells(function, *way / 2, *way % 2)
-                    {
-                        carried.round |= wider_in(cells, onward.as_slice());
-                    }
-                }
+                self.carry_back(ranges, (function, block), onward.as_slice(), &mut carried);
             }
         }
         carried
+    }
+
+    /// Adds the registers of which more is possible, along the ways to a block from those that weren't gone over yet,
+    /// than these cells have.
+    fn carry_back(
+        &self,
+        ranges: &Ranges,
+        (function, block): (usize, usize),
+        onward: &[Cell],
+        carried: &mut Carried,
+    ) {
+        for way in ranges.ways_to(function, block) {
+            if !self.was_swept(*way / 2)
+                && let Some(cells) = ranges.way_cells(function, *way / 2, *way % 2)
+            {
+                carried.round.add(wider_in(cells, onward));
+            }
+        }
     }
 
     /// Whether a block was gone over.
@@ -341,9 +354,18 @@ pub struct Chain {
     cells: Vec<Option<Vec<Cell>>>,
     carried: Vec<Carried>,
     /// The registers that were tested whose words come round a loop.
-    pub tested: u32,
+    pub tested: RegisterSet,
     /// Those that are to be gone over, the next one last.
     open: Vec<usize>,
+}
+
+/// Puts the blocks that a block's end goes to behind those of a list, to be entered.
+fn push_ways(memory: &mut Heap, behind: &mut Vec<(usize, bool)>, block: &Block) {
+    for way in block.end.ways() {
+        if let Some(to) = way {
+            memory.push(behind, (to, false));
+        }
+    }
 }
 
 impl Chain {
@@ -359,7 +381,7 @@ impl Chain {
             count,
             cells: Vec::new(memory.alloc),
             carried: memory.copy(&[carried]),
-            tested: 0,
+            tested: RegisterSet::NONE,
             open: memory.copy(&[first]),
         };
         memory.push(&mut chain.cells, Some(cells));
@@ -417,7 +439,8 @@ impl Chain {
             add_way(memory, &mut self.cells[place], cells);
             self.carried[place].add(carried);
             if block != self.first {
-                self.carried[place].tested |= carried.round & self.tested;
+                let tested = carried.round.intersection(self.tested);
+                self.carried[place].tested.add(tested);
             }
         }
     }
@@ -443,11 +466,7 @@ impl Chain {
             {
                 entered[next] = true;
                 memory.push(&mut behind, (next, true));
-                for way in blocks[next].end.ways() {
-                    if let Some(to) = way {
-                        memory.push(&mut behind, (to, false));
-                    }
-                }
+                push_ways(memory, &mut behind, &blocks[next]);
             }
         }
     }

@@ -1,45 +1,54 @@
 //! Words that may be read before they are written. Each is made 0 where it becomes undefined: at the entry of its
 //! function, or behind the call that loses it. Never where it is read: on another way there it may have been written.
 use crate::cuts::{by_immediate, clearing, insert_instr};
-use fit_code::{Block, Function, Heap, Program};
+use fit_code::{Block, Function, Heap, Program, RegisterSet, Step, writes};
 use fit_graph::{LocationSet, effects_of, read_at_end};
 use fit_ranges::Ranges;
 use v8_formats::{Instr, Three};
 
-/// %sp, %fp and the addresses of calls, each of which has a bit.
-const RESERVED: u32 = 0xc000_c000;
-
 /// The globals, which a call loses; what it loses of the outs and is read behind it is one of its callee's results.
-const GLOBALS: u32 = 0xfe;
+const GLOBALS: RegisterSet = RegisterSet::GLOBALS;
 
 /// Globals that are live behind the call at a place of a block, and those of them that its callee leaves alone: on a
-/// machine these are what they were. Each has a bit.
+/// machine these are what they were.
 #[derive(Clone, Copy)]
 struct LostRegisters {
     block: usize,
     place: usize,
-    registers: u32,
-    kept: u32,
+    registers: RegisterSet,
+    kept: RegisterSet,
+}
+
+/// The globals that a step may write, where those are known that calls of functions may.
+fn globals_of_step(step: &Step, known: &[RegisterSet]) -> RegisterSet {
+    match step.callee {
+        Some(callee) if callee < known.len() => known[callee],
+        Some(_) => GLOBALS,
+        None => writes(&step.instr).intersection(GLOBALS),
+    }
+}
+
+/// The globals that a block may write, where those are known that calls of functions may.
+fn globals_of_block(block: &Block, known: &[RegisterSet]) -> RegisterSet {
+    let mut written = RegisterSet::NONE;
+    for step in block.steps.as_slice() {
+        written.add(globals_of_step(step, known));
+    }
+    written
 }
 
 /// The globals that a call of a function may write, where those are known that calls of its callees may.
-fn globals_written(function: &Function, known: &[u32]) -> u32 {
-    let mut written = 0;
+fn globals_written(function: &Function, known: &[RegisterSet]) -> RegisterSet {
+    let mut written = RegisterSet::NONE;
     for block in function.blocks.as_slice() {
-        for step in block.steps.as_slice() {
-            written |= match step.callee {
-                Some(callee) if callee < known.len() => known[callee],
-                Some(_) => GLOBALS,
-                None => effects_of(function.frame, &step.instr).writes & GLOBALS,
-            };
-        }
+        written.add(globals_of_block(block, known));
     }
     written
 }
 
 /// The same of each function of a program, whose functions call those of larger numbers alone.
-fn written_of(memory: &mut Heap, functions: &[Function]) -> Vec<u32> {
-    let mut written = memory.repeat(0, functions.len());
+fn written_of(memory: &mut Heap, functions: &[Function]) -> Vec<RegisterSet> {
+    let mut written = memory.repeat(RegisterSet::NONE, functions.len());
     let known = written.as_mut_slice();
     for number in (0..functions.len()).rev() {
         if number < known.len() {
@@ -49,29 +58,34 @@ fn written_of(memory: &mut Heap, functions: &[Function]) -> Vec<u32> {
     written
 }
 
-/// The registers that are live behind the steps of a block of a function of so many results, each of which has a bit.
-fn live_at_end(function: &Function, results: u8, block: &Block, live: &[LocationSet]) -> u32 {
-    let mut registers = 0;
+/// The registers that are live behind the steps of a block of a function of so many results.
+fn live_at_end(
+    function: &Function,
+    results: u8,
+    block: &Block,
+    live: &[LocationSet],
+) -> RegisterSet {
+    let mut registers = RegisterSet::NONE;
     let ways = block.end.ways();
     for way in 0..2 {
         if let Some(to) = ways[way]
             && to < live.len()
         {
-            registers |= live[to].registers();
+            registers.add(live[to].registers());
         }
     }
     if let Some(slot) = &block.slot {
         let effects = effects_of(function.frame, slot);
-        registers = registers & !effects.writes | effects.reads;
+        registers = registers.before(effects.reads, effects.writes);
     }
-    registers | read_at_end(function, results, &block.end)
+    registers.union(read_at_end(function, results, &block.end))
 }
 
 /// Lists, from the last call of a block on, the globals that are live behind a call.
 fn lost_in_block(
     memory: &mut Heap,
-    (function, number, live_behind): (&Function, usize, u32),
-    written: &[u32],
+    (function, number, live_behind): (&Function, usize, RegisterSet),
+    written: &[RegisterSet],
     lost: &mut Vec<LostRegisters>,
 ) {
     let mut live = live_behind;
@@ -87,20 +101,21 @@ fn lost_in_block(
             } else {
                 GLOBALS
             };
-            let registers = live & GLOBALS;
-            if registers != 0 {
+            let registers = live.intersection(GLOBALS);
+            let kept = registers.difference(written);
+            if !registers.is_empty() {
                 let found = LostRegisters {
                     block: number,
                     place,
                     registers,
-                    kept: registers & !written,
+                    kept,
                 };
                 memory.push(lost, found);
             }
-            live = live & !GLOBALS | registers & !written;
+            live = live.before(kept, GLOBALS);
         } else {
             let effects = effects_of(function.frame, &step.instr);
-            live = live & !effects.writes | effects.reads;
+            live = live.before(effects.reads, effects.writes);
         }
     }
 }
@@ -139,12 +154,12 @@ fn define_behind(
 ) {
     let line = function.line;
     for register in 1..8u8 {
-        if found.registers >> register & 1 == 1 {
+        if found.registers.has(register) {
             let word = words[usize::from(register % 8)];
-            let instr = if found.kept >> register & 1 == 0 {
-                Some(clearing(u16::from(register)))
-            } else {
+            let instr = if found.kept.has(register) {
                 load_of(register, word)
+            } else {
+                Some(clearing(u16::from(register)))
             };
             if let Some(instr) = instr {
                 let behind = (found.block, found.place.saturating_add(1));
@@ -163,7 +178,7 @@ fn keep_before(
 ) {
     let line = function.line;
     for register in 1..8u8 {
-        if found.kept >> register & 1 == 1
+        if found.kept.has(register)
             && let Some(word) = words[usize::from(register % 8)]
         {
             let store = Instr::Store(place_of_word(register, word));
@@ -177,7 +192,7 @@ fn keep_before(
 fn lost_in(
     memory: &mut Heap,
     (function, number): (&Function, usize),
-    (ranges, written): (&Ranges, &[u32]),
+    (ranges, written): (&Ranges, &[RegisterSet]),
 ) -> Vec<LostRegisters> {
     let mut lost = Vec::new(memory.alloc);
     let (results, live) = (ranges.results(), ranges.live(number));
@@ -194,19 +209,34 @@ fn lost_in(
     lost
 }
 
+/// The registers that callees leave alone.
+fn kept_of(lost: &[LostRegisters]) -> RegisterSet {
+    let mut kept = RegisterSet::NONE;
+    for found in lost {
+        kept.add(found.kept);
+    }
+    kept
+}
+
 /// Words of a function's frame for the registers that callees leave alone, as far as there is room.
 fn words_for(function: &mut Function, lost: &[LostRegisters]) -> [Option<u16>; 8] {
-    let mut kept = 0;
-    for found in lost {
-        kept |= found.kept;
-    }
+    let kept = kept_of(lost);
     let mut words = [None; 8];
-    for register in 0..8 {
-        if kept >> register & 1 == 1 {
-            words[register] = new_word(function);
+    for register in 0..8u8 {
+        if kept.has(register) {
+            words[usize::from(register % 8)] = new_word(function);
         }
     }
     words
+}
+
+/// Whether a register has a word.
+fn has_words(words: &[Option<u16>; 8]) -> bool {
+    let mut has_words = false;
+    for word in words {
+        has_words |= word.is_some();
+    }
+    has_words
 }
 
 /// Defines what calls have lost behind them.
@@ -214,15 +244,12 @@ fn define_behind_calls(
     memory: &mut Heap,
     function: &mut Function,
     number: usize,
-    found: (&Ranges, &[u32]),
+    found: (&Ranges, &[RegisterSet]),
     changed: &mut Vec<(usize, usize)>,
 ) {
     let lost = lost_in(memory, (&*function, number), found);
     let words = words_for(function, lost.as_slice());
-    let mut has_words = false;
-    for word in &words {
-        has_words |= word.is_some();
-    }
+    let has_words = has_words(&words);
     // those of a block stand from its last call on, so that the others stay in their places
     for found in lost.as_slice() {
         define_behind(memory, function, found, &words);
@@ -241,10 +268,10 @@ fn clear_at_entry(
     ranges: &Ranges,
     changed: &mut Vec<(usize, usize)>,
 ) {
-    let given = ranges.params(number).len().min(6) as u32;
+    let given = ranges.params(number).len().min(6) as u8;
     // a framed function finds its params in %i0 to %i5, a leaf in %o0 to %o5
     let first = if function.framed { 24 } else { 8 };
-    let defined = RESERVED | 0x3f >> (6 - given) << first;
+    let defined = RegisterSet::HELD.union(RegisterSet::range(first, given));
     let live = match ranges.live(number).first() {
         Some(live) => *live,
         None => return,
@@ -252,7 +279,7 @@ fn clear_at_entry(
     // word k of the frame, at 64 + 4 k bytes of it, is location 32 + k
     let end = 32 + function.frame.min(4_096) / 4;
     for location in (1..end as u16).rev() {
-        let is_defined = location < 32 && defined >> location & 1 == 1;
+        let is_defined = location < 32 && defined.has(location as u8);
         if live.has(location) & !is_defined {
             let line = function.line;
             insert_instr(

@@ -1,65 +1,81 @@
-//! What is in Y where a block begins that reads it. The rules know of no Y between blocks, and compilers write it
-//! before a branch at times: then it is written once more where it is read, by the same instruction, if that still finds
-//! what it found.
-use crate::cuts::{Y, insert_instr, use_of};
-use fit_code::{Block, Function, Heap, Program, Step, with_target};
-use fit_graph::effects_of;
-use v8_formats::{Instr, Reg, decode, encode};
+//! Y where a block begins that reads it. The rules know of no Y between blocks, and compilers write it before a branch
+//! at times: then it is written once more where it is read, by the same instruction, if that still finds what it found.
+use crate::cuts::{insert_instr, use_of};
+use fit_code::{
+    Block, Function, Heap, Program, RegisterSet, Step, is_same, reads, with_target, writes,
+};
+use v8_formats::{Instr, Reg};
 
-/// What is known of Y at a place: no way comes there so far; none of what stands there; else the word of an instruction
-/// that would leave in Y what is in it. No instruction that writes Y has these words.
-const UNSEEN: u32 = 0;
+/// What is known of Y at a place.
+#[derive(Clone, Copy)]
+enum KnownUpper {
+    /// No way comes there so far.
+    Unseen,
+    /// The instruction that would leave in Y what is in it.
+    By(Instr),
+    Lost,
+}
 
-const LOST: u32 = 1;
+impl KnownUpper {
+    /// Whether both are the same.
+    fn is(&self, other: &KnownUpper) -> bool {
+        match (self, other) {
+            (KnownUpper::Unseen, KnownUpper::Unseen) | (KnownUpper::Lost, KnownUpper::Lost) => true,
+            (KnownUpper::By(one), KnownUpper::By(other)) => is_same(one, other),
+            _ => false,
+        }
+    }
+
+    /// Whether a way comes there.
+    fn is_seen(&self) -> bool {
+        !matches!(self, KnownUpper::Unseen)
+    }
+}
 
 /// What is known where two ways meet.
-fn common(one: u32, other: u32) -> u32 {
-    if (one == UNSEEN) | (one == other) {
-        other
-    } else if other == UNSEEN {
-        one
+fn common(one: &KnownUpper, other: &KnownUpper) -> KnownUpper {
+    if !one.is_seen() || one.is(other) {
+        *other
+    } else if !other.is_seen() {
+        *one
     } else {
-        LOST
+        KnownUpper::Lost
     }
 }
 
-/// The word of the instruction that leaves in Y what this one does, which writes it, and no result.
-fn again(instr: &Instr) -> u32 {
+/// What is known behind an instruction that writes Y: the same one without its result leaves that in Y.
+fn again(instr: &Instr) -> KnownUpper {
     match instr {
-        Instr::Umul(_) | Instr::Smul(_) => encode(&with_target(instr, Reg::G0)),
-        Instr::WriteY(_) => encode(instr),
-        _ => LOST,
+        Instr::Umul(_) | Instr::Smul(_) => KnownUpper::By(with_target(instr, Reg::G0)),
+        Instr::WriteY(_) => KnownUpper::By(*instr),
+        _ => KnownUpper::Lost,
     }
 }
 
-/// What is known once some registers are written, each of which has a bit.
-fn kept(known: u32, writes: u32) -> u32 {
-    if (known == UNSEEN) | (known == LOST) {
-        return known;
-    }
-    if effects_of(0, &decode(known)).reads & writes == 0 {
-        known
-    } else {
-        LOST
+/// What is known once some registers are written.
+fn kept(known: KnownUpper, written: RegisterSet) -> KnownUpper {
+    match &known {
+        KnownUpper::By(instr) if !reads(instr).is_disjoint(written) => KnownUpper::Lost,
+        _ => known,
     }
 }
 
 /// What is known behind a step.
-fn behind_step(frame: u32, step: &Step, known: u32) -> u32 {
+fn behind_step(frame: u32, step: &Step, known: KnownUpper) -> KnownUpper {
     if step.callee.is_some() {
-        return LOST;
+        return KnownUpper::Lost;
     }
-    let writes = use_of(frame, step).1;
-    let found = if writes & Y == 0 {
+    let written = use_of(frame, step).1;
+    let found = if written.is_disjoint(RegisterSet::Y) {
         known
     } else {
         again(&step.instr)
     };
-    kept(found, (writes & 0xffff_ffff) as u32)
+    kept(found, written.registers())
 }
 
 /// What is known before the step at a place of a block, if this is known where it begins.
-fn before_step(frame: u32, steps: &[Step], place: usize, known: u32) -> u32 {
+fn before_step(frame: u32, steps: &[Step], place: usize, known: KnownUpper) -> KnownUpper {
     let mut found = known;
     for at in 0..place.min(steps.len()) {
         found = behind_step(frame, &steps[at], found);
@@ -68,10 +84,10 @@ fn before_step(frame: u32, steps: &[Step], place: usize, known: u32) -> u32 {
 }
 
 /// What is known at the end of a block, if this is known where it begins.
-fn at_end(frame: u32, block: &Block, known: u32) -> u32 {
+fn at_end(frame: u32, block: &Block, known: KnownUpper) -> KnownUpper {
     let found = before_step(frame, block.steps.as_slice(), block.steps.len(), known);
     match &block.slot {
-        Some(slot) => kept(found, effects_of(frame, slot).writes),
+        Some(slot) => kept(found, writes(slot)),
         None => found,
     }
 }
@@ -81,10 +97,10 @@ fn first_reader(frame: u32, block: &Block) -> Option<usize> {
     let steps = block.steps.as_slice();
     for place in 0..steps.len() {
         let (reads, writes) = use_of(frame, &steps[place]);
-        if reads & Y != 0 {
+        if !reads.is_disjoint(RegisterSet::Y) {
             return Some(place);
         }
-        if writes & Y != 0 {
+        if !writes.is_disjoint(RegisterSet::Y) {
             return None;
         }
     }
@@ -92,43 +108,47 @@ fn first_reader(frame: u32, block: &Block) -> Option<usize> {
 }
 
 /// Hands on along the ways of a block what is known at its end; says whether that is new somewhere.
-fn hand_on(known: &mut [u32], block: &Block, found: u32) -> bool {
+fn hand_on(known: &mut [KnownUpper], block: &Block, found: &KnownUpper) -> bool {
     let mut is_new = false;
     let ways = block.end.ways();
     for way in 0..2 {
         if let Some(to) = ways[way]
             && to < known.len()
         {
-            let both = common(known[to], found);
-            is_new |= both != known[to];
+            let both = common(&known[to], found);
+            is_new |= !both.is(&known[to]);
             known[to] = both;
         }
     }
     is_new
 }
 
+/// Hands on from each block of a function once what is known of it; says whether that is new somewhere.
+fn pass_blocks(known: &mut [KnownUpper], function: &Function) -> bool {
+    let mut is_new = false;
+    for (number, block) in function.blocks.as_slice().iter().enumerate() {
+        if number < known.len() && known[number].is_seen() {
+            let found = at_end(function.frame, block, known[number]);
+            is_new |= hand_on(known, block, &found);
+        }
+    }
+    is_new
+}
+
 /// What is known of Y where each block of a function begins.
-fn known_of(memory: &mut Heap, function: &Function) -> Vec<u32> {
-    let blocks = function.blocks.as_slice();
-    let mut list = memory.repeat(UNSEEN, blocks.len());
-    let known = list.as_mut_slice();
+fn known_of(memory: &mut Heap, function: &Function) -> Vec<KnownUpper> {
+    let count = function.blocks.len();
+    let mut known = memory.repeat(KnownUpper::Unseen, count);
     if let Some(first) = known.first_mut() {
-        *first = LOST;
+        *first = KnownUpper::Lost;
     }
     // what is known of a block changes twice at most
-    for _ in 0..blocks.len().saturating_mul(2) {
-        let mut is_new = false;
-        for number in 0..blocks.len() {
-            if number < known.len() && known[number] != UNSEEN {
-                let found = at_end(function.frame, &blocks[number], known[number]);
-                is_new |= hand_on(known, &blocks[number], found);
-            }
-        }
-        if !is_new {
+    for _ in 0..count.saturating_mul(2) {
+        if !pass_blocks(known.as_mut_slice(), function) {
             break;
         }
     }
-    list
+    known
 }
 
 /// Whether a block of a function reads Y that nothing before in it writes.
@@ -157,9 +177,8 @@ fn write_again(
             let block = &function.blocks[place];
             let found = before_step(frame, block.steps.as_slice(), reader, known[place]);
             let line = block.line;
-            if (found != UNSEEN) & (found != LOST) {
-                let at = (place, reader);
-                insert_instr(memory, &mut function.blocks, at, decode(found), line);
+            if let KnownUpper::By(instr) = found {
+                insert_instr(memory, &mut function.blocks, (place, reader), instr, line);
                 memory.push(changed, (number, place));
             }
         }

@@ -1,4 +1,4 @@
-//! Why there is no program.
+//! Faults: why there is no program.
 use crate::code::{NO_LINE, SourceLine};
 use std::alloc::{AllocError, AllocFailed};
 use want::Want;

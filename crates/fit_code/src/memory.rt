@@ -1,4 +1,5 @@
 //! Want of memory, told once behind several things that are made and may need some.
+use crate::code::End;
 use std::alloc::{AllocError, Global};
 
 /// Where memory comes from, and whether some was refused while something was made. Who makes it asks when that is done,
@@ -26,6 +27,15 @@ impl Heap {
     /// Puts an item behind those of a list.
     pub fn push<T: Drop>(&mut self, list: &mut Vec<T>, item: T) {
         self.is_refused |= list.push(item).is_err();
+    }
+
+    /// Puts the blocks that an end goes to behind those of a list.
+    pub fn push_ways(&mut self, blocks: &mut Vec<usize>, end: End) {
+        for way in end.ways() {
+            if let Some(to) = way {
+                self.push(blocks, to);
+            }
+        }
     }
 
     /// A list of so many times an item.

@@ -27,3 +27,8 @@ pub fn with_target(instr: &Instr, rd: Reg) -> Instr {
     let destination = u32::from(rd.number()) << DESTINATION;
     decode(encode(instr) & !(31 << DESTINATION) | destination)
 }
+
+/// Whether two instructions are the same.
+pub fn is_same(one: &Instr, other: &Instr) -> bool {
+    encode(one) == encode(other)
+}

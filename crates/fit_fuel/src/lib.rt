@@ -1,5 +1,5 @@
 //! Fuel: what each block of a fitted program declares, so that a run is shown to end; and the meter, by which loops
-//! that no counter bounds are.
+//! that no counter bounds are. Nothing rests on it, since the verifier asks all again.
 #![tactic(auto)]
 
 mod bounds;

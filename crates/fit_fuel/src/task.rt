@@ -1,4 +1,4 @@
-//! What is looked at.
+//! The function that is looked at, and what is known of its program.
 use crate::meter::Meter;
 use crate::totals::CallTotal;
 use fit_code::{Function, Program};

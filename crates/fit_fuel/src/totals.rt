@@ -1,5 +1,5 @@
-//! What calls of a function take: turns, stack room and depth, which are sums along the deepest calls.
-use fit_code::{Function, Step};
+//! Sums along the deepest calls of a function: turns, stack room and depth.
+use fit_code::{Block, Function, Step};
 
 /// What a call takes.
 #[derive(Clone, Copy)]
@@ -8,6 +8,18 @@ pub struct CallTotal {
     pub budget: Option<u64>,
     pub room: u64,
     pub depth: u64,
+}
+
+impl CallTotal {
+    /// Takes in what the calls of a block take, beside its function's own frame.
+    fn add_calls(&mut self, block: &Block, known: &[Option<CallTotal>]) {
+        for step in block.steps.as_slice() {
+            if let Some(total) = called_by(step, known) {
+                self.room = self.room.max(total.room);
+                self.depth = self.depth.max(total.depth.saturating_add(1));
+            }
+        }
+    }
 }
 
 /// What a call takes that a step makes, where that is known.
@@ -31,12 +43,7 @@ pub fn total_of(
         depth: u64::from(function.framed),
     };
     for block in function.blocks.as_slice() {
-        for step in block.steps.as_slice() {
-            if let Some(total) = called_by(step, known) {
-                found.room = found.room.max(total.room);
-                found.depth = found.depth.max(total.depth.saturating_add(1));
-            }
-        }
+        found.add_calls(block, known);
     }
     found.room = found.room.saturating_add(u64::from(function.frame));
     found

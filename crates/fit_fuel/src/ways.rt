@@ -1,4 +1,4 @@
-//! What the ways out of blocks cost in fuel, and the least constants that pay for them.
+//! Costs in fuel of the ways out of blocks, and the least constants that pay for them.
 mod fuel;
 mod longest;
 mod sums;

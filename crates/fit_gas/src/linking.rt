@@ -1,4 +1,4 @@
-//! What the names of several files stand for.
+//! Links from the names of several files to what they stand for.
 use crate::source::{Assembly, SymbolPlace};
 use fit_code::{Heap, SourceLine};
 use std::collections::BTreeMap;

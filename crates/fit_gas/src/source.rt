@@ -1,4 +1,4 @@
-//! What is read of assembly, before its names are resolved.
+//! Assembly as it is read, before its names are resolved.
 use crate::text::{first_label, first_word, is_name, place_of, shown};
 use fit_code::{Fault, Heap, NO_LINE, Naming, Reason, SourceLine};
 use memchr::memchr;

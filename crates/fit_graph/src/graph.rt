@@ -1,5 +1,4 @@
-//! What the ends of a function's blocks say: which blocks follow which, which stand on each way to others, and its
-//! loops.
+//! The graph of a function's blocks: which follow which, which stand on each way to others, and its loops.
 mod above;
 mod back;
 mod loops;

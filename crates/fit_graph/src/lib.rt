@@ -1,6 +1,6 @@
-//! What the ends of a function's blocks say: which blocks follow which, which stand on each way to others, and its
-//! loops; which locations are live where the blocks of a program begin; and blocks in the verifier's domain: how their
-//! steps run, and what several ways that lead to one have in common.
+//! Graphs of functions: which blocks follow which, which stand on each way to others, and loops; which locations are
+//! live where the blocks of a program begin; and blocks in the verifier's domain: how their steps run, and what several
+//! ways that lead to one have in common. Nothing rests on it, since the verifier asks all again.
 #![tactic(auto)]
 
 mod cells;

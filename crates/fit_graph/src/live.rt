@@ -1,4 +1,5 @@
-//! Which locations of a program are live where its blocks begin, and how many params and results its functions have.
+//! Liveness over a program: the locations that are live where its blocks begin, and how many params and results its
+//! functions have.
 mod effects;
 mod liveness;
 mod locations;

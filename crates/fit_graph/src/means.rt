@@ -1,4 +1,4 @@
-//! What looking for something takes.
+//! A budget of memory and of rounds, which a search draws on.
 use fit_code::{Fault, Heap, Reason, SourceLine};
 use std::alloc::AllocError;
 

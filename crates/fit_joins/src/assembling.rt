@@ -1,4 +1,4 @@
-//! What stands where once functions are joined: their blocks, what they keep, and the soft stack.
+//! The program once functions are joined: their blocks, what they keep, and the soft stack.
 use crate::joining::Joiner;
 use crate::keeping::{CALLER_RETURN, Keep, RETURN};
 use crate::places::{Part, SoftStack};
@@ -181,16 +181,28 @@ fn add_objects(
     ((object, address), place)
 }
 
-/// Lets calls name functions by other numbers.
-fn renumber(blocks: &mut [Block], numbers: &[usize]) {
-    for block in blocks {
-        for step in block.steps.iter_mut() {
-            if let Some(callee) = step.callee
-                && callee < numbers.len()
-            {
-                step.callee = Some(numbers[callee]);
-            }
+/// Lets calls of a block name functions by other numbers.
+fn renumber_in(block: &mut Block, numbers: &[usize]) {
+    for step in block.steps.iter_mut() {
+        if let Some(callee) = step.callee
+            && callee < numbers.len()
+        {
+            step.callee = Some(numbers[callee]);
         }
+    }
+}
+
+/// The same of all calls of a function.
+fn renumber(function: &mut Function, numbers: &[usize]) {
+    for block in function.blocks.iter_mut() {
+        renumber_in(block, numbers);
+    }
+}
+
+/// The same of all calls of some functions.
+fn renumber_all(functions: &mut [Function], numbers: &[usize]) {
+    for function in functions {
+        renumber(function, numbers);
     }
 }
 
@@ -217,9 +229,7 @@ fn assembled(
             memory.push(&mut all, function);
         }
     }
-    for function in all.iter_mut() {
-        renumber(function.blocks.as_mut_slice(), numbers.as_slice());
-    }
+    renumber_all(all.as_mut_slice(), numbers.as_slice());
     all
 }
 

@@ -1,4 +1,4 @@
-//! Which functions become parts of the first one.
+//! The choice of the functions that become parts of the first one.
 use crate::places::{Part, WayBack};
 use fit_code::{Block, Function, Heap, Program};
 use fit_fuel::bounds_of;
@@ -79,13 +79,25 @@ fn exchange(functions: &mut [Function], parts: &[Part], blocks: &mut [Vec<Block>
 /// Joins those that call a function that is joined, each of which stands behind its callers, but in rounds.
 fn join_callers(parts: &mut [Part], callees: &[Vec<usize>]) {
     for number in (0..parts.len()).rev() {
-        if number < callees.len() {
-            for callee in callees[number].as_slice() {
-                if *callee < parts.len() && parts[*callee].is_joined {
-                    parts[number].is_joined = true;
-                }
-            }
+        if number < callees.len() && has_joined(&*parts, callees[number].as_slice()) {
+            parts[number].is_joined = true;
         }
+    }
+}
+
+/// Whether one of some functions is joined.
+fn has_joined(parts: &[Part], functions: &[usize]) -> bool {
+    let mut is_joined = false;
+    for number in functions {
+        is_joined |= *number < parts.len() && parts[*number].is_joined;
+    }
+    is_joined
+}
+
+/// Joins the functions whose frames lie on the soft stack, and those that keep a way back or go by one.
+fn join_first(parts: &mut [Part]) {
+    for part in parts {
+        part.is_joined = part.is_soft || !matches!(part.way_back, WayBack::Own);
     }
 }
 
@@ -158,9 +170,7 @@ pub fn choose(
     (callees, has_bounds): (&[Vec<usize>], bool),
     state: &mut State,
 ) {
-    for part in parts.iter_mut() {
-        part.is_joined = part.is_soft || !matches!(part.way_back, WayBack::Own);
-    }
+    join_first(parts);
     join_callers(parts, callees);
     // what a function that is joined gives the others isn't known, so that one may lose its bounds then
     for _ in 0..parts.len() {

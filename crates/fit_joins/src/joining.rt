@@ -1,15 +1,14 @@
 //! Joining functions to the first one.
 use crate::assembling::Placed;
-use crate::keeping::{BASE, KEPT, Keep, NUMBER, push_number, push_step};
+use crate::keeping::{BASE, Keep, NUMBER, kept, push_number, push_step};
 use crate::moving::{moves, push_moved, push_way, way_moved};
 use crate::places::{Part, WayBack};
 use crate::returning::{
     StackPlace, push_entry, push_full, push_giving, push_halves, push_open, push_within,
 };
 use crate::splitting::joined_callee;
-use fit_blocks::bit_of;
 use fit_checks::register;
-use fit_code::{Block, End, Function, Heap, SourceLine, Step};
+use fit_code::{Block, End, Function, Heap, RegisterSet, SourceLine, Step};
 use fit_graph::{Effects, FunctionShape, RegisterCounts, effects_in};
 use std::{mem, slice};
 use v8_formats::{Cond, Instr, Operand, Reg, Three};
@@ -20,20 +19,28 @@ const FIRST_WORD: u32 = 64;
 /// The most places that a function returns to.
 const SITES: usize = 4096;
 
-/// The globals, which no call leaves as they were: each has a bit.
-const GLOBALS: u32 = 0x1e;
+/// The globals that programs name, which no call leaves as they were.
+fn globals() -> RegisterSet {
+    RegisterSet::GLOBALS.difference(RegisterSet::SCRATCH)
+}
 
-/// The outs without results, which no call leaves as they were.
-const OUTS: u32 = 0x3c00;
+/// The outs without results, %o2 to %o5, which no call leaves as they were.
+fn outs() -> RegisterSet {
+    RegisterSet::range(10, 4)
+}
 
 const NOT_KEPT: &str = "a value in a register that a call doesn't keep";
 
-/// The registers that a function with a window may ask for though nothing was written to them, each of which has a bit:
-/// globals, outs and locals.
-const UNWRITTEN: u32 = 0x00ff_3f1e;
-
-/// Locals and ins.
-const WINDOW: u32 = 0xffff_0000;
+/// The registers that a function may ask for though nothing was written to them: globals, and in one with a window outs
+/// and locals.
+fn unwritten(framed: bool) -> RegisterSet {
+    if framed {
+        let outs = RegisterSet::range(8, 6);
+        globals().union(outs).union(RegisterSet::LOCALS)
+    } else {
+        globals()
+    }
+}
 
 /// The outs in which what keeps a way back is told where, and in which that is told behind it.
 const KEPT_AT: u8 = 8;
@@ -75,10 +82,10 @@ fn copied(rd: u8, from: u8) -> Instr {
     })
 }
 
-/// Pushes what clears some registers, each of which has a bit.
-fn push_clears(memory: &mut Heap, steps: &mut Vec<Step>, registers: u32, line: SourceLine) {
+/// Pushes what clears some registers.
+fn push_clears(memory: &mut Heap, steps: &mut Vec<Step>, registers: RegisterSet, line: SourceLine) {
     for number in 1..32u8 {
-        if registers >> number & 1 == 1 {
+        if registers.has(number) {
             push_step(memory, steps, copied(number, 0), None, line);
         }
     }
@@ -124,7 +131,13 @@ impl Joiner<'_> {
 
     /// Pushes what stands before a function's first step: what it may ask for though nothing was written to it is
     /// cleared, and the first one sets what points into the soft stack.
-    fn push_first(&mut self, steps: &mut Vec<Step>, number: usize, live: u32, line: SourceLine) {
+    fn push_first(
+        &mut self,
+        steps: &mut Vec<Step>,
+        number: usize,
+        live: RegisterSet,
+        line: SourceLine,
+    ) {
         if number >= self.parts.len() || number >= self.placed.len() {
             return;
         }
@@ -142,11 +155,11 @@ impl Joiner<'_> {
             let rd = place.stack.register.number();
             push_number(&mut self.memory, steps, rd, top, line);
         }
-        let unwritten = if framed { UNWRITTEN } else { UNWRITTEN & 0xff };
-        if !framed & (live & WINDOW != 0) {
+        if !framed & !live.is_disjoint(RegisterSet::WINDOW) {
             self.note(line, "a register of its caller's window");
         }
-        push_clears(&mut self.memory, steps, live & unwritten, line);
+        let cleared = live.intersection(unwritten(framed));
+        push_clears(&mut self.memory, steps, cleared, line);
     }
 
     /// The number of what points into the soft stack, if a CALL loses it; else 0.
@@ -169,10 +182,10 @@ impl Joiner<'_> {
 
     /// Pushes what stands behind a call that stays one, where some registers are live: those are cleared that no call
     /// keeps.
-    fn push_behind(&mut self, steps: &mut Vec<Step>, live: u32, line: SourceLine) {
+    fn push_behind(&mut self, steps: &mut Vec<Step>, live: RegisterSet, line: SourceLine) {
         self.push_pointer(steps, false, line);
-        push_clears(&mut self.memory, steps, live & OUTS, line);
-        if live & GLOBALS != 0 {
+        push_clears(&mut self.memory, steps, live.intersection(outs()), line);
+        if !live.is_disjoint(globals()) {
             self.note(line, NOT_KEPT);
         }
     }
@@ -213,7 +226,7 @@ impl Joiner<'_> {
         &mut self,
         steps: &mut Vec<Step>,
         (caller, callee): (usize, usize),
-        kept: u32,
+        kept: RegisterSet,
         line: SourceLine,
     ) {
         let params = self.counts_of(callee).params;
@@ -300,20 +313,19 @@ impl Joiner<'_> {
         }
     }
 
-    /// The registers that are live where a block begins, each of which has a bit, but for what points into the soft
-    /// stack.
-    fn live_at(&self, shape: &FunctionShape, block: usize) -> u32 {
+    /// The registers that are live where a block begins, but for what points into the soft stack.
+    fn live_at(&self, shape: &FunctionShape, block: usize) -> RegisterSet {
         match shape.live.get(block) {
-            Some(live) => live.registers() & !self.pointer(),
-            None => 0,
+            Some(live) => live.registers().difference(self.pointer()),
+            None => RegisterSet::NONE,
         }
     }
 
-    /// The bit of what points into the soft stack, if there is one.
-    fn pointer(&self) -> u32 {
+    /// What points into the soft stack, if there is one.
+    fn pointer(&self) -> RegisterSet {
         match &self.stack {
-            Some(place) => 1 << place.stack.register.number(),
-            None => 0,
+            Some(place) => RegisterSet::of(place.stack.register),
+            None => RegisterSet::NONE,
         }
     }
 
@@ -323,17 +335,17 @@ impl Joiner<'_> {
         &mut self,
         steps: &mut Vec<Step>,
         (caller, callee, behind): (usize, usize, usize),
-        live: u32,
+        live: RegisterSet,
         line: SourceLine,
     ) -> End {
         let placed = self.placed;
         if caller >= placed.len() || callee >= placed.len() {
             return End::Exit;
         }
-        if live & GLOBALS != 0 {
+        if !live.is_disjoint(globals()) {
             self.note(line, NOT_KEPT);
         }
-        self.push_call(steps, (caller, callee), live & KEPT, line);
+        self.push_call(steps, (caller, callee), live.intersection(kept()), line);
         let site = placed[caller].first.saturating_add(behind);
         if callee < self.sites.len() {
             self.memory.push(&mut self.sites[callee], site);
@@ -346,7 +358,7 @@ impl Joiner<'_> {
         &mut self,
         block: &mut Block,
         (caller, callee): (usize, usize),
-        live: u32,
+        live: RegisterSet,
         line: SourceLine,
     ) {
         if caller >= self.parts.len() {
@@ -356,39 +368,58 @@ impl Joiner<'_> {
         let base = self.parts[caller].base;
         let memory = &mut self.memory;
         let mut front = Vec::new(memory.alloc);
-        keep.push_moves(memory, &mut front, (false, live & KEPT), line);
+        let loaded = live.intersection(kept());
+        keep.push_moves(memory, &mut front, (false, loaded), line);
         if let Some(place) = &self.stack
-            && live & bit_of(base) != 0
+            && live.contains(base)
         {
             push_within(memory, &mut front, place, base, line);
         }
-        push_clears(memory, &mut front, live & OUTS, line);
+        push_clears(memory, &mut front, live.intersection(outs()), line);
         memory.take(front.append(&mut block.steps));
         block.steps = front;
     }
 
-    /// The registers that are live behind each step of a block, each of which has a bit, the last step first.
-    fn live_behind(&mut self, block: &Block, shape: &FunctionShape) -> Vec<u32> {
-        let [first, second] = block.end.ways();
-        let mut live = 0;
-        for way in [first, second] {
-            live |= way.map_or(0, |to| self.live_at(shape, to));
+    /// The registers that are live where control goes from a block's end.
+    fn live_at_ways(&self, end: &End, shape: &FunctionShape) -> RegisterSet {
+        let mut live = RegisterSet::NONE;
+        for way in end.ways() {
+            if let Some(to) = way {
+                live.add(self.live_at(shape, to));
+            }
         }
+        live
+    }
+
+    /// The registers that are live before a step, where these are behind it.
+    fn live_before(&self, step: &Step, behind: RegisterSet) -> RegisterSet {
+        let Effects { reads, writes, .. } = effects_in(0, step);
+        let read = reads.registers().difference(self.pointer());
+        let given = match step.callee {
+            Some(callee) => RegisterSet::range(8, self.counts_of(callee).params.min(6)),
+            None => RegisterSet::NONE,
+        };
+        behind.before(read.union(given), writes)
+    }
+
+    /// The registers that are live behind each step of a block, the last step first.
+    fn live_behind(&mut self, block: &Block, shape: &FunctionShape) -> Vec<RegisterSet> {
+        let mut live = self.live_at_ways(&block.end, shape);
         let mut behind = Vec::new(self.memory.alloc);
         for step in block.steps.as_slice().iter().rev() {
             self.memory.push(&mut behind, live);
-            let Effects { reads, writes, .. } = effects_in(0, step);
-            live = live & !writes | reads & !self.pointer();
-            if let Some(callee) = step.callee {
-                let params = u32::from(self.counts_of(callee).params);
-                live |= (1u32 << params.min(6)).saturating_sub(1) << 8;
-            }
+            live = self.live_before(step, live);
         }
         behind
     }
 
     /// Pushes a step, behind which some registers are live; tells it where it ends its block.
-    fn join_step(&mut self, steps: &mut Vec<Step>, step: &Step, live: u32) -> Option<LastStep> {
+    fn join_step(
+        &mut self,
+        steps: &mut Vec<Step>,
+        step: &Step,
+        live: RegisterSet,
+    ) -> Option<LastStep> {
         if let Some(callee) = joined_callee(self.parts, step) {
             return Some(LastStep::Called(callee, step.line));
         }
@@ -435,7 +466,7 @@ impl Joiner<'_> {
 
     /// Pushes a step that stays as it is: with what is to be kept where it is a call, behind which some registers are
     /// live.
-    fn push_kept(&mut self, steps: &mut Vec<Step>, step: &Step, live: u32) {
+    fn push_kept(&mut self, steps: &mut Vec<Step>, step: &Step, live: RegisterSet) {
         if step.callee.is_none() {
             push_same(&mut self.memory, steps, step);
             return;
@@ -493,7 +524,7 @@ impl Joiner<'_> {
         }
         let mut last = None;
         for step in old.as_slice() {
-            let live = behind.pop().unwrap_or(0);
+            let live = behind.pop().unwrap_or(RegisterSet::NONE);
             last = self.join_step(&mut steps, step, live);
         }
         let end = match (last, end) {

@@ -1,6 +1,6 @@
 //! Words that functions keep over their calls, and steps that move them.
 use fit_checks::{number_in, push_instrs, register};
-use fit_code::{Heap, SourceLine, Step};
+use fit_code::{Heap, RegisterSet, SourceLine, Step};
 use v8_formats::{Instr, Operand, Reg, Three, Upper};
 
 /// The registers that hold an address, and a number, for the instructions behind them.
@@ -15,8 +15,10 @@ pub const RETURN: u32 = 56;
 /// The same of what calls through pointers, which has no frame: beside that of the function that it calls.
 pub const CALLER_RETURN: u32 = 60;
 
-/// The registers that are kept, locals and ins, each of which has a bit.
-pub const KEPT: u32 = 0x3fff_0000;
+/// The registers that are kept: locals, and ins but %fp and %i7.
+pub fn kept() -> RegisterSet {
+    RegisterSet::WINDOW.difference(RegisterSet::HELD)
+}
 
 /// Where a function keeps words: at an address of an object of the data, or from its soft frame on.
 #[derive(Clone, Copy)]
@@ -98,19 +100,19 @@ impl Keep {
         push_step(memory, steps, instr, object, line);
     }
 
-    /// Pushes loads of some registers, each of which has a bit, or stores: where a window would have them.
+    /// Pushes loads of some registers, or stores: where a window would have them.
     pub fn push_moves(
         &self,
         memory: &mut Heap,
         steps: &mut Vec<Step>,
-        (stores, registers): (bool, u32),
+        (stores, registers): (bool, RegisterSet),
         line: SourceLine,
     ) {
-        if registers != 0 {
+        if !registers.is_empty() {
             self.push_base(memory, steps, line);
         }
         for number in 16..30u8 {
-            if registers >> number & 1 == 1 {
+            if registers.has(number) {
                 let offset = u32::from(number).saturating_sub(16) * 4;
                 let moved = (stores, register(number), offset);
                 self.push_move(memory, steps, moved, line);

@@ -1,5 +1,6 @@
 //! Functions that call each other in a round, and those whose loops take from the meter, as parts of the first
 //! function: a call between them is no CALL, but a jump, behind which the return finds its way back by a number.
+//! Nothing rests on it: the verifier judges the image, whoever made it.
 #![tactic(auto)]
 
 mod assembling;

@@ -1,9 +1,7 @@
-//! What is known of the functions that are to be joined, and the stack of those that are called again before they
+//! Functions that are to be joined, as far as they are known, and the stack of those that are called again before they
 //! return.
-use fit_checks::register;
-use fit_code::{End, Function};
-use fit_graph::{Effects, effects_in, effects_of};
-use v8_formats::{Instr, Reg};
+use fit_code::{Function, RegisterSet};
+use v8_formats::Reg;
 
 /// What a function does with the way back to its caller.
 #[derive(Clone, Copy, PartialEq, Eq)]
@@ -49,33 +47,12 @@ pub struct SoftStack {
 /// but those of results, and locals.
 const CANDIDATES: &[u8] = &[2, 3, 4, 26, 27, 28, 29, 16, 17, 18, 19, 20, 21, 22, 23];
 
-/// The registers that a function names, each of which has a bit, but for those that a call loses.
-fn named_in(function: &Function) -> u32 {
-    let mut named = 0;
-    for block in function.blocks.as_slice() {
-        if let End::Return(fields) = block.end {
-            // RESTORE reads what ADD does
-            named |= effects_of(function.frame, &Instr::Add(fields)).reads;
-        }
-        for step in block.steps.as_slice() {
-            let Effects { reads, writes, .. } = effects_in(function.frame, step);
-            named |= reads | if step.callee.is_some() { 0 } else { writes };
-        }
-    }
-    named
-}
-
 /// A register that no function names, and whether CALLs leave it as it is; none where each is named.
 pub fn stack_register(functions: &[Function]) -> Option<(Reg, bool)> {
-    let mut named = 0;
+    let mut named = RegisterSet::NONE;
     for function in functions {
-        named |= named_in(function);
+        named.add(function.named());
     }
-    let mut free = None;
-    for number in CANDIDATES {
-        if named >> (number % 32) & 1 == 0 {
-            free = Some((register(*number), *number >= 16));
-        }
-    }
-    free
+    let free = named.last_free(CANDIDATES)?;
+    Some((free, free.number() >= 16))
 }

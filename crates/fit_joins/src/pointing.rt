@@ -1,15 +1,12 @@
-//! What calls functions through pointers.
+//! The function that calls others through pointers.
 use crate::keeping::{BASE, push_step};
 use fit_blocks::{pointer_register, pointer_word, result_register};
 use fit_checks::{push_block, register};
 use fit_code::{Block, End, Function, Heap, NO_LINE, Step};
-use v8_formats::{Cond, Instr, Operand, Reg, Three, Upper, decode};
+use v8_formats::{Cond, Instr, Operand, Reg, Three, Upper};
 
 /// The exit word of a run that calls through what is no pointer to a function, but for the line.
 const NONE: u32 = 9 << 16;
-
-/// CALL of nothing.
-const CALL: u32 = 0x4000_0000;
 
 /// RESTORE of nothing, by which a function without a window returns.
 const PLAIN: Three = Three {
@@ -45,7 +42,7 @@ fn push_none(memory: &mut Heap, blocks: &mut Vec<Block>) {
 /// Pushes a block that calls a function, by its number in the source, and returns; gives its number.
 fn push_caller(memory: &mut Heap, blocks: &mut Vec<Block>, callee: usize) -> usize {
     let call = Step {
-        instr: decode(CALL),
+        instr: Instr::Call(0),
         line: NO_LINE,
         callee: Some(callee),
         object: None,

@@ -1,4 +1,4 @@
-//! How control comes into a function that is joined, and back from it.
+//! Ways into a function that is joined, and back from it.
 use crate::keeping::{BASE, NUMBER, push_number, push_step};
 use crate::places::SoftStack;
 use fit_checks::{number_in, push_block, register};

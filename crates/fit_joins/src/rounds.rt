@@ -1,5 +1,5 @@
-//! Which functions call which, and which of them may be called again before they return.
-use fit_code::{Function, Heap};
+//! Callees of functions, and the functions that may be called again before they return.
+use fit_code::{Block, Function, Heap};
 use fit_graph::reached_from;
 
 /// For each function those that it calls, by their places among them; `places` has these for the numbers by which the
@@ -17,15 +17,20 @@ pub fn callees_of(memory: &mut Heap, functions: &[Function], places: &[usize]) -
 fn called_in(memory: &mut Heap, function: &Function, places: &[usize]) -> Vec<usize> {
     let mut callees = Vec::new(memory.alloc);
     for block in function.blocks.as_slice() {
-        for step in block.steps.as_slice() {
-            if let Some(callee) = step.callee
-                && callee < places.len()
-            {
-                memory.push(&mut callees, places[callee]);
-            }
-        }
+        push_called(memory, block, places, &mut callees);
     }
     callees
+}
+
+/// Puts the functions that a block calls behind those of a list.
+fn push_called(memory: &mut Heap, block: &Block, places: &[usize], callees: &mut Vec<usize>) {
+    for step in block.steps.as_slice() {
+        if let Some(callee) = step.callee
+            && callee < places.len()
+        {
+            memory.push(callees, places[callee]);
+        }
+    }
 }
 
 /// For each function whether it may be called again before it returns: whether one comes back to it along its calls.

@@ -2,8 +2,8 @@
 use crate::moving::moves;
 use crate::places::Part;
 use fit_blocks::Stops;
-use fit_checks::{CODES, Y, use_of};
-use fit_code::{Block, End, Function, Step};
+use fit_checks::use_of;
+use fit_code::{Block, End, Function, RegisterSet, Step};
 use std::mem;
 use v8_formats::Reg;
 
@@ -17,27 +17,27 @@ pub fn joined_callee(parts: &[Part], step: &Step) -> Option<usize> {
 
 /// The place behind the first step of a block that is to be its last one, and what is lost by that of codes and Y: a
 /// call of a function that is joined, and what moves the soft stack's pointer.
-fn place_behind(parts: &[Part], steps: &[Step], pointer: Reg) -> Option<(usize, u64)> {
+fn place_behind(parts: &[Part], steps: &[Step], pointer: Reg) -> Option<(usize, RegisterSet)> {
     for (place, step) in steps.iter().enumerate() {
         if joined_callee(parts, step).is_some() {
-            return Some((place.saturating_add(1), CODES | Y));
+            return Some((place.saturating_add(1), RegisterSet::CODES_AND_Y));
         } else if moves(step, pointer) {
-            return Some((place.saturating_add(1), CODES));
+            return Some((place.saturating_add(1), RegisterSet::CODES));
         }
     }
     None
 }
 
 /// Whether steps, or the end behind them, ask for codes, or Y, that were lost before.
-fn asks_back(steps: &[Step], end: &End, lost: u64) -> bool {
+fn asks_back(steps: &[Step], end: &End, lost: RegisterSet) -> bool {
     let mut open = lost;
     let mut is_asked = false;
     for step in steps {
         let (reads, writes) = use_of(0, step);
-        is_asked |= reads & open != 0;
-        open &= !writes;
+        is_asked |= !reads.is_disjoint(open);
+        open.take(writes);
     }
-    is_asked | (matches!(end, End::Branch { .. }) & (open & CODES != 0))
+    is_asked | (matches!(end, End::Branch { .. }) & !open.is_disjoint(RegisterSet::CODES))
 }
 
 /// Lets each call of a function that is joined, and each move of the soft stack's pointer, be the last step of its

@@ -1,4 +1,4 @@
-//! What is put into a source.
+//! An annotation that is put into a source.
 use sbx_image::Range;
 
 /// What an annotation says.

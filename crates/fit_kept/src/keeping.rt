@@ -1,4 +1,4 @@
-//! Whether a source with annotations is the source that was given.
+//! The test that a source with annotations is the source that was given.
 ghost use Rattle.std.specs.Prelude.{IsTrue, IfOk, IfSome};
 ghost use Rattle.sbx_asm.specs.Items.{lines_of};
 ghost use Rattle.fit_kept.specs.Lines.{IsAnnotated, Takes};

@@ -1,4 +1,4 @@
-//! What lines are by the readers of the assembler.
+//! Lines as the readers of the assembler take them.
 ghost use Rattle.std.specs.Prelude.{◌≡◌, ◌++◌, ◌∷◌, [], false, true, IsTrue, IfSome};
 ghost use Rattle.fit_kept.specs.Lines.{annotates, declares_function, is_annotation, bare, Fills};
 

@@ -1,4 +1,4 @@
-//! Which functions that compilers wrote call which.
+//! Calls among the functions that compilers wrote.
 use fit_blocks::{Obstacle, Stops};
 use fit_code::{NO_LINE, Naming, SourceLine};
 use fit_gas::{AddressPart, Assembly, CodeItem, Linked, SymbolPlace, owned};

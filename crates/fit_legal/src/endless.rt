@@ -37,11 +37,7 @@ fn returns(memory: &mut Heap, function: &Function, returning: &[bool]) -> bool {
                 if matches!(blocks[place].end, End::Return(_)) {
                     return true;
                 }
-                for way in blocks[place].end.ways() {
-                    if let Some(to) = way {
-                        memory.push(&mut open, to);
-                    }
-                }
+                memory.push_ways(&mut open, blocks[place].end);
             }
         }
     }
@@ -51,24 +47,25 @@ fn returns(memory: &mut Heap, function: &Function, returning: &[bool]) -> bool {
 /// Whether the functions of a program come back: some are found to by the others that do, until no more are.
 fn returning_of(memory: &mut Heap, functions: &[Function]) -> Vec<bool> {
     let mut returning = memory.repeat(false, functions.len());
-    let known = returning.as_mut_slice();
     for _ in 0..functions.len() {
-        let mut is_new = false;
-        // callees mostly stand behind their callers
-        for number in (0..functions.len()).rev() {
-            if number < known.len()
-                && !known[number]
-                && returns(memory, &functions[number], &*known)
-            {
-                known[number] = true;
-                is_new = true;
-            }
-        }
-        if !is_new {
+        if !find_returning(memory, functions, returning.as_mut_slice()) {
             break;
         }
     }
     returning
+}
+
+/// Looks once for functions that come back, where these are known to; says whether there is one more.
+fn find_returning(memory: &mut Heap, functions: &[Function], known: &mut [bool]) -> bool {
+    let mut is_new = false;
+    // callees mostly stand behind their callers
+    for number in (0..functions.len()).rev() {
+        if number < known.len() && !known[number] && returns(memory, &functions[number], &*known) {
+            known[number] = true;
+            is_new = true;
+        }
+    }
+    is_new
 }
 
 /// Ends the blocks of functions behind calls that don't come back.
@@ -76,12 +73,17 @@ pub fn end_behind_calls(stops: &mut Stops, functions: &mut [Function]) {
     let memory = &mut stops.memory;
     let returning = returning_of(memory, &*functions);
     for function in functions {
-        for block in function.blocks.iter_mut() {
-            if let Some(place) = last_call(block, returning.as_slice()) {
-                block.steps.truncate(place.saturating_add(1));
-                memory.push(&mut block.steps, no_result(block.line));
-                block.end = End::Exit;
-            }
+        end_in(memory, function, returning.as_slice());
+    }
+}
+
+/// The same of a function, where these callees come back.
+fn end_in(memory: &mut Heap, function: &mut Function, returning: &[bool]) {
+    for block in function.blocks.iter_mut() {
+        if let Some(place) = last_call(block, returning) {
+            block.steps.truncate(place.saturating_add(1));
+            memory.push(&mut block.steps, no_result(block.line));
+            block.end = End::Exit;
         }
     }
 }

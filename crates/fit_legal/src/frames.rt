@@ -1,19 +1,18 @@
 //! Frames. Words that are only spilled stay in the frame; where an address in it is taken, or other sizes are, the
 //! frame's memory goes to the data. That of a function that may be called again before it returns goes to the soft
 //! stack.
-use crate::arguments::{
-    BYTES, Callees, ReachedPlace, argument_of, in_object, scratch, with_operands,
-};
+use crate::arguments::{BYTES, Callees, ReachedPlace, argument_of, in_object, scratch};
 use crate::moving::{
     UNKNOWN_FORM, arguments_end, free_local, hold_base, is_by_frame, is_moving, push_by_pointer,
     push_moving,
 };
 use crate::places::{
-    FRAME, SAVE_AREA, STACK, STACK_POINTER, address_made, by_scratch, place_accessed, word_place,
-    word_step,
+    FRAME, SAVE_AREA, address_made, by_scratch, place_accessed, word_place, word_step,
 };
-use fit_blocks::{Layout, Stops, operands_read, registers_of, signed};
-use fit_code::{Block, End, Function, Heap, Step};
+use fit_blocks::{Layout, Stops, signed};
+use fit_code::{
+    Block, End, Function, Heap, RegisterSet, Step, operands_read, reads, with_operands, writes,
+};
 use fit_gas::{owned, word_of};
 use v8_formats::{Instr, Operand, Three, Upper};
 use v8_word::Reg;
@@ -76,7 +75,7 @@ fn spilled(step: &Step, size: u32) -> (Step, Option<Step>) {
 
 /// Whether a step reads %sp or %fp.
 fn uses_frame(step: &Step) -> bool {
-    step.callee.is_none() & (registers_of(&step.instr).reads & STACK != 0)
+    step.callee.is_none() && !reads(&step.instr).is_disjoint(RegisterSet::STACK)
 }
 
 /// What a step does with a frame of some size that has an object in its place, as `argument_of` tells it; and the step
@@ -168,7 +167,7 @@ pub fn push_address(
 
 /// Whether a step takes room from %sp, in a function that has no window.
 fn takes_room(framed: bool, step: &Step) -> bool {
-    !framed & (registers_of(&step.instr).writes & STACK_POINTER != 0)
+    !framed && writes(&step.instr).contains(Reg::SP)
 }
 
 /// Whether a function uses its frame of some size; and whether for more than to spill words. It is a fault where a step
@@ -178,22 +177,41 @@ fn use_of(stops: &mut Stops, function: &Function, size: u32) -> (bool, bool) {
     let mut is_more = false;
     let mut returns = false;
     for block in function.blocks.as_slice() {
-        for step in block.steps.as_slice() {
-            if takes_room(function.framed, step) {
-                continue;
-            } else if registers_of(&step.instr).writes & STACK != 0 {
-                stops.form(step.line, UNKNOWN_SIZE);
-            } else if uses_frame(step) {
-                is_used = true;
-                is_more |= word_place(&step.instr, size).is_none();
-            }
-        }
-        if let End::Return(fields) = block.end {
-            returns |= operands_read(&fields) & STACK != 0;
-        }
+        let (uses, does_more) = use_of_block(stops, function.framed, block, size);
+        is_used |= uses;
+        is_more |= does_more;
+        returns |= returns_frame(block);
     }
     if returns {
         stops.form(function.line, "a return with an address in its frame");
+    }
+    (is_used, is_more)
+}
+
+/// Whether a block returns an address in its function's frame.
+fn returns_frame(block: &Block) -> bool {
+    match block.end {
+        End::Return(fields) => {
+            !operands_read(fields.rs1, fields.operand2).is_disjoint(RegisterSet::STACK)
+        }
+        _ => false,
+    }
+}
+
+/// Whether a block uses a frame of some size, and whether for more than to spill words. It is a fault where a step
+/// changes %sp or %fp, but to take room.
+fn use_of_block(stops: &mut Stops, framed: bool, block: &Block, size: u32) -> (bool, bool) {
+    let mut is_used = false;
+    let mut is_more = false;
+    for step in block.steps.as_slice() {
+        if takes_room(framed, step) {
+            continue;
+        } else if !writes(&step.instr).is_disjoint(RegisterSet::STACK) {
+            stops.form(step.line, UNKNOWN_SIZE);
+        } else if uses_frame(step) {
+            is_used = true;
+            is_more |= word_place(&step.instr, size).is_none();
+        }
     }
     (is_used, is_more)
 }
@@ -323,16 +341,8 @@ pub struct PlacedFrame {
 
 /// Puts the steps of a function otherwise.
 fn place_steps(layout: &mut Layout, function: &mut Function, way: FrameWay, soft: &SoftFrames) {
-    let framed = function.framed;
     for number in 0..function.blocks.len() {
-        let mut steps = Vec::new(layout.stops.memory.alloc);
-        let blocks = function.blocks.as_slice();
-        if number < blocks.len() {
-            for (place, step) in blocks[number].steps.as_slice().iter().enumerate() {
-                let at = (number, place);
-                push_placed(layout, &mut steps, blocks, (framed, &way), at, step, soft);
-            }
-        }
+        let steps = placed_steps(layout, &*function, number, &way, soft);
         let blocks = function.blocks.as_mut_slice();
         if number < blocks.len() {
             blocks[number].steps = steps;
@@ -340,22 +350,52 @@ fn place_steps(layout: &mut Layout, function: &mut Function, way: FrameWay, soft
     }
 }
 
+/// What stands for the steps of a function's block, by its number.
+fn placed_steps(
+    layout: &mut Layout,
+    function: &Function,
+    number: usize,
+    way: &FrameWay,
+    soft: &SoftFrames,
+) -> Vec<Step> {
+    let framed = function.framed;
+    let mut steps = Vec::new(layout.stops.memory.alloc);
+    let blocks = function.blocks.as_slice();
+    if number < blocks.len() {
+        for (place, step) in blocks[number].steps.as_slice().iter().enumerate() {
+            let at = (number, place);
+            push_placed(layout, &mut steps, blocks, (framed, way), at, step, soft);
+        }
+    }
+    steps
+}
+
+/// The most bytes that the steps of a block take from %sp, in a function without a window; below 0 where none takes
+/// any. It is a fault where that isn't known.
+fn room_of_block(stops: &mut Stops, block: &Block) -> i64 {
+    let mut most: i64 = -1;
+    for step in block.steps.as_slice() {
+        if takes_room(false, step) {
+            if let Instr::Add(fields) | Instr::Sub(fields) = step.instr
+                && fields.rs1 == Reg::SP
+                && let Operand::Immediate(number) = fields.operand2
+            {
+                most = most.max(signed(number).saturating_abs());
+            } else {
+                stops.form(step.line, UNKNOWN_SIZE);
+            }
+        }
+    }
+    most
+}
+
 /// How many bytes the steps of a function without a window take from %sp, where there are such steps. It is a fault
 /// where that isn't known.
 fn room_of(stops: &mut Stops, function: &Function) -> Option<u32> {
     let mut most: i64 = -1;
-    for block in function.blocks.as_slice() {
-        for step in block.steps.as_slice() {
-            if takes_room(function.framed, step) {
-                if let Instr::Add(fields) | Instr::Sub(fields) = step.instr
-                    && fields.rs1 == Reg::SP
-                    && let Operand::Immediate(number) = fields.operand2
-                {
-                    most = most.max(signed(number).saturating_abs());
-                } else {
-                    stops.form(step.line, UNKNOWN_SIZE);
-                }
-            }
+    if !function.framed {
+        for block in function.blocks.as_slice() {
+            most = most.max(room_of_block(stops, block));
         }
     }
     if most < 0 {
@@ -485,6 +525,7 @@ pub fn empty_frame(layout: &mut Layout, function: &mut Function) {
             callees: Callees {
                 are_soft: &[],
                 bytes: &[],
+                reached: &[],
             },
         };
         place_steps(layout, function, way, &none);

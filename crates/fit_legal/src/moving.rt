@@ -1,60 +1,66 @@
 //! Functions that move the stack pointer on: for arrays whose size isn't constant, whose room lies on the soft stack.
 //! And those that keep their way back, or go by one that was kept: `setjmp` and `longjmp`.
 use crate::frames::{push_address, push_softened};
-use crate::places::{STACK, STACK_POINTER};
-use fit_blocks::{access_of, bit_of, operands_read, registers_of, signed, step_of};
-use fit_code::{Block, End, Function, Heap, SourceLine, Step};
+use fit_blocks::{access_of, signed, step_of};
+use fit_code::{Block, End, Function, Heap, RegisterSet, SourceLine, Step, is_same, reads, writes};
 use fit_joins::WayBack;
 use std::slice;
-use v8_formats::{Instr, Operand, Three, encode};
+use v8_formats::{Instr, Operand, Three};
 use v8_word::{Reg, reg_at};
 
 pub const UNKNOWN_FORM: &str = "the address of its frame in a form that isn't known";
 
 /// The registers that may hold where a frame lies: locals, and ins but those of results.
-const CANDIDATES: &[u32] = &[26, 27, 28, 29, 16, 17, 18, 19, 20, 21, 22, 23];
+const CANDIDATES: &[u8] = &[26, 27, 28, 29, 16, 17, 18, 19, 20, 21, 22, 23];
 
 /// Where arguments in memory end at most, behind %sp.
 const ARGUMENTS: i64 = 64 + 512;
 
 /// Whether a step, which is no call, writes %sp.
 fn moves(step: &Step) -> bool {
-    step.callee.is_none() & (registers_of(&step.instr).writes & STACK_POINTER != 0)
+    step.callee.is_none() && writes(&step.instr).contains(Reg::SP)
 }
 
 /// Whether a function writes %sp.
 pub fn moves_stack(function: &Function) -> bool {
+    let mut found = false;
     for block in function.blocks.as_slice() {
-        for step in block.steps.as_slice() {
-            if moves(step) {
-                return true;
-            }
-        }
+        found |= block.steps.as_slice().iter().any(moves);
     }
-    false
+    found
 }
 
 /// Whether a step is a move of one register to another one.
 fn is_copy(step: &Step, from: Reg, to: Reg) -> bool {
-    step.callee.is_none() & (encode(&step.instr) == encode(&copy_of(from, to)))
+    step.callee.is_none() && is_same(&step.instr, &copy_of(from, to))
 }
 
 /// What a function without a window does with the way back to its caller, by its name and by a move of %o7 as in the
 /// library's source.
 pub fn way_back_of(function: &Function, name: &str) -> WayBack {
-    let (kept, replaced) = (reg_at(10, 0), reg_at(10, 0));
-    let mut way_back = WayBack::Own;
-    for block in function.blocks.as_slice() {
-        for step in block.steps.as_slice() {
-            if !function.framed & (name == "setjmp") & is_copy(step, Reg::O7, kept) {
-                way_back = WayBack::Kept;
-            }
-            if !function.framed & (name == "longjmp") & is_copy(step, replaced, Reg::O7) {
-                way_back = WayBack::Replaced;
-            }
-        }
+    let other = reg_at(10, 0);
+    if function.framed {
+        WayBack::Own
+    } else if name == "setjmp" && copies(function, Reg::O7, other) {
+        WayBack::Kept
+    } else if name == "longjmp" && copies(function, other, Reg::O7) {
+        WayBack::Replaced
+    } else {
+        WayBack::Own
     }
-    way_back
+}
+
+/// Whether a step of a function is a move of one register to another one.
+fn copies(function: &Function, from: Reg, to: Reg) -> bool {
+    let mut copies = false;
+    for block in function.blocks.as_slice() {
+        copies |= block
+            .steps
+            .as_slice()
+            .iter()
+            .any(|step| is_copy(step, from, to));
+    }
+    copies
 }
 
 /// Lets a function that goes back by a way that was kept end there: nothing comes back from it to its callers.
@@ -72,38 +78,19 @@ pub fn end_by_kept(function: &mut Function, way_back: &WayBack) {
 /// Whether the stack pointer is more in a function than where its frame begins: in one with a window where it is
 /// written, in one without where it is moved to another register or from one.
 pub fn is_moving(function: &Function) -> bool {
+    let other = reg_at(11, 0);
     if function.framed {
-        return moves_stack(function);
+        moves_stack(function)
+    } else {
+        copies(function, Reg::SP, other) || copies(function, other, Reg::SP)
     }
-    let mut is_moving = false;
-    for block in function.blocks.as_slice() {
-        for step in block.steps.as_slice() {
-            is_moving |= is_copy(step, Reg::SP, reg_at(11, 0));
-            is_moving |= is_copy(step, reg_at(11, 0), Reg::SP);
-        }
-    }
-    is_moving
 }
 
 /// A register that a function doesn't name, nor is `other`; %g0 where it names all.
 pub fn free_local(function: &Function, other: Reg) -> Reg {
-    let mut named = bit_of(other);
-    for block in function.blocks.as_slice() {
-        if let End::Return(fields) = block.end {
-            named |= operands_read(&fields) | bit_of(fields.rd);
-        }
-        for step in block.steps.as_slice() {
-            let effects = registers_of(&step.instr);
-            named |= effects.reads | effects.writes;
-        }
-    }
-    let mut free = Reg::G0;
-    for number in CANDIDATES {
-        if named >> (number % 32) & 1 == 0 {
-            free = reg_at(*number, 0);
-        }
-    }
-    free
+    let mut named = function.named();
+    named.insert(other);
+    named.last_free(CANDIDATES).unwrap_or(Reg::G0)
 }
 
 /// Where the arguments in memory end that a function leaves for others, behind %sp: arrays of a size that isn't
@@ -111,13 +98,20 @@ pub fn free_local(function: &Function, other: Reg) -> Reg {
 pub fn arguments_end(function: &Function) -> i64 {
     let mut least = ARGUMENTS;
     for block in function.blocks.as_slice() {
-        for step in block.steps.as_slice() {
-            if let Instr::Add(fields) = step.instr
-                && (fields.rs1 == Reg::SP) & (fields.rd != Reg::SP)
-                && let Operand::Immediate(number) = fields.operand2
-            {
-                least = least.min(signed(number));
-            }
+        least = least.min(arguments_end_in(block));
+    }
+    least
+}
+
+/// The same of a block.
+fn arguments_end_in(block: &Block) -> i64 {
+    let mut least = ARGUMENTS;
+    for step in block.steps.as_slice() {
+        if let Instr::Add(fields) = step.instr
+            && (fields.rs1 == Reg::SP) & (fields.rd != Reg::SP)
+            && let Operand::Immediate(number) = fields.operand2
+        {
+            least = least.min(signed(number));
         }
     }
     least
@@ -164,10 +158,10 @@ pub fn push_moving(
         memory.push(steps, *step);
         return true;
     }
-    let reads = registers_of(&step.instr).reads & STACK;
+    let read = reads(&step.instr).intersection(RegisterSet::STACK);
     if !moves(step) {
         let register = if is_by_frame(step) { base } else { pointer };
-        return (reads != STACK) & push_softened(memory, steps, step, register, size);
+        return (read != RegisterSet::STACK) & push_softened(memory, steps, step, register, size);
     }
     match step.instr {
         Instr::Load(fields) if is_by_frame(step) => {
@@ -182,7 +176,7 @@ pub fn push_moving(
 
 /// Whether a step, which is no call, reads %fp.
 pub fn is_by_frame(step: &Step) -> bool {
-    step.callee.is_none() & (registers_of(&step.instr).reads & bit_of(Reg::FP) != 0)
+    step.callee.is_none() && reads(&step.instr).contains(Reg::FP)
 }
 
 /// Pushes a sum, a difference, a move or a load by which the stack pointer gets another word, with what points into the
@@ -288,17 +282,26 @@ fn aligned_to(step: &Step) -> u32 {
 /// multiple of, in steps that are taken out, since its frame lies so from the start.
 pub fn take_alignment(memory: &mut Heap, function: &mut Function) -> u32 {
     let mut align = 8;
-    for block in function.blocks.iter_mut() {
-        let mut steps = Vec::new(memory.alloc);
-        for step in block.steps.as_slice() {
-            let taken = aligned_to(step);
-            if function.framed & (taken != 0) & (taken <= 4_096) {
-                align = taken.max(align);
-            } else {
-                memory.push(&mut steps, *step);
-            }
+    if function.framed {
+        for block in function.blocks.iter_mut() {
+            align = take_alignment_in(memory, block).max(align);
         }
-        block.steps = steps;
     }
+    align
+}
+
+/// The same of a block.
+fn take_alignment_in(memory: &mut Heap, block: &mut Block) -> u32 {
+    let mut align = 8;
+    let mut steps = Vec::new(memory.alloc);
+    for step in block.steps.as_slice() {
+        let taken = aligned_to(step);
+        if (taken != 0) & (taken <= 4_096) {
+            align = taken.max(align);
+        } else {
+            memory.push(&mut steps, *step);
+        }
+    }
+    block.steps = steps;
     align
 }

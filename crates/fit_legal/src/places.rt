@@ -1,9 +1,9 @@
 //! Places in the frames of functions that compilers wrote.
-use crate::arguments::{scratch, with_operands};
-use fit_blocks::{MemoryAccess, access_of, bit_of, signed};
-use fit_code::Step;
+use crate::arguments::scratch;
+use fit_blocks::{MemoryAccess, access_of, signed};
+use fit_code::{RegisterSet, Step, fields_of, with_operands};
 use fit_gas::word_of;
-use v8_formats::{Instr, Operand, Three, encode, three_of};
+use v8_formats::{Instr, Operand, Three};
 use v8_word::Reg;
 
 /// The least frame, a save area.
@@ -11,11 +11,6 @@ pub const SAVE_AREA: u32 = 64;
 
 /// The greatest frame that is left in the stack.
 pub const FRAME: u32 = 4_096;
-
-/// The bits of %sp, and of %sp and %fp, a bit a register.
-pub const STACK_POINTER: u32 = 1 << 14;
-
-pub const STACK: u32 = STACK_POINTER | 1 << 30;
 
 /// The offset of a register from %sp as it is in the function's body.
 fn base_of(register: Reg, size: u32) -> Option<i64> {
@@ -47,7 +42,7 @@ pub fn word_place(instr: &Instr, size: u32) -> Option<(MemoryAccess, i64)> {
     let end = place.saturating_add(i64::from(bytes));
     let moves_words = (bytes >= 4) & !matches!(instr, Instr::Swap(_));
     let lies_within = (i64::from(SAVE_AREA) <= place) & (end <= i64::from(size.min(FRAME)));
-    let is_held = bit_of(fields.rd) & STACK != 0;
+    let is_held = RegisterSet::STACK.contains(fields.rd);
     if moves_words & lies_within & !is_held & (place.rem_euclid(4) == 0) {
         Some((access, place))
     } else {
@@ -100,7 +95,7 @@ pub fn address_made(instr: &Instr, size: u32) -> Option<(i64, Reg)> {
 /// A step with the scratch register in the place of %sp or %fp, where one alone of its operands is that; and the offset
 /// from %sp that the scratch register has to hold.
 pub fn by_scratch(step: &Step, object: usize, size: u32) -> Option<(i64, Step)> {
-    let Three { rs1, operand2, .. } = three_of(encode(&step.instr));
+    let Three { rs1, operand2, .. } = fields_of(&step.instr);
     let second = match operand2 {
         Operand::Register(register) => base_of(register, size),
         Operand::Immediate(_) => None,

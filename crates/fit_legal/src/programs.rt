@@ -7,12 +7,12 @@ use crate::frames::{SoftFrames, empty_frame, place_frame};
 use crate::moving::{end_by_kept, moves_stack, take_alignment, way_back_of};
 use crate::ways::free_way_back;
 use fit_blocks::{
-    Layout, Obstacle, Stops, bit_of, function_of, give_one_entry, layout_of, name_of,
-    operands_read, push_plain, repeat_compares, result_register, step_of,
+    Layout, Obstacle, Stops, function_of, give_one_entry, layout_of, name_of, push_plain,
+    repeat_compares, result_register, step_of,
 };
-use fit_code::{End, Fault, Function, NO_LINE, Program};
+use fit_code::{Block, End, Fault, Function, Heap, NO_LINE, Program, RegisterSet, Step, named_by};
 use fit_gas::Assembly;
-use fit_graph::{Effects, effects_of};
+use fit_graph::{Effects, effects_of, reached_from};
 use fit_joins::{
     Part, SoftStack, WayBack, callees_of, caller_of, choose, in_rounds, join, stack_register,
 };
@@ -24,55 +24,95 @@ use v8_word::{Reg, reg_at};
 /// How many functions an image has at most.
 const FUNCTIONS: usize = 256;
 
-/// The registers that hold frames and the ways back, a bit a register: %sp, %o7, %fp and %i7.
-const HELD: u32 = 1 << 14 | 1 << 15 | 1 << 30 | 1 << 31;
+/// What is told of a step, or an end, that names a register which a function may not name.
+const HOLDS: &str = "a register that holds a frame or the way back";
 
-/// The locals and ins, which a function without SAVE has none of.
-const OF_WINDOW: u32 = 0xffff_0000;
+/// The registers that a function may not name: those that hold frames and ways back and, in one without SAVE, those of
+/// a window.
+#[derive(Clone, Copy)]
+struct Forbidden {
+    held: RegisterSet,
+    of_window: RegisterSet,
+}
+
+/// It is a fault where a step in a frame of so many bytes names a register that its function may not name.
+fn check_named(stops: &mut Stops, frame: u32, step: &Step, forbidden: Forbidden) {
+    if step.callee.is_some() {
+        return;
+    }
+    let Effects { reads, writes, .. } = effects_of(frame, &step.instr);
+    let named = reads.union(writes);
+    if !named.is_disjoint(forbidden.held) {
+        stops.form(step.line, HOLDS);
+    } else if !named.is_disjoint(forbidden.of_window) {
+        stops.form(step.line, "a local or an in register without a SAVE before");
+    }
+}
+
+/// What stands behind the last step of a block where the first function, which the run begins at, would return, if that
+/// is framed: %o0 gets its result there.
+fn last_result(block: &Block, is_framed_first: bool) -> Option<Instr> {
+    match &block.end {
+        End::Return(fields) if is_framed_first => Some(result_of(fields)),
+        _ => None,
+    }
+}
+
+/// Puts plainer forms into a block, and an instruction behind them, if there is one. Its calls get the numbers of the
+/// program's functions, of which `order` has those in the source.
+fn put_block_plainly(
+    stops: &mut Stops,
+    block: &mut Block,
+    order: &[usize],
+    (frame, forbidden): (u32, Forbidden),
+    last: &Option<Instr>,
+) {
+    let mut steps = Vec::new(stops.memory.alloc);
+    for step in block.steps.as_slice() {
+        check_named(stops, frame, step, forbidden);
+        push_plain(&mut stops.memory, &mut steps, step, order);
+    }
+    if let Some(instr) = last {
+        stops.memory.push(&mut steps, step_of(*instr, block.line));
+    }
+    block.steps = steps;
+}
+
+/// Lets a run end where a block of the first function would return.
+fn end_run(block: &mut Block) {
+    if matches!(block.end, End::Return(_)) {
+        block.end = End::Exit;
+    }
+}
 
 /// Puts plainer forms into a function, and gives its calls the numbers of the program's functions, of which `order` has
 /// those in the source. It is a fault where a step names a register that holds a frame or a way back, but to spill
 /// words, or the end of a block does; and where a function without SAVE names a register of a window, but what points
-/// into the soft stack. A run ends where the first function, which it begins at, would return: in a framed one %o0 gets
-/// its result before that.
+/// into the soft stack. A run ends where the first function, which it begins at, would return.
 fn put_plainly(
     stops: &mut Stops,
     function: &mut Function,
     order: &[usize],
-    (is_first, pointer, held): (bool, Reg, u32),
+    (is_first, pointer, held): (bool, Reg, RegisterSet),
 ) {
-    let what = "a register that holds a frame or the way back";
     let (framed, frame) = (function.framed, function.frame);
-    let of_window = OF_WINDOW & !bit_of(pointer);
+    let of_window = if framed {
+        RegisterSet::NONE
+    } else {
+        RegisterSet::WINDOW.difference(RegisterSet::of(pointer))
+    };
+    let forbidden = Forbidden { held, of_window };
     for block in function.blocks.iter_mut() {
-        let mut steps = Vec::new(stops.memory.alloc);
-        for step in block.steps.as_slice() {
-            let Effects { reads, writes, .. } = effects_of(frame, &step.instr);
-            let named = if step.callee.is_none() {
-                reads | writes
-            } else {
-                0
-            };
-            if named & held != 0 {
-                stops.form(step.line, what);
-            } else if !framed & (named & of_window != 0) {
-                stops.form(step.line, "a local or an in register without a SAVE before");
-            }
-            push_plain(&mut stops.memory, &mut steps, step, order);
+        let last = last_result(block, is_first & framed);
+        put_block_plainly(stops, block, order, (frame, forbidden), &last);
+        if let End::Return(fields) = block.end
+            && !named_by(&fields).is_disjoint(RegisterSet::HELD)
+        {
+            stops.form(block.line, HOLDS);
         }
-        if let End::Return(fields) = block.end {
-            if (operands_read(&fields) | bit_of(fields.rd)) & HELD != 0 {
-                stops.form(block.line, what);
-            }
-            if is_first {
-                block.end = End::Exit;
-                if framed {
-                    let result = step_of(result_of(&fields), block.line);
-                    stops.memory.push(&mut steps, result);
-                }
-            }
+        if is_first {
+            end_run(block);
         }
-        block.steps = steps;
     }
 }
 
@@ -154,6 +194,55 @@ fn bytes_of(layout: &mut Layout, functions: &[Function], order: &[usize]) -> Vec
     list
 }
 
+/// For each function of the source, and what calls through pointers, those that a call of it may come to; `callees` has
+/// those that each calls, by their places in the program.
+fn reached_of(layout: &mut Layout, callees: &[Vec<usize>], order: &[usize]) -> Vec<Vec<usize>> {
+    let memory = &mut layout.stops.memory;
+    let mut lists = Vec::new(memory.alloc);
+    for number in 0..layout.source.codes.len().saturating_add(1) {
+        let mut reached = Vec::new(memory.alloc);
+        if let Some(place) = place_of(order, number) {
+            push_reached(memory, callees, (place, order), &mut reached);
+        }
+        memory.push(&mut lists, reached);
+    }
+    lists
+}
+
+/// The place of a function in the program, by its number in the source.
+fn place_of(order: &[usize], number: usize) -> Option<usize> {
+    for (place, other) in order.iter().enumerate() {
+        if *other == number {
+            return Some(place);
+        }
+    }
+    None
+}
+
+/// Puts the functions that a call of the one at a place of the program may come to behind those of a list, by their
+/// numbers in the source.
+fn push_reached(
+    memory: &mut Heap,
+    callees: &[Vec<usize>],
+    (place, order): (usize, &[usize]),
+    reached: &mut Vec<usize>,
+) {
+    let all = memory.repeat(true, callees.len());
+    if place >= callees.len() {
+        return;
+    }
+    let first = callees[place].as_slice();
+    let Ok(found) = reached_from(memory.alloc, callees, first, all.as_slice()) else {
+        memory.is_refused = true;
+        return;
+    };
+    for (number, is_reached) in order.iter().zip(found.as_slice().iter()) {
+        if *is_reached {
+            memory.push(reached, *number);
+        }
+    }
+}
+
 /// For each function of the source, and what calls through pointers, whether its frame lies on the soft stack: those
 /// that may be called again before they return, those that leave arguments in memory for such, and those with arguments
 /// in memory that are called through pointers; `bytes` has these. It is a fault where the first one would be called
@@ -163,7 +252,7 @@ fn soft_of(
     functions: &[Function],
     order: &[usize],
     callees: &[Vec<usize>],
-    bytes: &[i64],
+    (bytes, reached): (&[i64], &[Vec<usize>]),
 ) -> Vec<bool> {
     let pointed = layout.source.codes.len();
     let stops = &mut layout.stops;
@@ -182,6 +271,7 @@ fn soft_of(
             let known = Callees {
                 are_soft: &*are_soft,
                 bytes,
+                reached,
             };
             let leaves = leaves_for_soft(&mut stops.memory, function, known);
             let takes = number < bytes.len() && bytes[number] > 0;
@@ -223,11 +313,12 @@ fn stack_of(
     }
 }
 
-/// The registers that hold frames and ways back, and that a function may not name, each of which has a bit.
-fn held_in(way_back: &WayBack) -> u32 {
+/// The registers that hold frames and ways back, and that a function may not name.
+fn held_in(way_back: &WayBack) -> RegisterSet {
+    let held = RegisterSet::HELD;
     match way_back {
-        WayBack::Own => HELD,
-        WayBack::Kept | WayBack::Replaced => HELD & !bit_of(Reg::O7),
+        WayBack::Own => held,
+        WayBack::Kept | WayBack::Replaced => held.difference(RegisterSet::of(Reg::O7)),
     }
 }
 
@@ -373,7 +464,10 @@ fn functions_of(
     let list = bytes_of(layout, functions.as_slice(), order);
     let bytes_taken = list.as_slice();
     let called = callees.as_slice();
-    let softs = soft_of(layout, functions.as_slice(), order, called, bytes_taken);
+    let come = reached_of(layout, called, order);
+    let reached = come.as_slice();
+    let known = (bytes_taken, reached);
+    let softs = soft_of(layout, functions.as_slice(), order, called, known);
     let are_soft = softs.as_slice();
     layout.stops.symbol = symbols.as_slice().first().copied().unwrap_or(0);
     let has_frames = are_soft.contains(&true) | keeps_way(traits.as_slice());
@@ -385,6 +479,7 @@ fn functions_of(
         callees: Callees {
             are_soft,
             bytes: bytes_taken,
+            reached,
         },
     };
     let numbers = (order, symbols.as_slice());

@@ -3,7 +3,7 @@ use crate::metering::insert_meter;
 use crate::placing::{fill, place};
 use fit_checks::{Test, TestOptions, add_tests};
 pub use fit_code::{Fault, Reason};
-use fit_code::{Function, Heap, NO_LINE, Program, SourceLine};
+use fit_code::{Block, Function, Heap, NO_LINE, Program, SourceLine};
 use fit_fuel::{LoopBounds, Meter, bounds_of, declare, is_of_blocks, refused};
 use fit_ranges::Ranges;
 use fit_text::source_of;
@@ -55,12 +55,17 @@ pub struct Made {
 fn share_out(shares: &mut [u64], function: &Function, turns: u64) {
     let share = (turns / SHARE).max(LEAST);
     for block in function.blocks.as_slice() {
-        for step in block.steps.as_slice() {
-            if let Some(callee) = step.callee
-                && callee < shares.len()
-            {
-                shares[callee] = share.min(shares[callee]);
-            }
+        lower_shares(shares, block, share);
+    }
+}
+
+/// Lowers what the functions that a block calls may take.
+fn lower_shares(shares: &mut [u64], block: &Block, share: u64) {
+    for step in block.steps.as_slice() {
+        if let Some(callee) = step.callee
+            && callee < shares.len()
+        {
+            shares[callee] = share.min(shares[callee]);
         }
     }
 }
@@ -262,11 +267,16 @@ impl Refusal {
 fn lines_of(memory: &mut Heap, program: &Program) -> Vec<SourceLine> {
     let mut lines = Vec::new(memory.alloc);
     for function in program.functions.as_slice() {
-        for block in function.blocks.as_slice() {
-            memory.push(&mut lines, block.line);
-        }
+        push_lines(memory, function, &mut lines);
     }
     lines
+}
+
+/// Puts the lines of a function's blocks behind those of a list.
+fn push_lines(memory: &mut Heap, function: &Function, lines: &mut Vec<SourceLine>) {
+    for block in function.blocks.as_slice() {
+        memory.push(lines, block.line);
+    }
 }
 
 /// Makes an annotated source of a program.

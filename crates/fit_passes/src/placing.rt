@@ -1,4 +1,4 @@
-//! Where blocks stand in a function, and what stands in delay slots.
+//! Places of blocks in a function, and the contents of delay slots.
 mod filling;
 mod merging;
 

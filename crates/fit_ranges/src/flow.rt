@@ -3,7 +3,7 @@
 mod known;
 
 use crate::flow::known::{BlockRanges, replace, touched_in};
-use fit_code::{End, Function, Heap, hull};
+use fit_code::{Block, End, Function, Heap, hull};
 use fit_graph::{
     FunctionShape, Growth, LocationSet, Means, Thresholds, cells_of, enter, go_along, join,
     range_in, return_from, run_step, run_to_call, successors_in,
@@ -55,6 +55,22 @@ impl Pending {
         let blocks = self.blocks.as_mut_slice();
         if block < blocks.len() {
             blocks[block] = true;
+        }
+    }
+
+    /// Those of the function of a number that were changed are to be visited.
+    fn mark_changed(&mut self, number: usize, changed: &[(usize, usize)]) {
+        for (function, block) in changed {
+            if *function == number {
+                self.mark(*block);
+            }
+        }
+    }
+
+    /// Those from which some ways lead are to be visited.
+    fn mark_sources(&mut self, ways: &[usize]) {
+        for way in ways {
+            self.mark(*way / 2);
         }
     }
 }
@@ -124,6 +140,29 @@ fn known_before(shapes: &[FunctionShape], number: usize) -> (&[LocationSet], &[V
     }
 }
 
+/// Lists the calls of a block with what they give their callees, where the state is that before its first step; it is
+/// that behind the last one then.
+fn list_calls(
+    memory: &mut Heap,
+    setting: &Analysis,
+    (block, code): (usize, &Block),
+    calls: &mut Vec<Call>,
+    state: &mut State,
+) {
+    for step in code.steps.as_slice() {
+        run_to_call(setting.function.frame, step, state);
+        if let Some(callee) = step.callee {
+            let call = Call {
+                block,
+                callee,
+                given: outs(state, ZERO),
+            };
+            memory.push(calls, call);
+            return_from(setting.results, callee, state);
+        }
+    }
+}
+
 impl FunctionRanges {
     /// Nothing is known, and of no function.
     pub fn nothing(alloc: Global) -> FunctionRanges {
@@ -164,11 +203,7 @@ impl FunctionRanges {
         let live = shape.live.as_slice();
         let (live_before, sources_before) = known_before(before, number);
         self.pending.blocks = memory.repeat(false, live.len());
-        for (function, block) in changed {
-            if *function == number {
-                self.pending.mark(*block);
-            }
-        }
+        self.pending.mark_changed(number, changed);
         for block in 0..live.len() {
             if block >= self.blocks.len() {
                 memory.push(&mut self.blocks, BlockRanges::nothing());
@@ -180,9 +215,7 @@ impl FunctionRanges {
                 self.pending.mark(block);
             }
             if is_new || live[block] != live_before[block] {
-                for way in sources {
-                    self.pending.mark(*way / 2);
-                }
+                self.pending.mark_sources(sources);
             }
         }
     }
@@ -411,18 +444,7 @@ impl FunctionRanges {
         for block in 0..codes.len() {
             let code = &codes[block];
             if self.begin(function, block, state) {
-                for step in code.steps.as_slice() {
-                    run_to_call(function.frame, step, state);
-                    if let Some(callee) = step.callee {
-                        let call = Call {
-                            block,
-                            callee,
-                            given: outs(state, ZERO),
-                        };
-                        memory.push(&mut calls, call);
-                        return_from(setting.results, callee, state);
-                    }
-                }
+                list_calls(memory, setting, (block, code), &mut calls, state);
                 if let End::Return(fields) = code.end {
                     if function.framed {
                         state.restore(&fields);
@@ -498,9 +520,9 @@ impl FunctionRanges {
             self.pending.end = self.pending.end.max(end);
             if is_asked & (self.pending.end == behind) {
                 self.forget_stretch(setting);
-                for grow in &[true, false, true] {
-                    self.visit_all(setting, means, *grow, state);
-                }
+                self.visit_all(setting, means, true, state);
+                self.visit_all(setting, means, false, state);
+                self.visit_all(setting, means, true, state);
                 self.mark_behind(setting);
             }
         }

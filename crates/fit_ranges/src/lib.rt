@@ -1,5 +1,5 @@
-//! What is known of a program's locations where its blocks begin: in what ranges they lie, and what its accesses'
-//! addresses are worked out from. Nothing rests on it, since the verifier asks all again.
+//! Ranges of a program's locations where its blocks begin, and the origins of its accesses' addresses. Nothing rests on
+//! it, since the verifier asks all again.
 #![tactic(auto)]
 
 mod flow;
@@ -8,6 +8,6 @@ mod ranges;
 
 pub use origin::{
     Origin, Trace, WordBounds, bounds_in_constants, bounds_of, end_of, object_at, operands_of,
-    origin_of, trace_of,
+    origin_of,
 };
 pub use ranges::Ranges;

@@ -1,14 +1,14 @@
-//! What an access's address is worked out from, by the steps of its own block, and where the word that it is worked
-//! out from has to lie.
+//! The origin of an access's address, by the steps of its own block, and where the word that it is worked out from has
+//! to lie.
 mod objects;
 mod trace;
 
 use crate::origin::trace::OperandRanges;
-use fit_code::{Block, Program, Step};
+use fit_code::{Block, Program, RegisterSet, Step};
 use fit_graph::{Effects, effects_in};
 pub use objects::{WordBounds, bounds_in_constants, bounds_of, end_of, object_at};
 use sbx_range::{Range, is_single};
-pub use trace::{Trace, operands_of, trace_of};
+pub use trace::{Trace, operands_of};
 use v8_formats::{Instr, Operand};
 use v8_meaning::{Op, Operation, operation_of};
 
@@ -44,8 +44,8 @@ struct AddressSum<'p> {
     count: u32,
     /// Whether these were more than three, or a number went out of bounds.
     is_lost: bool,
-    /// Registers whose words are part of the constant, each of which has a bit.
-    folded: u32,
+    /// Registers whose words are part of the constant.
+    folded: RegisterSet,
     /// The object of a symbol that is a part, and that of the address that a register holds which is one.
     object: Option<usize>,
     addressed: Option<usize>,
@@ -68,7 +68,7 @@ impl<'p> AddressSum<'p> {
             ranges: [None; 32],
             count: 0,
             is_lost: false,
-            folded: 0,
+            folded: RegisterSet::NONE,
             object,
             addressed: None,
         }
@@ -87,7 +87,7 @@ impl<'p> AddressSum<'p> {
             let more = times.saturating_mul(i64::from(range.lo));
             self.constant = self.constant.saturating_add(more);
             self.is_lost |= self.constant.saturating_abs() > GREAT;
-            self.folded |= 1 << number;
+            self.folded.add(RegisterSet::range(number, 1));
             if (times == 1) & (number > 0) && self.addressed.is_none() {
                 self.addressed = object_at(self.program, i64::from(range.lo));
             }
@@ -102,13 +102,14 @@ impl<'p> AddressSum<'p> {
         }
     }
 
-    /// Takes out the registers that have a bit in `registers`. Gives how often the last one of them was there.
-    fn take(&mut self, registers: u32) -> Option<i64> {
+    /// Takes out some registers. Gives how often the last one of them was there.
+    fn take(&mut self, registers: RegisterSet) -> Option<i64> {
         let mut taken = None;
-        for number in 1..32 {
-            if (registers >> number & 1 == 1) & (self.times[number] != 0) {
-                taken = Some(self.times[number]);
-                self.times[number] = 0;
+        for number in 1..32u8 {
+            let place = usize::from(number);
+            if registers.has(number) & (self.times[place] != 0) {
+                taken = Some(self.times[place]);
+                self.times[place] = 0;
                 self.count = self.count.saturating_sub(1);
             }
         }
@@ -141,12 +142,12 @@ impl<'p> AddressSum<'p> {
     /// Takes the object whose address is a part of what a step computes, if that is part of the constant: else what it
     /// is the sum of is a part of it.
     fn name(&mut self, step: &Step, effects: &Effects) {
-        if effects.writes & self.folded != 0 {
-            self.folded &= !effects.writes;
+        if !self.folded.is_disjoint(effects.writes) {
+            self.folded.take(effects.writes);
             if self.object.is_none() {
                 self.object = step.object;
                 if let Instr::Add(_) | Instr::Or(_) = step.instr {
-                    self.folded |= effects.reads;
+                    self.folded.add(effects.reads.registers());
                 }
             }
         }

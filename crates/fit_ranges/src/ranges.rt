@@ -1,5 +1,4 @@
-//! What is known of a program's locations where its blocks begin: in what ranges they lie. Nothing rests on it, since
-//! the verifier asks all again.
+//! Ranges of a program's locations where its blocks begin. Nothing rests on it, since the verifier asks all again.
 use crate::flow::{Analysis, FunctionRanges, add_outs, at};
 use fit_code::{Fault, Function, Heap, NO_LINE, Program, Reason};
 use fit_graph::{FunctionShape, LocationSet, Means, RegisterCounts, find_live, thresholds_of};
@@ -57,15 +56,20 @@ fn shapes_of(memory: &mut Heap, program: &Program) -> Vec<FunctionShape> {
     shapes
 }
 
+/// Adds what the calls of a function in another one give it.
+fn add_given(given: &mut Option<[Range; 6]>, flow: &FunctionRanges, callee: usize) {
+    for call in flow.calls.as_slice() {
+        if call.callee == callee {
+            add_outs(given, &call.given);
+        }
+    }
+}
+
 /// What all calls of a function give it, if control comes to one.
 fn given_to(flows: &[FunctionRanges], callee: usize) -> Option<[Range; 6]> {
     let mut given = None;
     for flow in flows {
-        for call in flow.calls.as_slice() {
-            if call.callee == callee {
-                add_outs(&mut given, &call.given);
-            }
-        }
+        add_given(&mut given, flow, callee);
     }
     given
 }
@@ -170,19 +174,31 @@ impl Ranges {
         is_new
     }
 
+    /// Goes over each function once.
+    fn settle_functions(&mut self, program: &Program, state: &mut State) {
+        let functions = program.functions.as_slice();
+        for number in 0..functions.len() {
+            self.settle_function(program, (number, &functions[number]), state);
+        }
+    }
+
+    /// Takes over what each function gives back, in a round; says whether that is new for one.
+    fn take_all_results(&mut self, functions: &[Function], round: u32) -> bool {
+        let mut is_new = false;
+        for number in 0..functions.len() {
+            is_new |= self.take_results(number, &functions[number], round);
+        }
+        is_new
+    }
+
     /// Goes over the program until nothing is to be looked at again, or something lacks, which is told.
     fn settle(&mut self, program: &Program, state: &mut State) -> Result<(), Fault> {
         let functions = program.functions.as_slice();
         let mut is_new = true;
         for round in 0..ROUNDS {
             if is_new {
-                for number in 0..functions.len() {
-                    self.settle_function(program, (number, &functions[number]), state);
-                }
-                is_new = false;
-                for number in 0..functions.len() {
-                    is_new |= self.take_results(number, &functions[number], round);
-                }
+                self.settle_functions(program, state);
+                is_new = self.take_all_results(functions, round);
                 is_new &= !self.means.are_used_up();
             }
         }
@@ -357,20 +373,24 @@ impl Ranges {
         false
     }
 
+    /// The same of a function, by its number.
+    fn check_cells(&self, number: usize, function: &Function) -> Result<(), Fault> {
+        for (block, code) in function.blocks.as_slice().iter().enumerate() {
+            if let Some(cells) = self.cells(number, block)
+                && cells.len() > CELLS
+            {
+                let what = "registers and frame words in use where a block begins";
+                let most = CELLS as u64;
+                return Err(Fault::new(code.line, Reason::TooMany { what, most }));
+            }
+        }
+        Ok(())
+    }
+
     /// A fault of the first block of which more cells are known than an image's block may list.
     pub fn check_limits(&self, program: &Program) -> Result<(), Fault> {
-        let functions = program.functions.as_slice();
-        for number in 0..functions.len() {
-            let blocks = functions[number].blocks.as_slice();
-            for block in 0..blocks.len() {
-                if let Some(cells) = self.cells(number, block)
-                    && cells.len() > CELLS
-                {
-                    let what = "registers and frame words in use where a block begins";
-                    let most = CELLS as u64;
-                    return Err(Fault::new(blocks[block].line, Reason::TooMany { what, most }));
-                }
-            }
+        for (number, function) in program.functions.as_slice().iter().enumerate() {
+            self.check_cells(number, function)?;
         }
         Ok(())
     }

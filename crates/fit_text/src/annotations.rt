@@ -1,4 +1,4 @@
-//! What a source says of its functions and blocks beside their instructions.
+//! Annotations of a source's functions and blocks beside their instructions.
 use sbx_parts::{Cell, Term};
 
 /// What is said of a block where it begins.

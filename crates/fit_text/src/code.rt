@@ -8,34 +8,52 @@ use fit_code::{
 };
 use inspect_image::{Bounds, Location};
 use std::alloc::{AllocError, Global};
-use v8_formats::{Instr, encode};
+use v8_formats::{Instr, Operand, Trap};
 use v8_forms::suffixes;
 use v8_word::Cond;
 
-/// The word of `ta 0`.
-const TA: u32 = 0x91d0_2000;
+/// The numbers of the services that get a byte and put one.
+const GET: u32 = 1;
 
-/// Whether a program has an instruction of this word among its steps.
-fn has_word(program: &Program, word: u32) -> bool {
-    for function in program.functions.as_slice() {
-        for block in function.blocks.as_slice() {
-            for step in block.steps.as_slice() {
-                if encode(&step.instr) == word {
-                    return true;
-                }
-            }
-        }
+const PUT: u32 = 2;
+
+/// Whether a step asks for the service of a number.
+fn asks_for(step: &Step, service: u32) -> bool {
+    matches!(
+        step.instr,
+        Instr::Ticc(Trap { operand2: Operand::Immediate(number), .. }) if number == service
+    )
+}
+
+/// Whether a function asks for the service of a number.
+fn function_asks_for(function: &Function, service: u32) -> bool {
+    let mut asks = false;
+    for block in function.blocks.as_slice() {
+        asks |= block
+            .steps
+            .as_slice()
+            .iter()
+            .any(|step| asks_for(step, service));
     }
-    false
+    asks
+}
+
+/// Whether a program asks for the service of a number.
+fn has_service(program: &Program, service: u32) -> bool {
+    let mut asks = false;
+    for function in program.functions.as_slice() {
+        asks |= function_asks_for(function, service);
+    }
+    asks
 }
 
 /// The services and the pages of stack.
 fn push_head(out: &mut SourceText, program: &Program, room: u64) {
     out.add(".services exit");
-    if has_word(program, TA + 1) {
+    if has_service(program, GET) {
         out.add(",get");
     }
-    if has_word(program, TA + 2) {
+    if has_service(program, PUT) {
         out.add(",put");
     }
     let pages = room.saturating_add(64 + 4095) / 4096;

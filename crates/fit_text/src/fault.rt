@@ -1,4 +1,4 @@
-//! What is told of a fault.
+//! A fault as a line.
 use fit_code::{Fault, Reason, SourceLine};
 use std::fmt::{self, Error, Formatter, Write};
 

@@ -1,4 +1,5 @@
-//! A program as an annotated source, and a fault as a line.
+//! A program as an annotated source, and a fault as a line. Nothing rests on it: the verifier judges the image, whoever
+//! made it.
 #![tactic(auto)]
 
 mod annotations;

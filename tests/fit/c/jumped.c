@@ -2,9 +2,12 @@
 #include "plug.h"
 #include <setjmp.h>
 
-/* What setjmp's function had before is there behind longjmp: variables that nobody changed, those that are volatile, the
-   arrays of variable size of it and of its callers; and a stack of handlers. */
-struct handler { struct handler *outer; jmp_buf place; };
+/* What setjmp's function had before is there behind longjmp: variables that nobody changed, those that are
+   volatile, the arrays of variable size of it and of its callers; and a stack of handlers. */
+struct handler {
+    struct handler *outer;
+    jmp_buf place;
+};
 static struct handler *top;
 
 static void raise_it(int n) {
@@ -14,7 +17,10 @@ static void raise_it(int n) {
     longjmp(it->place, n);
 }
 
-static void number(unsigned n) { if (n > 9) number(n / 10); put('0' + n % 10); }
+static void number(unsigned n) {
+    if (n > 9) number(n / 10);
+    put('0' + n % 10);
+}
 
 __attribute__((noinline)) static int work(int n, int depth) {
     char room[n + 1];

@@ -1,22 +1,25 @@
 /* accepted */
 #include "plug.h"
 
-/* Arrays of variable size: several in a function, in loops, in functions that call themselves, with arguments in
-   memory beside them; of two dimensions; and alloca in a loop. */
+/* Arrays of variable size: several in a function, in loops, in functions that call themselves, with arguments
+   in memory beside them; of two dimensions; and alloca in a loop. */
 static int sum(const int *a, int n) {
     int s = 0;
     for (int i = 0; i < n; i++) s += a[i];
     return s;
 }
 
-static int many(int a, int b, int c, int d, int e, int f, int g, int h) { return a - b + c - d + e - f + g - h; }
+static int many(int a, int b, int c, int d, int e, int f, int g, int h) {
+    return a - b + c - d + e - f + g - h;
+}
 
 __attribute__((noinline)) static int walk(int depth, int n) {
     int row[n + 1], twice[2 * n + 2];
     for (int i = 0; i <= n; i++) row[i] = i * depth;
     for (int i = 0; i < 2 * n + 2; i++) twice[i] = i + depth;
     int below = depth > 0 ? walk(depth - 1, n + 1) : 0;
-    return below + sum(row, n + 1) + sum(twice, 2 * n + 2) + many(depth, n, row[0], row[n], twice[1], twice[n], below, 3);
+    return below + sum(row, n + 1) + sum(twice, 2 * n + 2) +
+           many(depth, n, row[0], row[n], twice[1], twice[n], below, 3);
 }
 
 __attribute__((noinline)) static int table(int rows, int columns) {
@@ -30,7 +33,10 @@ __attribute__((noinline)) static int table(int rows, int columns) {
 }
 
 __attribute__((noinline)) static int chain(int n) {
-    struct link { struct link *next; int value; } *first = 0;
+    struct link {
+        struct link *next;
+        int value;
+    } *first = 0;
     for (int i = 0; i < n; i++) {
         struct link *it = __builtin_alloca(sizeof *it);
         it->next = first, it->value = i * i, first = it;
@@ -40,7 +46,10 @@ __attribute__((noinline)) static int chain(int n) {
     return s;
 }
 
-static void tell(int n) { for (int i = 28; i >= 0; i -= 4) put("0123456789abcdef"[n >> i & 15]); put('\n'); }
+static void tell(int n) {
+    for (int i = 28; i >= 0; i -= 4) put("0123456789abcdef"[n >> i & 15]);
+    put('\n');
+}
 
 int main(void) {
     for (int c; (c = get()) >= 0;) {

@@ -1,5 +1,5 @@
-/* The three services by Linux's system calls, for units that are compared under qemu's user mode: of the same words, and in
-   the same order of bytes, as the images. */
+/* The three services by Linux's system calls, for units that are compared under qemu's user mode: of the same
+   words, and in the same order of bytes, as the images. */
 #ifndef PLUG_H
 #define PLUG_H
 #include <stddef.h>

@@ -1,10 +1,11 @@
-//! What the codes, or Y, can be set from again, kept in registers that a function has no other use for, from what sets
-//! them to the blocks that ask for them.
+//! Registers that keep what the codes, or Y, can be set from again: such as a function has no other use for, from what
+//! sets them to the blocks that ask for them.
 use crate::codes::setting::{CodesOrY, setting_of};
-use crate::points::{bit_of, operands_read, registers_of};
-use fit_code::{Block, End, Function, Heap, Step};
-use v8_formats::{Instr, Operand, Three, bits_of, decode, encode, three_of};
-use v8_word::{Reg, reg_at};
+use fit_code::{
+    Block, Function, Heap, RegisterSet, Step, fields_of, is_logic_compare, with_target,
+};
+use v8_formats::{Instr, Operand, Three};
+use v8_word::Reg;
 
 /// What is kept of what sets the codes, or Y.
 #[derive(Clone, Copy)]
@@ -43,21 +44,15 @@ impl KeptWord {
     }
 }
 
-/// The registers that may be taken, from the first choice on: locals of a function with a window, and the globals that
+/// The registers that may be taken, from the last choice on: locals of a function with a window, and the globals that
 /// compilers leave alone.
-const CANDIDATES: &[u32] = &[16, 17, 18, 19, 20, 21, 22, 23, 4, 3, 2, 1];
-
-/// The locals.
-const LOCALS: u32 = 0x00ff_0000;
-
-/// The bits of a word in which its destination stands.
-const DESTINATION: u32 = 0x3e00_0000;
+const CANDIDATES: &[u8] = &[1, 2, 3, 4, 23, 22, 21, 20, 19, 18, 17, 16];
 
 /// The registers that hold what is kept.
 #[derive(Clone, Copy)]
 pub struct Spares {
-    /// The registers that the function names, each of which has a bit, and those that are taken.
-    named: u32,
+    /// The registers that the function names, and those that are taken.
+    named: RegisterSet,
     /// %g0 where nothing is kept.
     registers: [Reg; 5],
 }
@@ -66,18 +61,10 @@ impl Spares {
     /// Those of a function, of which none is taken so far; it has no use for some register that it doesn't name, as
     /// `other`.
     pub fn of(function: &Function, other: Reg) -> Spares {
-        let mut named = bit_of(other);
+        let mut named = function.named();
+        named.insert(other);
         if !function.framed {
-            named |= LOCALS;
-        }
-        for block in function.blocks.as_slice() {
-            if let End::Return(fields) = block.end {
-                named |= operands_read(&fields) | bit_of(fields.rd);
-            }
-            for step in block.steps.as_slice() {
-                let effects = registers_of(&step.instr);
-                named |= effects.reads | effects.writes;
-            }
+            named.add(RegisterSet::LOCALS);
         }
         Spares {
             named,
@@ -85,33 +72,29 @@ impl Spares {
         }
     }
 
-    /// The number of the register that is taken next; 0 where there is none.
-    fn next(&self) -> u32 {
-        let mut free = 0;
-        for number in CANDIDATES {
-            if (free == 0) & (self.named >> (number % 32) & 1 == 0) {
-                free = *number;
-            }
-        }
-        free
+    /// The register that is taken next; none where there is none.
+    fn next(&self) -> Option<Reg> {
+        self.named.last_free(CANDIDATES)
     }
 
     /// Whether a result and a carry can be kept.
     pub fn has_room(&self) -> bool {
-        let first = self.next();
-        let others = Spares {
-            named: self.named | 1 << (first % 32),
-            registers: self.registers,
-        };
-        (first != 0) & (others.next() != 0)
+        match self.next() {
+            Some(first) => {
+                let named = self.named.union(RegisterSet::of(first));
+                named.last_free(CANDIDATES).is_some()
+            }
+            None => false,
+        }
     }
 
     /// The register for what is kept, which is taken where it wasn't; none where there is none.
     pub fn take(&mut self, kept: KeptWord) -> Option<Reg> {
         let place = kept.place() % 5;
         if self.registers[place] == Reg::G0 {
-            self.registers[place] = reg_at(self.next(), 0);
-            self.named |= bit_of(self.registers[place]);
+            let next = self.next().unwrap_or(Reg::G0);
+            self.registers[place] = next;
+            self.named.insert(next);
         }
         let register = self.registers[place];
         (register != Reg::G0).then_some(register)
@@ -132,20 +115,23 @@ pub struct Compared {
 }
 
 /// The compare that sets the codes of an instruction, if there is one; where the carry matters, that as well.
-pub fn compare_of(word: u32, asks_carry: bool) -> Option<Compared> {
-    let fields = three_of(word);
-    let first = Some(fields.rs1);
-    // From 0x10 to 0x17 there are ADDcc, SUBcc, four above it, and six of logic.
-    match (bits_of(word, 19, 6), fields.operand2) {
-        (0x14, second) => Some(Compared { first, second }),
-        (0x11..=0x13 | 0x15..=0x17, _) => Some(Compared {
-            first: None,
-            second: Operand::Immediate(0),
+pub fn compare_of(instr: &Instr, asks_carry: bool) -> Option<Compared> {
+    match instr {
+        Instr::SubCc(fields) => Some(Compared {
+            first: Some(fields.rs1),
+            second: fields.operand2,
         }),
         // A sum is the difference to the number below 0, but for its carry.
-        (0x10, Operand::Immediate(number)) if !asks_carry & is_turned(number) => Some(Compared {
-            first,
-            second: Operand::Immediate(0u32.wrapping_sub(number)),
+        Instr::AddCc(fields) => match fields.operand2 {
+            Operand::Immediate(number) if !asks_carry & is_turned(number) => Some(Compared {
+                first: Some(fields.rs1),
+                second: Operand::Immediate(0u32.wrapping_sub(number)),
+            }),
+            _ => None,
+        },
+        other if is_logic_compare(other) => Some(Compared {
+            first: None,
+            second: Operand::Immediate(0),
         }),
         _ => None,
     }
@@ -166,9 +152,9 @@ fn moved(rd: Reg, operand2: Operand) -> Instr {
     })
 }
 
-/// Pushes what keeps the operands of the compare that sets the codes of a word before that is done: what `marks` says.
+/// Pushes what keeps the operands of the compare that sets the codes of a step before that is done: what `marks` says.
 fn push_before(memory: &mut Heap, steps: &mut Vec<Step>, step: &Step, marks: u8, spares: &Spares) {
-    let Some(Compared { first, second }) = compare_of(encode(&step.instr), false) else {
+    let Some(Compared { first, second }) = compare_of(&step.instr, false) else {
         return;
     };
     if let Some(first) = first
@@ -184,21 +170,15 @@ fn push_before(memory: &mut Heap, steps: &mut Vec<Step>, step: &Step, marks: u8,
 
 /// Pushes what sets the codes, or Y, and what keeps its result, its carry or Y, as `marks` says.
 fn push_setter(memory: &mut Heap, steps: &mut Vec<Step>, step: &Step, marks: u8, spares: &Spares) {
-    let word = encode(&step.instr);
     let kept = [
         spares.at(marks, KeptWord::Result),
-        first_of_result(word, marks, spares),
+        first_of_result(&step.instr, marks, spares),
     ];
-    let mut result = three_of(word).rd;
-    for place in 0..2 {
-        if let Some(rd) = kept[place]
-            && result == Reg::G0
-        {
-            result = rd;
-        }
+    let mut result = fields_of(&step.instr).rd;
+    if result == Reg::G0 {
+        result = kept[0].or(kept[1]).unwrap_or(Reg::G0);
     }
-    let instr = decode(word & !DESTINATION | rd_bits(result));
-    push(memory, steps, step, instr);
+    push(memory, steps, step, with_target(&step.instr, result));
     for place in 0..2 {
         if let Some(rd) = kept[place]
             && rd != result
@@ -221,14 +201,9 @@ fn push_setter(memory: &mut Heap, steps: &mut Vec<Step>, step: &Step, marks: u8,
     }
 }
 
-/// The bits of a destination in a word.
-fn rd_bits(rd: Reg) -> u32 {
-    (rd.number() as u32 % 32) << 25
-}
-
-/// The register that holds the first operand of the compare that sets the codes of a word, where that is its result.
-fn first_of_result(word: u32, marks: u8, spares: &Spares) -> Option<Reg> {
-    match compare_of(word, false) {
+/// The register that holds the first operand of the compare that sets an instruction's codes, where that is its result.
+fn first_of_result(instr: &Instr, marks: u8, spares: &Spares) -> Option<Reg> {
+    match compare_of(instr, false) {
         Some(Compared { first: None, .. }) => spares.at(marks, KeptWord::First),
         _ => None,
     }
@@ -247,7 +222,7 @@ pub fn keep_in(
     (marks, spares): (u8, &Spares),
 ) {
     let setting = setting_of(special, block.steps.as_slice());
-    if (marks == 0) | (setting.setter == 0) {
+    if (marks == 0) | setting.setter.is_none() {
         return;
     }
     let mut steps = Vec::new(memory.alloc);

@@ -1,24 +1,20 @@
-//! How a block that asks for codes, or for Y, that others set, has them at its start: by the compare that set them, or
-//! from what is kept of it.
+//! A plan for each block that asks for codes, or for Y, that others set: it has them at its start by the compare that
+//! set them, or from what is kept of it.
 use crate::codes::keeping::{Compared, KeptWord, Spares, compare_of, keep_in};
 use crate::codes::setting::{CodesOrY, Setters, setters_of, setting_of};
 use crate::plain::{against_zero, step_of};
-use crate::points::{bit_of, operands_read};
 use crate::stops::Stops;
-use fit_code::{Block, End, Function, Heap};
+use fit_code::{
+    Block, End, Function, Heap, RegisterSet, fields_of, is_compare, is_logic_compare, is_same,
+    operands_read, with_target,
+};
 use fit_graph::predecessors_of;
-use v8_formats::{Instr, Operand, Three, Two, bits_of, decode, encode, three_of};
+use v8_formats::{Instr, Operand, Three, Two};
 use v8_word::{Cond, Reg};
 
 const NO_CODES: &str = "condition codes of several places, or of numbers that changed since";
 
 const NO_Y: &str = "Y is read, and no multiplication before sets it on each way";
-
-/// The bits of a word in which its destination stands.
-const DESTINATION: u32 = 0x3e00_0000;
-
-/// MULScc, by its minor opcode.
-const MULTIPLY_STEP: u32 = 0x24;
 
 /// What a block asks for of the codes.
 #[derive(Clone, Copy)]
@@ -67,7 +63,7 @@ pub fn asked_of(block: &Block) -> Option<AskedCodes> {
     let codes = setting_of(CodesOrY::Codes, block.steps.as_slice());
     let mut asked = None;
     if let End::Branch { cond, .. } = block.end
-        && codes.setter == 0
+        && codes.setter.is_none()
     {
         asked = Some(asked_by(cond));
     }
@@ -88,47 +84,41 @@ pub fn asked_of(block: &Block) -> Option<AskedCodes> {
 fn reads_signs(block: &Block) -> bool {
     let mut reads = false;
     for step in block.steps.as_slice() {
-        let word = encode(&step.instr);
-        reads |= (word >> 30 == 2) & (bits_of(word, 19, 6) == MULTIPLY_STEP);
+        reads |= matches!(step.instr, Instr::MulsCc(_));
     }
     reads
 }
 
-/// The word of an instruction that sets the same codes behind one that sets them; 0 where there is none. Where carry
-/// and overflow aren't asked for, a compare of the result with 0 does, as it does of a logic instruction, which clears
-/// both.
-fn repeated(word: u32, signs_alone: bool) -> u32 {
-    let fields = three_of(word);
-    let result = bit_of(fields.rd);
-    // From 0x10 to 0x17 there are ADDcc, SUBcc, four above it, and six of logic.
-    let minor = bits_of(word, 19, 6);
-    let may_repeat = minor & 0x38 == 0x10;
-    let is_logic = may_repeat & (minor & 3 != 0);
-    if (result != 0) & (signs_alone | is_logic) {
-        encode(&against_zero(fields.rd))
-    } else if may_repeat & (result & operands_read(&fields) == 0) {
-        word & !DESTINATION
+/// The instruction that sets the same codes behind one that sets them; none where there is none. Where carry and
+/// overflow aren't asked for, a compare of the result with 0 does, as of a logic instruction, which clears both.
+fn repeated(instr: &Instr, signs_alone: bool) -> Option<Instr> {
+    let Three { rd, rs1, operand2 } = fields_of(instr);
+    if (rd != Reg::G0) & (signs_alone | is_logic_compare(instr)) {
+        Some(against_zero(rd))
+    } else if is_compare(instr) && !operands_read(rs1, operand2).contains(rd) {
+        Some(with_target(instr, Reg::G0))
     } else {
-        0
+        None
     }
 }
 
-/// The word of what sets the codes that a block begins with, as one instruction that may stand at its start; 0 where
-/// there is none.
-pub fn one_setter(setters: &Setters, asked: AskedCodes) -> u32 {
+/// What sets the codes that a block begins with, as one instruction that may stand at its start; none where there is
+/// none.
+pub fn one_setter(setters: &Setters, asked: AskedCodes) -> Option<Instr> {
     let mut is_one = setters.is_set;
-    let mut found = 0;
-    for word in setters.words.as_slice() {
-        let word = repeated(*word, asked.is_of_signs());
-        is_one &= (word != 0) & ((found == 0) | (found == word));
-        found = word;
+    let mut found: Option<Instr> = None;
+    for instr in setters.instrs.as_slice() {
+        let again = repeated(instr, asked.is_of_signs())?;
+        is_one &= match &found {
+            Some(found) => is_same(found, &again),
+            None => true,
+        };
+        found = Some(again);
     }
+    let found = found?;
+    let Three { rs1, operand2, .. } = fields_of(&found);
     // It may stand there where it is one alone, and nothing that it reads is written behind it.
-    if is_one & (operands_read(&three_of(found)) & setters.written == 0) {
-        found
-    } else {
-        0
-    }
+    (is_one & operands_read(rs1, operand2).is_disjoint(setters.written)).then_some(found)
 }
 
 /// An operand as a number, which no other one has.
@@ -149,12 +139,12 @@ fn number_of_first(first: &Option<Reg>) -> u8 {
 
 /// The compare that each of some instructions does, and whether they agree in its operands; none where one does none.
 fn common(setters: &Setters, asked: AskedCodes) -> Option<(Compared, bool, bool)> {
-    let words = setters.words.as_slice();
-    let found = compare_of(*words.first()?, asked.carry)?;
+    let instrs = setters.instrs.as_slice();
+    let found = compare_of(instrs.first()?, asked.carry)?;
     let mut is_one_first = true;
     let mut is_one_second = true;
-    for word in words {
-        let Compared { first, second } = compare_of(*word, asked.carry)?;
+    for instr in instrs {
+        let Compared { first, second } = compare_of(instr, asked.carry)?;
         is_one_first &= number_of_first(&first) == number_of_first(&found.first);
         is_one_second &= number_of(&second) == number_of(&found.second);
     }
@@ -162,18 +152,18 @@ fn common(setters: &Setters, asked: AskedCodes) -> Option<(Compared, bool, bool)
 }
 
 /// What is written behind instructions that set the codes, and by them.
-fn lost_behind(setters: &Setters) -> u32 {
+fn lost_behind(setters: &Setters) -> RegisterSet {
     let mut lost = setters.written;
-    for word in setters.words.as_slice() {
-        lost |= bit_of(three_of(*word).rd);
+    for instr in setters.instrs.as_slice() {
+        lost.insert(fields_of(instr).rd);
     }
     lost
 }
 
 /// Whether an operand is a register that is written.
-fn is_lost(operand: &Operand, lost: u32) -> bool {
+fn is_lost(operand: &Operand, lost: RegisterSet) -> bool {
     match operand {
-        Operand::Register(register) => bit_of(*register) & lost != 0,
+        Operand::Register(register) => lost.contains(*register),
         Operand::Immediate(_) => false,
     }
 }
@@ -209,7 +199,7 @@ impl Planner<'_> {
         let (found, is_one_first, is_one_second) = common(setters, asked)?;
         let lost = lost_behind(setters);
         let rs1 = match found.first {
-            Some(first) if is_one_first & (bit_of(first) & lost == 0) => first,
+            Some(first) if is_one_first & !lost.contains(first) => first,
             _ => self.keep(setters, KeptWord::First)?,
         };
         let operand2 = if is_one_second && !is_lost(&found.second, lost) {
@@ -229,9 +219,9 @@ impl Planner<'_> {
         let (blocks, before) = (self.blocks, self.before);
         let memory = &mut self.memory;
         let setters = setters_of(memory, blocks, before, number, CodesOrY::Codes);
-        let word = one_setter(&setters, asked);
-        if word != 0 {
-            Some(decode(word))
+        let one = one_setter(&setters, asked);
+        if one.is_some() {
+            one
         } else if !setters.is_set | setters.is_lost {
             None
         } else if asked.is_of_carry() {

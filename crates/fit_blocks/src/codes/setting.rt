@@ -1,7 +1,6 @@
-//! Where the codes, or Y, that a block begins with are set.
-use crate::points::registers_of;
-use fit_code::{Block, Heap, Step};
-use v8_formats::{bits_of, encode};
+//! The places where the codes, or Y, that a block begins with are set.
+use fit_code::{Block, Heap, RegisterSet, Step, reads, writes};
+use v8_formats::Instr;
 
 /// What instructions set for others, beside registers.
 #[derive(Clone, Copy)]
@@ -11,31 +10,13 @@ pub enum CodesOrY {
     Y,
 }
 
-/// The minor opcodes of what reads the codes, a bit each: ADDX, SUBX, ADDXcc, SUBXcc and MULScc; and of what sets them:
-/// from ADDcc to MULScc.
-const CODES_READ: u64 = 1 << 0x08 | 1 << 0x0c | 1 << 0x18 | 1 << 0x1c | 1 << 0x24;
-
-const CODES_SET: u64 = 0x1f_ffff_0000;
-
-/// The same of Y: UDIV, SDIV, UDIVcc, SDIVcc, MULScc and RDY; UMUL, SMUL, UMULcc, SMULcc, MULScc and WRY.
-const Y_READ: u64 = 3 << 0x0e | 3 << 0x1e | 1 << 0x24 | 1 << 0x28;
-
-const Y_SET: u64 = 3 << 0x0a | 3 << 0x1a | 1 << 0x24 | 1 << 0x30;
-
 impl CodesOrY {
-    /// Whether an instruction reads it, and whether it sets it.
-    pub fn use_in(&self, word: u32) -> (bool, bool) {
-        // By the minor opcode (appendix F, "Format 3").
-        let minor = if word >> 30 == 2 {
-            bits_of(word, 19, 6)
-        } else {
-            0
-        };
-        let (read, set) = match self {
-            CodesOrY::Codes => (CODES_READ, CODES_SET),
-            CodesOrY::Y => (Y_READ, Y_SET),
-        };
-        (read >> minor & 1 == 1, set >> minor & 1 == 1)
+    /// It alone.
+    fn set(self) -> RegisterSet {
+        match self {
+            CodesOrY::Codes => RegisterSet::CODES,
+            CodesOrY::Y => RegisterSet::Y,
+        }
     }
 }
 
@@ -44,12 +25,12 @@ impl CodesOrY {
 pub struct LastSetter {
     /// Whether one of them reads it where none before set it.
     pub reads: bool,
-    /// The word of the instruction that sets it last; 0 where none does.
-    pub setter: u32,
+    /// The instruction that sets it last; none where none does.
+    pub setter: Option<Instr>,
     /// The place of that.
     pub place: usize,
     /// What is written behind that, or by all of them where none sets it.
-    pub written: u32,
+    pub written: RegisterSet,
     /// Whether one of those is a call, which loses it.
     pub is_lost: bool,
 }
@@ -58,26 +39,28 @@ pub struct LastSetter {
 pub fn setting_of(special: CodesOrY, steps: &[Step]) -> LastSetter {
     let mut found = LastSetter {
         reads: false,
-        setter: 0,
+        setter: None,
         place: 0,
-        written: 0,
+        written: RegisterSet::NONE,
         is_lost: false,
     };
+    let asked = special.set();
     for (place, step) in steps.iter().enumerate() {
-        let word = encode(&step.instr);
-        let (reads, sets) = special.use_in(word);
-        found.reads |= (found.setter == 0) & reads;
-        if sets {
-            found.setter = word;
-            found.place = place;
-            found.written = 0;
-            found.is_lost = false;
-        } else if step.callee.is_some() {
+        if step.callee.is_some() {
             // A callee may write all of these.
-            found.written |= 0xffff;
+            found.written.add(RegisterSet::LOST_BY_CALL);
             found.is_lost = true;
+            continue;
+        }
+        found.reads |= found.setter.is_none() & !reads(&step.instr).is_disjoint(asked);
+        let written = writes(&step.instr);
+        if written.is_disjoint(asked) {
+            found.written.add(written);
         } else {
-            found.written |= registers_of(&step.instr).writes;
+            found.setter = Some(step.instr);
+            found.place = place;
+            found.written = RegisterSet::NONE;
+            found.is_lost = false;
         }
     }
     found
@@ -86,11 +69,11 @@ pub fn setting_of(special: CodesOrY, steps: &[Step]) -> LastSetter {
 /// Where what a block begins with is set, on all ways to it.
 #[derive(Drop)]
 pub struct Setters {
-    /// The words of the instructions that set it, and the blocks that these stand in.
-    pub words: Vec<u32>,
+    /// The instructions that set it, and the blocks that these stand in.
+    pub instrs: Vec<Instr>,
     pub blocks: Vec<usize>,
     /// What is written behind them on the ways.
-    pub written: u32,
+    pub written: RegisterSet,
     /// Whether there is one on each way; and whether a way has a call behind it.
     pub is_set: bool,
     pub is_lost: bool,
@@ -106,9 +89,9 @@ pub fn setters_of(
     special: CodesOrY,
 ) -> Setters {
     let mut found = Setters {
-        words: Vec::new(memory.alloc),
+        instrs: Vec::new(memory.alloc),
         blocks: Vec::new(memory.alloc),
-        written: 0,
+        written: RegisterSet::NONE,
         is_set: true,
         is_lost: false,
     };
@@ -124,10 +107,10 @@ pub fn setters_of(
         {
             seen[place] = true;
             let setting = setting_of(special, blocks[place].steps.as_slice());
-            found.written |= setting.written;
+            found.written.add(setting.written);
             found.is_lost |= setting.is_lost;
-            if setting.setter != 0 {
-                memory.push(&mut found.words, setting.setter);
+            if let Some(setter) = setting.setter {
+                memory.push(&mut found.instrs, setter);
                 memory.push(&mut found.blocks, place);
             } else {
                 found.is_set &= push_sources(memory, &mut open, before, place);

@@ -1,14 +1,13 @@
-//! What an instruction does to the flow of control.
+//! The effect of an instruction on the flow of control.
 use crate::points::ControlFlow;
-use crate::points::fields::{access_of, registers_of};
+use crate::points::fields::access_of;
 use crate::stops::Obstacle;
-use v8_formats::{Instr, Operand, Three, Trap, bits_of, encode};
+use fit_code::{RegisterSet, reads, writes};
+use v8_formats::{Instr, Operand, Three, Trap};
+use v8_meaning::{Operation, operation_of};
 use v8_word::{Cond, Reg};
 
 const NOT_ALLOWED: Obstacle = Obstacle::Form("an instruction that sandboxed code may not have");
-
-/// The registers that tests and meters work with, %g5 to %g7, a bit a register. Compilers leave them alone.
-const WORKING: u32 = 7 << 5;
 
 /// What a jump does, which has to be a return, to 8 or 12 bytes behind a call, whose address a register holds; or a
 /// call through a pointer.
@@ -37,8 +36,8 @@ fn service(trap: &Trap) -> Result<ControlFlow, Obstacle> {
 /// What an instruction does to the flow of control, of a branch to a point of its function; or why a program may not
 /// have it.
 pub fn flow_of(instr: &Instr, to: Option<usize>) -> Result<ControlFlow, Obstacle> {
-    let named = registers_of(instr);
-    if (named.reads | named.writes) & WORKING != 0 {
+    let named = reads(instr).union(writes(instr));
+    if !named.is_disjoint(RegisterSet::SCRATCH) {
         return Err(Obstacle::Form("one of %g5 to %g7, which tests and meters work with"));
     }
     match instr {
@@ -64,10 +63,9 @@ pub fn flow_of(instr: &Instr, to: Option<usize>) -> Result<ControlFlow, Obstacle
         Instr::Sethi(_) | Instr::ReadY(_) | Instr::WriteY(_) => Ok(ControlFlow::On),
         other => {
             // Arithmetic but for TADDccTV and TSUBccTV, and loads and stores of the data's space.
-            let word = encode(other);
-            let minor = bits_of(word, 19, 6);
-            let is_plain = (word >> 30 == 2) & (minor <= 0x27) & (minor & 0x3e != 0x22);
-            if is_plain | access_of(other).is_some() {
+            let operation = operation_of(other);
+            let is_plain = matches!(operation, Operation::Compute(..) | Operation::Divide(..));
+            if is_plain || access_of(other).is_some() {
                 Ok(ControlFlow::On)
             } else {
                 Err(NOT_ALLOWED)

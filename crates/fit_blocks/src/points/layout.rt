@@ -1,4 +1,4 @@
-//! Where the objects of a program lie.
+//! The layout of a program's objects in the data.
 use crate::stops::{Obstacle, Stops};
 use fit_code::{Heap, NO_LINE, Naming, Object, Region, SourceLine};
 use fit_gas::{
@@ -207,6 +207,14 @@ impl Layout<'_> {
         }
     }
 
+    /// Takes those that instructions of all functions name.
+    fn take_from_all(&mut self) {
+        let source = self.source;
+        for code in source.codes.as_slice() {
+            self.take_all(code);
+        }
+    }
+
     /// Takes down that an instruction names an address by an object's name, if it lies outside of that.
     pub fn name_outside(&mut self, number: usize, address: u32) {
         let objects = self.objects.as_mut_slice();
@@ -225,6 +233,14 @@ impl Layout<'_> {
         let (_, word) = self.reach(fix.symbol, fix.offset, fix.line);
         if let Some(object) = self.objects.get_mut(number) {
             put_word(object.bytes.as_mut_slice(), fix.at, word);
+        }
+    }
+
+    /// Fills in all addresses that objects of the source hold.
+    fn fill_all(&mut self) {
+        let source = self.source;
+        for fix in source.fixes.as_slice() {
+            self.fill(fix);
         }
     }
 }
@@ -285,11 +301,7 @@ pub fn layout_of(source: &Assembly) -> Layout<'_> {
         line: NO_LINE,
     };
     layout.add_regions();
-    for fix in source.fixes.as_slice() {
-        layout.fill(fix);
-    }
-    for code in source.codes.as_slice() {
-        layout.take_all(code);
-    }
+    layout.fill_all();
+    layout.take_from_all();
     layout
 }

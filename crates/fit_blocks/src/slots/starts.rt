@@ -1,7 +1,7 @@
-//! Where a function's body and its blocks begin, and how large its frame is.
-use crate::points::{ControlFlow, Point, bit_of, registers_of, signed};
+//! The beginnings of a function's body and of its blocks, and the size of its frame.
+use crate::points::{ControlFlow, Point, signed};
 use crate::stops::Stops;
-use fit_code::Heap;
+use fit_code::{Heap, reads, writes};
 use v8_formats::{Instr, Operand, Three};
 use v8_word::{Cond, Reg};
 
@@ -106,11 +106,12 @@ fn room_taken(instr: &Instr) -> Option<u32> {
 fn more_room(points: &[Point], start: usize) -> Option<(usize, u32)> {
     for place in start..points.len() {
         let Point { step, flow } = &points[place];
-        let effects = registers_of(&step.instr);
         if let Some(number) = room_taken(&step.instr) {
             return (signed(number) > 0).then_some((place, number));
         }
-        let names_it = (effects.reads | effects.writes) & bit_of(Reg::SP) != 0;
+        let names_it = reads(&step.instr)
+            .union(writes(&step.instr))
+            .contains(Reg::SP);
         if names_it | !matches!(flow, ControlFlow::On | ControlFlow::Nothing) {
             return None;
         }

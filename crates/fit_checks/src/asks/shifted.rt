@@ -2,7 +2,7 @@
 //! number there whose low bits are right, as 1,073,741,823 for -1 before a shift by 2; with the small one the sum
 //! doesn't overflow.
 use crate::cuts::by_immediate;
-use fit_code::{End, Step};
+use fit_code::{End, RegisterSet, Step};
 use fit_graph::{LocationSet, effects_of, run_step};
 use sbx_domain::State;
 use sbx_range::{Range, is_single};
@@ -41,15 +41,15 @@ fn adds_shifted(instr: &Instr, state: &State) -> bool {
 
 /// The least of the shifts to the left that read a register in steps from a place on, before it is written again; 0
 /// where something else may read it, or nothing does. Behind the steps these registers are live.
-fn least_shift(frame: u32, steps: &[Step], place: usize, register: u8, live: u32) -> u32 {
-    let bit = 1u32 << (register % 32);
+fn least_shift(frame: u32, steps: &[Step], place: usize, register: u8, live: RegisterSet) -> u32 {
+    let may_be_given = RegisterSet::LOST_BY_CALL.has(register);
     // no shift is so far
     let mut least: u32 = 32;
     for at in place..steps.len() {
         let step = &steps[at];
         let effects = effects_of(frame, &step.instr);
-        let is_given = step.callee.is_some() & (bit & 0xfffe != 0);
-        if is_given | (effects.reads & bit != 0) {
+        let is_given = step.callee.is_some() & may_be_given;
+        if is_given | effects.reads.has(register) {
             let mut shift = 0;
             if let Instr::Sll(fields) = step.instr
                 && let Operand::Immediate(count) = fields.operand2
@@ -59,25 +59,25 @@ fn least_shift(frame: u32, steps: &[Step], place: usize, register: u8, live: u32
             }
             least = least.min(shift);
         }
-        if (least == 0) | (effects.writes & bit != 0) {
+        if (least == 0) | effects.writes.has(register) {
             return least % 32;
         }
     }
-    if live & bit == 0 { least % 32 } else { 0 }
+    if live.has(register) { 0 } else { least % 32 }
 }
 
 /// The registers that are live behind the steps of a block with this end, or may be, where these locations are live at
-/// the blocks' beginnings; each has a bit.
-pub fn live_behind(end: End, live: &[LocationSet]) -> u32 {
+/// the blocks' beginnings.
+pub fn live_behind(end: End, live: &[LocationSet]) -> RegisterSet {
     let (first, second) = match end {
         End::Jump(to) => (to, to),
         End::Branch { taken, next, .. } => (taken, next),
-        End::Return(_) | End::Exit => return u32::MAX,
+        End::Return(_) | End::Exit => return RegisterSet::REGISTERS,
     };
     if (first < live.len()) & (second < live.len()) {
-        live[first].registers() | live[second].registers()
+        live[first].registers().union(live[second].registers())
     } else {
-        u32::MAX
+        RegisterSet::REGISTERS
     }
 }
 
@@ -89,7 +89,7 @@ pub fn shorten_steps(
     frame: u32,
     results: &[Vec<Range>],
     steps: &mut [Step],
-    live: u32,
+    live: RegisterSet,
     state: &mut State,
 ) -> (bool, bool) {
     let mut is_changed = false;

@@ -1,10 +1,10 @@
 //! The blocks of tests.
 use crate::cuts::{
-    CODES, SCRATCH, Writer, Y, by_immediate, in_use, last_writer, number_in, push_block,
-    push_branch, register, telling, use_of,
+    Writer, by_immediate, in_use, last_writer, number_in, push_block, push_branch, register,
+    telling, use_of,
 };
 use crate::plans::plan::{SUM, Test, TestWay};
-use fit_code::{Block, End, Heap, Step};
+use fit_code::{Block, End, Heap, RegisterSet, Step};
 use fit_graph::effects_of;
 use v8_formats::{Cond, Instr, Operand, Reg, Three, Two};
 use v8_meaning::{Operation, operation_of};
@@ -169,14 +169,19 @@ fn sign_again(frame: u32, steps: &[Step], writer: &Writer) -> Result<[Step; 2], 
     let Some(sign) = last_writer(frame, &steps[..writer.place], writer.reads) else {
         return Err(NO_UPPER_WORD);
     };
-    let is_changed = (sign.written | sign.writes | kept) & sign.reads != 0;
+    let changed = sign.written.union(sign.writes).union(kept);
     let Some(again) = made_again(frame, steps, sign.place) else {
         return Err(NO_UPPER_WORD);
     };
-    if is_changed {
+    if !changed.is_disjoint(sign.reads) {
         return Err(NO_UPPER_WORD);
     }
     Ok(steps_of_sign(again, steps[writer.place]))
+}
+
+/// Whether codes are among what is written and what is asked for.
+fn asks_codes(written: RegisterSet, asked: RegisterSet) -> bool {
+    !written.intersection(asked).is_disjoint(RegisterSet::CODES)
 }
 
 /// Takes the division at a place out of a block, and the WRY whose word it finds in Y: where nothing else reads that
@@ -190,22 +195,25 @@ pub fn take_division(
     place: usize,
 ) -> Result<Vec<Step>, &'static str> {
     let asked = in_use(frame, block, place.saturating_add(1));
-    let is_shared = asked & Y != 0;
+    let is_shared = !asked.is_disjoint(RegisterSet::Y);
     let end = block.end;
     let steps = &mut block.steps;
     if place < steps.len()
-        && let Some(writer) = last_writer(frame, &steps[..place], Y)
+        && let Some(writer) = last_writer(frame, &steps[..place], RegisterSet::Y)
         && matches!(writer.instr, Instr::WriteY(_))
-        && ((writer.written | writer.used) & Y == 0)
+        && writer
+            .written
+            .union(writer.used)
+            .is_disjoint(RegisterSet::Y)
         && writer.place < place
     {
-        if is_shared & (writer.reads != 0) {
+        if is_shared & !writer.reads.is_empty() {
             return Err("two divisions of one upper word");
         }
         let [write, division] = [steps[writer.place], steps[place]];
-        let taken = if writer.reads & writer.written == 0 {
+        let taken = if writer.reads.is_disjoint(writer.written) {
             memory.copy(&[write, division])
-        } else if asked & SCRATCH != 0 {
+        } else if !asked.is_disjoint(RegisterSet::SCRATCH) {
             return Err(NO_UPPER_WORD);
         } else {
             let [sign, write] = sign_again(frame, &steps[..place], &writer)?;
@@ -213,7 +221,7 @@ pub fn take_division(
         };
         if is_shared {
             steps[place] = write;
-        } else if use_of(frame, &division).1 & asked & CODES != 0 {
+        } else if asks_codes(use_of(frame, &division).1, asked) {
             steps[place] = compare_of_result(&division, &end)?;
         } else {
             steps.remove(place);

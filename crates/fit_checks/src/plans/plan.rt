@@ -1,7 +1,6 @@
 //! Tests, where the run ends if one fails, and how what isn't shown is tested.
 use crate::asks::{Ask, NotShown, UnshownAccess, needed_alignment};
-use crate::cuts::{CODES, SCRATCH, Y};
-use fit_code::{Program, SourceLine};
+use fit_code::{Program, RegisterSet, SourceLine};
 use fit_ranges::{Origin, WordBounds, bounds_in_constants, bounds_of};
 use sbx_range::{Range, all};
 use v8_formats::Operand;
@@ -40,7 +39,7 @@ pub struct TestPlan {
     pub first: usize,
     pub last: usize,
     /// What may not be in use where the test stands.
-    pub changed: u64,
+    pub changed: RegisterSet,
     /// How it is seen that the word lies within its bounds; of a divisor this says nothing, too.
     pub way: TestWay,
     /// The same among the constants, where a load that doesn't pass the first test may pass this one.
@@ -146,9 +145,10 @@ fn plan_by(program: &Program, access: &UnshownAccess, origin: &Origin) -> TestPl
         None => (TestKind::Pointer, access.range),
     };
     let (first, changed) = if origin.register == SUM {
-        (origin.last, CODES | Y)
+        (origin.last, RegisterSet::CODES_AND_Y)
     } else {
-        (origin.first, CODES | Y | SCRATCH)
+        let changed = RegisterSet::CODES_AND_Y.union(RegisterSet::SCRATCH);
+        (origin.first, changed)
     };
     TestPlan {
         kind,
@@ -175,7 +175,7 @@ fn plan_of_divisor(register: u8, range: Range, place: usize) -> TestPlan {
         alignment: 0,
         first: place,
         last: place,
-        changed: CODES,
+        changed: RegisterSet::CODES,
         way: TestWay::Never,
         constants: None,
         says_nothing: false,

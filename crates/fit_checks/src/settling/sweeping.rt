@@ -1,6 +1,7 @@
 //! One sweep over a function that answers what isn't shown of it: in an order in which what a test shows is known where
 //! it makes a later one needless.
 use crate::asks::{Ask, Asking, NotShown, asks_behind, asks_of};
+use crate::cuts::register;
 use crate::plans::{TestKind, plan_of};
 use crate::settling::{Answered, LOST_BY_CALL, Tests};
 use crate::sweep::{Carried, CarriedWord, Chain, NOT_CARRIED, Sweep, cells_along};
@@ -102,8 +103,7 @@ fn carried_word(
     let steps = blocks[ask.block].steps.as_slice();
     let place = plan.last.min(steps.len());
     let there = carried.behind(ask.frame, &steps[..place]);
-    let bit = 1u32 << (plan.register % 32);
-    if there.round & bit == 0 {
+    if !there.round.has(plan.register) {
         return None;
     }
     let word = CarriedWord {
@@ -111,7 +111,7 @@ fn carried_word(
         register: plan.register,
         object: plan.bounds.object,
     };
-    Some((word, there.tested & bit != 0))
+    Some((word, there.tested.has(plan.register)))
 }
 
 impl Tests {
@@ -206,7 +206,7 @@ impl Tests {
         };
         let from = block_count(program, function);
         if let Some(plan) = plan_of(program, &ask) {
-            chain.tested |= 1u32 << (plan.register % 32);
+            chain.tested.insert(register(plan.register));
         }
         self.asked = Some(ask);
         self.refused = self.answer(program, &ask);

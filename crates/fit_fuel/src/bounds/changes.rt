@@ -65,19 +65,33 @@ pub fn add_ways(
             && let Some(cells) = ranges.cells(number, from)
         {
             let is_open = ranges.run_block(setting.program, number, from, way, state);
-            for counter in counters.iter_mut() {
-                let location = counter.cell.location;
-                if is_open | range_in(cells, location).is_none() {
-                    let cost = counter.pass(cells, state, memory);
-                    let way = WayOut {
-                        from,
-                        to,
-                        location,
-                        cost,
-                    };
-                    memory.push(ways, way);
-                }
-            }
+            let at = (from, to, is_open);
+            pass_counters(counters, at, cells, ways, state, memory);
+        }
+    }
+}
+
+/// Adds a way from a block to another one for each counter; of a way that can't be gone for those alone of which
+/// nothing is known where it begins.
+fn pass_counters(
+    counters: &mut [Counter],
+    (from, to, is_open): (usize, Option<usize>, bool),
+    cells: &[Cell],
+    ways: &mut Vec<WayOut>,
+    state: &mut State,
+    memory: &mut Heap,
+) {
+    for counter in counters.iter_mut() {
+        let location = counter.cell.location;
+        if is_open | range_in(cells, location).is_none() {
+            let cost = counter.pass(cells, state, memory);
+            let way = WayOut {
+                from,
+                to,
+                location,
+                cost,
+            };
+            memory.push(ways, way);
         }
     }
 }

@@ -1,4 +1,4 @@
-//! What the places of a meter take.
+//! Turns that the places of a meter take.
 use crate::meter::{Meter, set_weight};
 use crate::ways::{FunctionFuel, METER, constant_at};
 use fit_code::{Function, SourceLine};

@@ -58,6 +58,14 @@ impl LinearSum {
         }
     }
 
+    /// Adds the terms of a form so many times.
+    fn add_times(&mut self, times: i64, terms: &[FormTerm]) {
+        for term in terms {
+            let coefficient = i64::try_from(term.coefficient).unwrap_or(i64::MAX);
+            self.add(term.location, times.saturating_mul(coefficient));
+        }
+    }
+
     /// Adds what a block's terms come to at its beginning, where the state is that on the way there.
     pub fn add_terms(&mut self, state: &State, terms: &[Term]) {
         for term in terms {
@@ -65,10 +73,7 @@ impl LinearSum {
             let mut more = i64::MAX;
             if let Some(form) = state.form(term.location) {
                 let others: ArrayVec<FormTerm, 8> = form.terms();
-                for other in others.as_slice() {
-                    let coefficient = i64::try_from(other.coefficient).unwrap_or(i64::MAX);
-                    self.add(other.location, times.saturating_mul(coefficient));
-                }
+                self.add_times(times, others.as_slice());
                 more = times.saturating_mul(form.constant());
             } else if let Some(range) = state.range(term.location) {
                 (_, more) = ends_of(times, range);

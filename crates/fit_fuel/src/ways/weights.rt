@@ -1,4 +1,4 @@
-//! What the words of a block weigh, in turns at worst.
+//! Weights of a block's words, in turns at worst.
 use crate::task::FuelTask;
 use crate::totals::called_by;
 use fit_code::End;

@@ -2,7 +2,7 @@
 //! one of these mostly ends it.
 use crate::cells::thresholds::Thresholds;
 use crate::live::effects_in;
-use fit_code::{Function, Step};
+use fit_code::{Block, Function, Step};
 use sbx_domain::frame_word_of;
 use v8_formats::Operand;
 use v8_meaning::{Loading, Op, Operation, Transfer, operation_of};
@@ -90,12 +90,21 @@ fn run(held: &mut [HeldWord; 32], frame: u32, step: &Step) -> [HeldWord; 2] {
         _ => UNKNOWN,
     };
     let writes = effects_in(frame, step).writes;
-    for number in 1..32 {
-        if writes >> number & 1 == 1 {
-            held[number] = result;
+    for number in 1..32u8 {
+        if writes.has(number) {
+            held[usize::from(number)] = result;
         }
     }
     compared
+}
+
+/// What registers hold where a block begins: what their locations had there.
+fn held_at_start() -> [HeldWord; 32] {
+    let mut held = [UNKNOWN; 32];
+    for location in 0..32u16 {
+        held[usize::from(location)].location = location;
+    }
+    held
 }
 
 impl Thresholds {
@@ -126,14 +135,16 @@ impl Thresholds {
     /// Adds the numbers that a function compares its locations with, and those beside them.
     pub fn add_compared(&mut self, function: &Function) {
         for block in function.blocks.as_slice() {
-            let mut held = [UNKNOWN; 32];
-            for location in 0..32u16 {
-                held[usize::from(location)].location = location;
-            }
-            for step in block.steps.as_slice() {
-                let [first, second] = run(&mut held, function.frame, step);
-                self.compare(first, second);
-            }
+            self.add_compared_in(function.frame, block);
+        }
+    }
+
+    /// The same of a block in a frame of so many bytes.
+    fn add_compared_in(&mut self, frame: u32, block: &Block) {
+        let mut held = held_at_start();
+        for step in block.steps.as_slice() {
+            let [first, second] = run(&mut held, frame, step);
+            self.compare(first, second);
         }
     }
 }

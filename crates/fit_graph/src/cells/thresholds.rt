@@ -84,6 +84,21 @@ impl Growth<'_> {
     }
 }
 
+/// Adds the numbers of the second of two locations as those of the first one, unless these are many.
+fn copy_numbers(memory: &mut Heap, numbers: &mut Vec<(u16, i32)>, (to, from): (u16, u16)) {
+    let count = numbers.len();
+    for place in 0..count {
+        let entries = numbers.as_slice();
+        if place < entries.len() && entries[place].0 == from {
+            let number = entries[place].1;
+            memory.push(numbers, (to, number));
+        }
+    }
+    if numbers.len().saturating_sub(count) > MOST {
+        numbers.truncate(count);
+    }
+}
+
 impl Thresholds {
     /// Adds numbers of a location.
     pub(crate) fn add(&mut self, location: u16, numbers: &[i32]) {
@@ -108,18 +123,8 @@ impl Thresholds {
     /// Locations get the numbers of those that they are compared with, unless these are many.
     fn hand_on(&mut self) {
         let (memory, numbers) = (&mut self.memory, &mut self.numbers);
-        for (to, from) in self.pairs.as_slice() {
-            let count = numbers.len();
-            for place in 0..count {
-                let entries = numbers.as_slice();
-                if place < entries.len() && entries[place].0 == *from {
-                    let number = entries[place].1;
-                    memory.push(numbers, (*to, number));
-                }
-            }
-            if numbers.len().saturating_sub(count) > MOST {
-                numbers.truncate(count);
-            }
+        for pair in self.pairs.as_slice() {
+            copy_numbers(memory, numbers, *pair);
         }
     }
 

@@ -1,4 +1,4 @@
-//! Which ways go back, and to which heads.
+//! Ways that go back, and their heads.
 use crate::graph::above::{places_above, stands_above};
 use crate::graph::loops::{Loop, last_around};
 use crate::graph::reach::reach;
@@ -48,22 +48,29 @@ impl Graph {
         }
     }
 
+    /// The blocks that go back to a block that is on each way to them, where it is known which places stand above
+    /// others.
+    fn latches_of(&self, memory: &mut Heap, above: &[usize], head: usize) -> Vec<usize> {
+        let mut latches = Vec::new(memory.alloc);
+        let predecessors = self.predecessors.as_slice();
+        if head < predecessors.len() {
+            for from in predecessors[head].as_slice() {
+                if let Some(true) = self.goes_to_head(above, *from, head) {
+                    memory.push(&mut latches, *from);
+                }
+            }
+        }
+        latches
+    }
+
     /// The loops whose heads are on each way to their blocks, one for each head, by their heads' order: an outer one
     /// before an inner one.
     pub fn loops(&self, memory: &mut Heap) -> Vec<Loop> {
         let mut loops = Vec::new(memory.alloc);
-        let predecessors = self.predecessors.as_slice();
-        let above = places_above(memory, &self.order, predecessors);
+        let above = places_above(memory, &self.order, self.predecessors.as_slice());
         for head in self.order.blocks.as_slice() {
             let head = *head;
-            let mut latches = Vec::new(memory.alloc);
-            if head < predecessors.len() {
-                for from in predecessors[head].as_slice() {
-                    if let Some(true) = self.goes_to_head(above.as_slice(), *from, head) {
-                        memory.push(&mut latches, *from);
-                    }
-                }
-            }
+            let latches = self.latches_of(memory, above.as_slice(), head);
             if !latches.is_empty() {
                 let mut holds = self.come_from(memory, latches.as_slice(), head);
                 let slots = holds.as_mut_slice();

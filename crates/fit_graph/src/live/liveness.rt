@@ -1,9 +1,11 @@
-//! Which locations are live: read later before they are written, whatever the words on the way are.
+//! Liveness: the locations that are read later before they are written, whatever the words on the way are.
 use crate::cells::FunctionShape;
-use crate::live::effects::{LOST, bits_of, effects_of, of_registers};
+use crate::live::effects::{effects_of, of_registers};
 use crate::live::locations::LocationSet;
 use crate::means::Means;
-use fit_code::{Block, End, Function, NO_LINE, Program, Step};
+use fit_code::{Block, End, Function, NO_LINE, Program, RegisterSet, Step, operands_read};
+use v8_formats::Three;
+use v8_word::Reg;
 
 /// How many of %o0 to %o5 a function takes for granted at its entry, and how many its callers do behind a call.
 #[derive(Clone, Copy, PartialEq, Eq)]
@@ -15,39 +17,41 @@ pub struct RegisterCounts {
 /// As many rounds as liveness may take over the program.
 const ROUNDS: usize = 20_000;
 
-/// The first ones of six registers, each of which has a bit.
-fn first_of_six(count: u8) -> u32 {
-    (1u32 << count.min(6)).saturating_sub(1)
+/// The numbers of %o0 and %i0.
+const OUT: u8 = 8;
+
+const IN: u8 = 24;
+
+/// The first ones of %o0 to %o5, or, from %i0 on, of the ins.
+fn first_of_six(first: u8, count: u8) -> RegisterSet {
+    RegisterSet::range(first, count.min(6))
 }
 
-/// One more than the last one of the first six of some registers; 0 where none of them is there.
-fn last_of_six(registers: u32) -> u8 {
-    32u32
-        .saturating_sub((registers & 0x3f).leading_zeros())
-        .min(6) as u8
+/// The registers that a return of a function with a window and so many results reads: those of its own that the results
+/// are taken from, and what RESTORE works on.
+fn read_by_restore(fields: &Three, results: u8) -> RegisterSet {
+    let rd = fields.rd.number();
+    let taken = first_of_six(IN, results);
+    if fields.rd == Reg::G0 {
+        return taken;
+    }
+    let given = if (8 <= rd) & (rd < 14) {
+        RegisterSet::range(rd + 16, 1)
+    } else {
+        RegisterSet::NONE
+    };
+    taken
+        .difference(given)
+        .union(operands_read(fields.rs1, fields.operand2))
 }
 
-/// The registers that the end of a block reads, each of which has a bit, in a function of so many results. A return
-/// reads those of its own function that the results are taken from.
-pub fn read_at_end(function: &Function, results: u8, end: &End) -> u32 {
+/// The registers that the end of a block reads in a function of so many results.
+pub fn read_at_end(function: &Function, results: u8, end: &End) -> RegisterSet {
     match end {
-        End::Return(fields) if function.framed => {
-            let rd = fields.rd.number();
-            let given = if (8 <= rd) & (rd < 14) {
-                1u32 << (rd + 16)
-            } else {
-                0
-            };
-            let operands = if rd == 0 {
-                0
-            } else {
-                bits_of(fields.rs1, fields.operand2)
-            };
-            (first_of_six(results) << 24 & !given) | operands
-        }
-        End::Return(_) => first_of_six(results) << 8,
-        End::Exit => 1 << 8,
-        End::Jump(_) | End::Branch { .. } => 0,
+        End::Return(fields) if function.framed => read_by_restore(fields, results),
+        End::Return(_) => first_of_six(OUT, results),
+        End::Exit => first_of_six(OUT, 1),
+        End::Jump(_) | End::Branch { .. } => RegisterSet::NONE,
     }
 }
 
@@ -71,7 +75,7 @@ fn live_behind(
         behind.pass(&effects_of(function.frame, slot));
     }
     let reads = read_at_end(function, results, &block.end);
-    behind.pass(&of_registers(reads, 0));
+    behind.pass(&of_registers(reads, RegisterSet::NONE));
     behind
 }
 
@@ -87,16 +91,31 @@ fn pass_step(
     if let Some(callee) = step.callee {
         if callee < counts.len() {
             let RegisterCounts { params, results } = counts[callee];
-            let asked = last_of_six(live.registers() >> 8);
+            let asked = live.registers().count_of_six(OUT);
             is_new = asked > results;
             counts[callee].results = results.max(asked);
-            live.pass(&of_registers(first_of_six(params) << 8, LOST));
+            let given = first_of_six(OUT, params);
+            live.pass(&of_registers(given, RegisterSet::LOST_BY_CALL));
         }
     } else {
         live.pass(&effects_of(frame, &step.instr));
     }
     if let Some(slot) = &step.slot {
         live.pass(&effects_of(frame, slot));
+    }
+    is_new
+}
+
+/// The same before all steps of a block.
+fn pass_steps(
+    counts: &mut [RegisterCounts],
+    live: &mut LocationSet,
+    frame: u32,
+    block: &Block,
+) -> bool {
+    let mut is_new = false;
+    for step in block.steps.as_slice().iter().rev() {
+        is_new |= pass_step(counts, live, frame, step);
     }
     is_new
 }
@@ -118,17 +137,31 @@ fn pass_function(
     let mut is_new = false;
     for place in shape.order.blocks.as_slice().iter().rev() {
         if (*place < blocks.len()) & (*place < live.len()) {
-            let block = &blocks[*place];
-            let mut found = live_behind(function, results, block, live);
-            for step in block.steps.as_slice().iter().rev() {
-                is_new |= pass_step(counts, &mut found, function.frame, step);
-            }
+            let mut found = live_behind(function, results, &blocks[*place], live);
+            is_new |= pass_steps(counts, &mut found, function.frame, &blocks[*place]);
             is_new |= live[*place].add(&found);
         }
     }
-    let from = if function.framed { 24 } else { 8u32 };
+    let from = if function.framed { IN } else { OUT };
     if (number > 0) & !live.is_empty() {
-        counts[number].params = last_of_six(live[0].registers() >> from).max(params);
+        counts[number].params = live[0].registers().count_of_six(from).max(params);
+    }
+    is_new
+}
+
+/// Goes over all functions once, of these shapes, those that are called first. Says whether more is live or asked for
+/// than before.
+fn pass_all(
+    counts: &mut [RegisterCounts],
+    functions: &[Function],
+    shapes: &mut [FunctionShape],
+) -> bool {
+    let mut is_new = false;
+    for number in (0..functions.len()).rev() {
+        if number < shapes.len() {
+            let (function, shape) = (&functions[number], &mut shapes[number]);
+            is_new |= pass_function(counts, number, function, shape);
+        }
     }
     is_new
 }
@@ -151,13 +184,7 @@ pub fn find_live(
     let mut is_new = true;
     for _ in 0..ROUNDS {
         if is_new {
-            is_new = false;
-            for number in (0..functions.len()).rev() {
-                if number < shapes.len() {
-                    let (function, shape) = (&functions[number], &mut shapes[number]);
-                    is_new |= pass_function(counts, number, function, shape);
-                }
-            }
+            is_new = pass_all(counts, functions, shapes);
         }
     }
     if is_new {

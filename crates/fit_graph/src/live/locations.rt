@@ -1,5 +1,6 @@
 //! Sets of locations.
 use crate::live::effects::Effects;
+use fit_code::RegisterSet;
 
 /// So many words of 64 bits have a bit for each location.
 const WORDS: usize = 17;
@@ -46,7 +47,7 @@ impl LocationSet {
 
     /// Takes out what is written so, and puts in what is read.
     pub fn pass(&mut self, effects: &Effects) {
-        self.words[0] = self.words[0] & !u64::from(effects.writes) | u64::from(effects.reads);
+        self.words[0] = self.words[0] & !effects.writes.numbers() | effects.reads.numbers();
         if let Some(location) = effects.word_written {
             self.words[usize::from(location / 64) % WORDS] &= !(1 << (location % 64));
         }
@@ -55,17 +56,19 @@ impl LocationSet {
         }
     }
 
-    /// The registers of the set, each of which has a bit.
-    pub fn registers(&self) -> u32 {
-        (self.words[0] & 0xffff_ffff) as u32
+    /// The registers of the set.
+    pub fn registers(&self) -> RegisterSet {
+        RegisterSet::of_numbers(self.words[0])
     }
 
     /// Puts another set's locations in. Says whether the set grew.
     pub fn add(&mut self, other: &LocationSet) -> bool {
-        let before = *self;
+        let mut grew = false;
         for place in 0..WORDS {
-            self.words[place] |= other.words[place];
+            let more = other.words[place] & !self.words[place];
+            grew |= more != 0;
+            self.words[place] |= more;
         }
-        *self != before
+        grew
     }
 }

@@ -22,16 +22,27 @@ fn add_exits(
 ) {
     for from in 0..heads.len().min(blocks.len()) {
         if within.has(from) {
-            for way in blocks[from].end.ways() {
-                if let Some(to) = way
-                    && (to < heads.len()) & !within.has(to)
-                    && !heads[to]
-                {
-                    let exit = LoopExit { from, to };
-                    if !exits.contains(&exit) {
-                        memory.push(exits, exit);
-                    }
-                }
+            add_exits_of(memory, (from, blocks[from].end), within, heads, exits);
+        }
+    }
+}
+
+/// The same of one block, by its number and its end.
+fn add_exits_of(
+    memory: &mut Heap,
+    (from, end): (usize, End),
+    within: &Loop,
+    heads: &[bool],
+    exits: &mut Vec<LoopExit>,
+) {
+    for way in end.ways() {
+        if let Some(to) = way
+            && (to < heads.len()) & !within.has(to)
+            && !heads[to]
+        {
+            let exit = LoopExit { from, to };
+            if !exits.contains(&exit) {
+                memory.push(exits, exit);
             }
         }
     }
@@ -39,14 +50,9 @@ fn add_exits(
 
 /// Whether a block calls a function, or begins a loop.
 fn is_dear(blocks: &[Block], loops: &[Loop], block: usize) -> bool {
-    let mut is_dear = false;
+    let mut is_dear = block < blocks.len() && blocks[block].calls();
     for within in loops {
         is_dear |= within.head == block;
-    }
-    if block < blocks.len() {
-        for step in blocks[block].steps.as_slice() {
-            is_dear |= step.callee.is_some();
-        }
     }
     is_dear
 }
@@ -73,15 +79,22 @@ fn comes_to_dear(
                 return true;
             }
             if block < blocks.len() {
-                for way in blocks[block].end.ways() {
-                    if let Some(to) = way {
-                        memory.push(&mut open, to);
-                    }
-                }
+                memory.push_ways(&mut open, blocks[block].end);
             }
         }
     }
     false
+}
+
+/// The ways out of loops that have a place of the meter, each once.
+fn exits_of(memory: &mut Heap, blocks: &[Block], loops: &[Loop], heads: &[bool]) -> Vec<LoopExit> {
+    let mut exits = Vec::new(memory.alloc);
+    for within in loops {
+        if within.head < heads.len() && heads[within.head] {
+            add_exits(memory, blocks, within, heads, &mut exits);
+        }
+    }
+    exits
 }
 
 /// The ways out of loops that have a place of the meter, behind which a call may come, or a loop without a place.
@@ -91,12 +104,7 @@ pub fn dear_exits(
     loops: &[Loop],
     heads: &[bool],
 ) -> Vec<LoopExit> {
-    let mut exits = Vec::new(memory.alloc);
-    for within in loops {
-        if within.head < heads.len() && heads[within.head] {
-            add_exits(memory, blocks, within, heads, &mut exits);
-        }
-    }
+    let exits = exits_of(memory, blocks, loops, heads);
     let mut dear = Vec::new(memory.alloc);
     for exit in exits.as_slice() {
         if comes_to_dear(memory, blocks, loops, heads, exit.to) {

@@ -2,7 +2,7 @@
 //! loops is one, but for those that a counter bounds. A loop so bounded that stands behind a loop without bound, and in
 //! no loop, has one all the same: else each round of that loop would pay for it, since the run may go on there. For the
 //! same reason there is one on each way out of a loop behind which a call may come.
-use crate::metering::exits::dear_exits;
+use crate::metering::exits::{LoopExit, dear_exits};
 use crate::metering::registers::free_register;
 use fit_checks::{insert_instr, push_block, register, shared_end, telling};
 use fit_code::{Block, End, Function, Heap, NO_LINE, SourceLine};
@@ -80,7 +80,7 @@ fn word_move(meter: &Meter, stores: bool) -> Option<Instr> {
 fn meter_for(function: &mut Function, turns: u64) -> Option<Meter> {
     let (frame, free) = (function.frame, free_register(function));
     let location = match free {
-        Some(number) => u16::from(number),
+        Some(free) => u16::from(free.number()),
         None if function.framed & (frame <= 4096 - 8) => {
             function.frame = frame.saturating_add(8);
             (frame.saturating_sub(64) / 4 + 32) as u16
@@ -91,7 +91,7 @@ fn meter_for(function: &mut Function, turns: u64) -> Option<Meter> {
     let count = (turns / unit).clamp(1, GREATEST);
     Some(Meter {
         location,
-        register: register(free.unwrap_or(7)),
+        register: free.unwrap_or(register(7)),
         scratch: register(5),
         count: u32::try_from(count).unwrap_or(1),
         unit: u32::try_from(unit).unwrap_or(1),
@@ -232,6 +232,24 @@ fn read_count(meter: &Meter) -> Instr {
     }
 }
 
+/// Lets the exits that go to a block go to another one; gives the line of the last one of them.
+fn lead_exits(
+    blocks: &mut [Block],
+    exits: &[LoopExit],
+    to: usize,
+    behind: usize,
+) -> Option<SourceLine> {
+    let mut line = None;
+    for exit in exits {
+        if (exit.to == to) & (exit.from < blocks.len()) {
+            let block = &mut blocks[exit.from];
+            block.end = led(block.end, to, behind);
+            line = Some(block.line);
+        }
+    }
+    line
+}
+
 /// Puts places of a meter on dear ways out of loops that have it, one for all of them that lead to a block. Behind it
 /// the count is read once more: so it is known there, and what comes then is paid by what the place takes.
 fn put_at_exits(
@@ -244,14 +262,7 @@ fn put_at_exits(
     let exits = dear_exits(memory, blocks.as_slice(), loops, heads);
     for to in 0..heads.len() {
         let behind = blocks.len();
-        let mut line = None;
-        for exit in exits.as_slice() {
-            if (exit.to == to) & (exit.from < blocks.len()) {
-                let block = &mut blocks[exit.from];
-                block.end = led(block.end, to, behind);
-                line = Some(block.line);
-            }
-        }
+        let line = lead_exits(blocks.as_mut_slice(), exits.as_slice(), to, behind);
         if let Some(line) = line {
             let read = [Some(read_count(meter))];
             push_block(memory, blocks, &read, (End::Jump(to), None), line);

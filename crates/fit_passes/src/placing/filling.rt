@@ -1,6 +1,6 @@
 //! Filling delay slots, and what becomes of blocks that control doesn't come to.
-use fit_checks::{CODES, TestKind, Y, number_in, push_instrs, use_of};
-use fit_code::{Block, End, Heap, Program, Step};
+use fit_checks::{TestKind, number_in, push_instrs, use_of};
+use fit_code::{Block, End, Function, Heap, Program, RegisterSet, Step};
 use fit_ranges::Ranges;
 use v8_meaning::{Operation, Transfer, operation_of};
 
@@ -16,7 +16,7 @@ fn is_movable(step: &Step) -> bool {
             | Operation::SetHigh(_)
             | Operation::Transfer(Transfer::Load(_) | Transfer::Store(_), _)
     );
-    is_plain & ((reads | writes) & (CODES | Y) == 0)
+    is_plain & reads.union(writes).is_disjoint(RegisterSet::CODES_AND_Y)
 }
 
 /// Whether a step may go to a slot past the one after it, which sets codes: neither has to do with what the other
@@ -24,8 +24,9 @@ fn is_movable(step: &Step) -> bool {
 fn may_pass(step: &Step, later: &Step) -> bool {
     let (reads, writes) = use_of(0, step);
     let (later_reads, later_writes) = use_of(0, later);
-    let is_apart = (later_reads & writes == 0) & (later_writes & (reads | writes) == 0);
-    is_apart & later.callee.is_none() & (later_writes & CODES != 0) && is_movable(step)
+    let is_apart = later_reads.is_disjoint(writes) & later_writes.is_disjoint(reads.union(writes));
+    let sets_codes = !later_writes.is_disjoint(RegisterSet::CODES);
+    is_apart & later.callee.is_none() & sets_codes && is_movable(step)
 }
 
 /// Fills the slot of a block's end, where it has one, by the last step or, at a branch, by the one before the
@@ -73,17 +74,22 @@ fn fill_calls(steps: &mut Vec<Step>) {
 /// index fails: nothing is known where they begin, and the verifier refuses a block that reads what no cell names.
 pub fn fill(memory: &mut Heap, program: &mut Program, ranges: &Ranges) {
     for (number, function) in program.functions.iter_mut().enumerate() {
-        for (place, block) in function.blocks.iter_mut().enumerate() {
-            if ranges.reaches(number, place) {
-                fill_end(block, place.saturating_add(1));
-                fill_calls(&mut block.steps);
-            } else {
-                let instrs = number_in(EXIT_WORD, TestKind::Index.exit_word(block.line));
-                block.steps.clear();
-                block.end = End::Exit;
-                block.slot = None;
-                push_instrs(memory, &mut block.steps, &instrs, block.line);
-            }
+        fill_function(memory, (number, function), ranges);
+    }
+}
+
+/// The same of a function, by its number.
+fn fill_function(memory: &mut Heap, (number, function): (usize, &mut Function), ranges: &Ranges) {
+    for (place, block) in function.blocks.iter_mut().enumerate() {
+        if ranges.reaches(number, place) {
+            fill_end(block, place.saturating_add(1));
+            fill_calls(&mut block.steps);
+        } else {
+            let instrs = number_in(EXIT_WORD, TestKind::Index.exit_word(block.line));
+            block.steps.clear();
+            block.end = End::Exit;
+            block.slot = None;
+            push_instrs(memory, &mut block.steps, &instrs, block.line);
         }
     }
 }

@@ -9,16 +9,21 @@ fn count_ways(memory: &mut Heap, blocks: &[Block], order: &[usize]) -> Vec<usize
     let found = counts.as_mut_slice();
     for block in order {
         if *block < blocks.len() {
-            for way in blocks[*block].end.ways() {
-                if let Some(to) = way
-                    && to < found.len()
-                {
-                    found[to] = found[to].saturating_add(1);
-                }
-            }
+            count_end(found, blocks[*block].end);
         }
     }
     counts
+}
+
+/// Counts the ways of an end.
+fn count_end(counts: &mut [usize], end: End) {
+    for way in end.ways() {
+        if let Some(to) = way
+            && to < counts.len()
+        {
+            counts[to] = counts[to].saturating_add(1);
+        }
+    }
 }
 
 /// The block that a block jumps to and that nothing else leads to, if it may become a part of it. Not of a function's
@@ -58,11 +63,16 @@ fn append(memory: &mut Heap, blocks: &mut [Block], block: usize, part: usize) {
 pub fn merge(memory: &mut Heap, blocks: &mut [Block], order: &[usize]) {
     let counts = count_ways(memory, blocks, order);
     for block in order {
-        for _ in 0..blocks.len() {
-            let Some(part) = next_part(blocks, *block, counts.as_slice()) else {
-                break;
-            };
-            append(memory, blocks, *block, part);
-        }
+        take_in(memory, blocks, *block, counts.as_slice());
+    }
+}
+
+/// Lets a block take in what it jumps to and nothing else leads to, one block after the other.
+fn take_in(memory: &mut Heap, blocks: &mut [Block], block: usize, counts: &[usize]) {
+    for _ in 0..blocks.len() {
+        let Some(part) = next_part(blocks, block, counts) else {
+            break;
+        };
+        append(memory, blocks, block, part);
     }
 }

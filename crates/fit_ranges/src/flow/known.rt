@@ -1,5 +1,5 @@
-//! What is known of a function's blocks so far.
-use fit_code::{Block, Function, Heap};
+//! The knowledge of a function's blocks so far.
+use fit_code::{Block, Function, Heap, RegisterSet};
 use fit_graph::{Effects, LocationSet, effects_in, effects_of, range_from};
 use sbx_range::Cell;
 use std::mem;
@@ -49,8 +49,8 @@ pub fn replace(slot: &mut Option<Vec<Cell>>, new: Option<Vec<Cell>>) -> bool {
 /// Adds what is read and written: one word of the frame at most, which is both at times.
 fn add_effects(touched: &mut LocationSet, effects: &Effects) {
     touched.pass(&Effects {
-        reads: effects.reads | effects.writes,
-        writes: 0,
+        reads: effects.reads.union(effects.writes),
+        writes: RegisterSet::NONE,
         word_read: effects.word_read.or(effects.word_written),
         word_written: None,
     });

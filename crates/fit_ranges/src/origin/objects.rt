@@ -1,4 +1,4 @@
-//! Where the words of an address's register have to lie.
+//! Bounds in which the word of an address's register has to lie.
 use crate::origin::Origin;
 use fit_code::{Object, Program, Region};
 use sbx_range::is_single;

@@ -1,9 +1,8 @@
-//! What is known of the operands of a block's steps.
-use fit_code::{Block, Heap};
-use fit_graph::run_step;
+//! Ranges of the operands of a block's steps.
+use fit_code::{Heap, Step};
 use sbx_domain::{State, frame_word_of};
 use sbx_range::{Range, known};
-use std::alloc::{AllocError, Global};
+use std::alloc::Global;
 use v8_formats::{Instr, Operand, Reg};
 use v8_meaning::{Operation, operation_of};
 
@@ -11,7 +10,7 @@ use v8_meaning::{Operation, operation_of};
 /// the step has none.
 pub type OperandRanges = [Option<Range>; 2];
 
-/// The operands of each step of a block.
+/// The operands of the steps of a block, up to one of them.
 #[derive(Drop)]
 pub struct Trace {
     pub operands: Vec<OperandRanges>,
@@ -44,17 +43,16 @@ fn range_of(operand: Operand, state: &State) -> Option<Range> {
     }
 }
 
-/// The operands of a block's steps, where the state is that before the first one.
-pub fn trace_of(
-    alloc: Global,
-    frame: u32,
-    results: &[Vec<Range>],
-    block: &Block,
-    state: &mut State,
-) -> Result<Trace, AllocError> {
-    let mut memory = Heap::new(alloc);
-    let mut operands = Vec::new(alloc);
-    for step in block.steps.as_slice() {
+impl Trace {
+    /// The operands of no step.
+    pub fn new(alloc: Global) -> Trace {
+        Trace {
+            operands: Vec::new(alloc),
+        }
+    }
+
+    /// Adds the operands of the next step, where the state is that before it.
+    pub fn push(&mut self, memory: &mut Heap, frame: u32, step: &Step, state: &State) {
         let known = match operands_of(frame, &step.instr) {
             Some((first, second)) => [
                 range_of(Operand::Register(first), state),
@@ -62,13 +60,9 @@ pub fn trace_of(
             ],
             None => [None, None],
         };
-        memory.push(&mut operands, known);
-        run_step(frame, results, step, state);
+        memory.push(&mut self.operands, known);
     }
-    memory.told(Trace { operands })
-}
 
-impl Trace {
     /// The operands of a step, by its place in the block.
     pub fn at(&self, place: usize) -> OperandRanges {
         if place < self.operands.len() {
