@@ -1,0 +1,31 @@
+//! The bound.
+ghost use Rattle.std.specs.Prelude.{◌≡◌, ◌≤◌, ◌<◌, ◌*◌, ◌^◌};
+ghost use Rattle.sbx_flat.specs.Runs.{weight_of};
+ghost use Rattle.inspect_cycles.specs.Cycles.{AreMost, cycles_of};
+
+use crate::table::{CycleTable, cycles_of};
+use sbx_flat::{asked, weight_of};
+use sbx_verify::{Accepted, budget};
+use v8_meaning::Operation;
+
+/// What a step of an operation takes for each turn that it counts, in cycles, rounded up.
+#[tactic(auto, using(sbx_flat::proofs::Turns::operation_weighs))]
+fn cycles_a_turn(table: &CycleTable, operation: &Operation) -> u64
+    ensures most { cycles_of table.now operation.now ≤ result * weight_of operation.now }
+    ensures few { result < 2 ^ 32 }
+{
+    u64::from(cycles_of(table, operation)).div_ceil(weight_of(operation))
+}
+
+/// How many cycles a run of an accepted image takes at most, by a table of a processor's worst cases: its budget, times
+/// what the dearest of its instructions takes for each turn that it counts.
+pub fn most_cycles(table: &CycleTable, accepted: &Accepted) -> u128
+    ensures { AreMost table.now accepted.now result }
+{
+    let image = accepted.image();
+    let mut dearest = u64::from(table.plain);
+    for word in image.words() {
+        dearest = dearest.max(cycles_a_turn(table, &asked(*word)));
+    }
+    u128::from(dearest) * u128::from(budget(image))
+}
