@@ -13,7 +13,8 @@ read.
 Compares `inspect check` with `.told` for each source of `check`, one for each cause of a fault, looks whether the
 first that it tells is what `sandbox asm` tells, and whether docs/faults.md has each sentence; `inspect map`, and
 `--source`, for some of the programs. Compares `inspect machine` with the states of `vectors`, by words and by a
-binary, and tries each line that isn't right. Tries its statuses and its version.
+binary, and tries each line that isn't right. Compares `inspect cycles` of the examples and of programs in C with the
+bounds of a model (cycles.py). Tries its statuses and its version.
 
 These files weren't made by the program: those of images by another reader of the format (docs/image.md), those of
 refusals by hand, from the source, docs/rules.md and docs/ranges.md, those of runs and turns by a model of the machine
@@ -29,6 +30,7 @@ from subprocess import DEVNULL
 sys.dont_write_bytecode = True
 sys.path.insert(0, f"{os.path.dirname(os.path.dirname(os.path.abspath(__file__)))}/lib")
 from asked import HELLO, HERE, Inspections, input_of
+from cycles import try_cycles
 from faults import try_faults
 from machines import try_machines
 from objects import try_objects
@@ -136,7 +138,7 @@ def try_usage(asked):
 
 def main(words):
     Words(__doc__).parse_args(words)
-    built("sandbox", "inspect")
+    built("sandbox", "inspect", "fit")
     tally = Tally("inspect")
     with tempfile.TemporaryDirectory() as work:
         asked = Inspections(tally, work)
@@ -154,6 +156,7 @@ def main(words):
         try_objects(asked)
         try_faults(asked)
         try_machines(asked)
+        try_cycles(asked)
         try_usage(asked)
     return tally.end()
 

@@ -102,7 +102,7 @@ fn tell<F: Read, O: Write>(
 }
 
 /// A stop at the file of a path.
-fn at_file<'a>(path: &'a str, stop: CommandStop) -> InspectFault<'a> {
+pub fn at_file<'a>(path: &'a str, stop: CommandStop) -> InspectFault<'a> {
     match stop {
         CommandStop::File => InspectFault::File(path, FileFault::Failing),
         stop => InspectFault::Stop(stop),

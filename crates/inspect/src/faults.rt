@@ -1,13 +1,15 @@
 //! Why nothing is told, and how that is told.
 use cmd_command::CommandStop;
 use cmd_files::FileFault;
+use inspect_cycles::TableFault;
 use inspect_start::{StartCause, StartFault};
 use std::io::Write;
 
 /// The status where a file or a stream fails.
 const FILE: u8 = 4;
 
-/// The status where a source or a map is no image's or another one's, or a machine's file doesn't say what it has to.
+/// The status where a source or a map is no image's or another one's, or a machine's file, or a table, doesn't say what
+/// it has to.
 const BYTES: u8 = 2;
 
 /// Why nothing is told.
@@ -25,6 +27,8 @@ pub enum InspectFault<'a> {
     Input(FileFault),
     /// There is something wrong with a line of the file at the second path, or with the binary at the first.
     Start(&'a str, &'a str, StartFault),
+    /// The file at a path is no table of cycles.
+    Table(&'a str, TableFault),
 }
 
 impl InspectFault<'_> {
@@ -45,6 +49,10 @@ impl InspectFault<'_> {
                 BYTES
             }
             InspectFault::Start(binary, file, fault) => report_start(rt, binary, file, fault),
+            InspectFault::Table(path, fault) => {
+                let _ = eprintln!(rt; "inspect: {path}: {fault}");
+                BYTES
+            }
             InspectFault::Input(fault) => {
                 let _ = eprintln!(rt; "inspect: input: {fault}");
                 FILE

@@ -53,7 +53,7 @@ pub fn tell_machine<O: Write>(
 }
 
 /// All bytes of the file at a path.
-fn bytes_of<'a>(rt: &HostRuntime, path: &'a str) -> Result<Vec<u8>, InspectFault<'a>> {
+pub fn bytes_of<'a>(rt: &HostRuntime, path: &'a str) -> Result<Vec<u8>, InspectFault<'a>> {
     let mut file = opened(rt, path)?;
     match read_whole(rt.alloc(), &mut file, MOST) {
         Ok(bytes) => Ok(bytes),

@@ -4,6 +4,7 @@
 
 mod by_source;
 mod commands;
+mod cycles;
 mod faults;
 mod machine;
 mod naming;
@@ -137,6 +138,9 @@ fn answer<'a>(rt: &HostRuntime, words: &'a [String]) -> Result<u8, InspectFault<
 
 /// Does what the words ask for, and gives the exit status. What goes wrong is told on standard error.
 fn status_of(rt: &HostRuntime, words: &[String]) -> u8 {
+    if let Some(status) = cycles::answer(rt, words) {
+        return status;
+    }
     if let Some(status) = by_source::answer(rt, words) {
         return status;
     }

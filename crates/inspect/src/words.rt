@@ -2,6 +2,7 @@
 ghost use Rattle.std.specs.Prelude.{IfSome};
 ghost use Rattle.inspect.specs.Jobs.{IsInRange};
 
+use crate::cycles::cycles;
 use crate::machine::InspectSetting;
 use cmd_command::{Windows, turns, window_count};
 use inspect_start::address;
@@ -72,6 +73,8 @@ pub const USAGE: &str =
   check SRC    tells what is wrong with a source: each line's first fault, or the rule that
                its image breaks, at the line
   map SRC      tells where the lines and the labels of a source stand in its image
+  cycles IMG   tells what no run of an accepted image takes more than, in cycles, by a table of
+               a processor's worst cases
   --version    of the script ./inspect: the version, the commit of the sources, and the kit
 
 run, trace, states, machine: --windows N is the count of register windows, 4 to 32 (8);
@@ -80,7 +83,9 @@ machine: --binary BIN puts the bytes of BIN into RAM, from --at ADDRESS on (0).
 image, run, why, check: --json tells all of it in one line, a JSON object.
 image, trace, why: --source SRC tells it by the names and the lines of its source, or of the
                    map that `inspect map` made of it.
-Status 0: told. 2: no image. 3: other words. 4: a file, the input or the output fails. 5: memory.
+cycles: --table FILE is the table, --max-cycles N what the bound may be at most, in decimal.
+Status 0: told. 1: the bound of cycles is greater. 2: no image. 3: other words. 4: a file,
+the input or the output fails. 5: memory.
 ";
 
 /// What the number of windows is.
@@ -88,6 +93,9 @@ const WINDOWS: &str = "--windows wants a decimal number from 4 to 32";
 
 /// What the limit of turns is.
 const LIMIT: &str = "--limit wants a decimal number from 0 to 9999999999";
+
+/// What the most cycles are.
+const CYCLES: &str = "--max-cycles wants a decimal number from 0 to 18446744073709551615";
 
 /// What the address of a binary is.
 const AT: &str = "--at wants an address, as 0x4000";
@@ -270,6 +278,7 @@ pub fn number_wanted<S: AsStr>(words: &[S]) -> Option<&'static str> {
             "--windows" if window_count(Some(word)).is_none() => return Some(WINDOWS),
             "--limit" if turns(Some(word)).is_none() => return Some(LIMIT),
             "--at" if address(word).is_none() => return Some(AT),
+            "--max-cycles" if cycles(word).is_none() => return Some(CYCLES),
             _ => before = word,
         }
     }
@@ -277,6 +286,7 @@ pub fn number_wanted<S: AsStr>(words: &[S]) -> Option<&'static str> {
         "--windows" => Some(WINDOWS),
         "--limit" => Some(LIMIT),
         "--at" => Some(AT),
+        "--max-cycles" => Some(CYCLES),
         _ => None,
     }
 }

@@ -3,7 +3,11 @@
 #![tactic(auto)]
 
 mod bound;
+mod reading;
 mod table;
+#[cfg(test)]
+mod tests;
 
-pub use bound::most_cycles;
+pub use bound::{CycleBound, most_cycles};
+pub use reading::{RowCause, TableFault, read_table};
 pub use table::{CycleTable, cycles_of};

@@ -5,8 +5,8 @@ use Rattle.inspect_cycles.specs.Cycles.{AreMost}
 use Rattle.inspect_cycles.proofs.Bounded.{AreWithin, most}
 use Rattle.inspect_cycles.proofs.bound.most_cycles.Goals as goal
 
-pub returns : goal.returns
-returns c =
+pub returns-clause-most : goal.returns-clause-most
+returns-clause-most c =
     let t = c.args.table.now in
     let parts : Parts = c.args.accepted.now in
     let image = c.image-image.ensures.image in
@@ -19,6 +19,6 @@ returns c =
     let all : AreMost t parts (c.loop-word.dearest * budget parts) = most t parts c.loop-word.dearest c.loop-word.invariant.plain words
     c.image-image.ensures.safe in
     let dearest : c.loop-word.dearest ≡ c.from.result = sym c.from.ensures in
-    let allowed : budget parts ≡ c.from-2.result = sym (c.from-2.ensures ∙ c.budget.ensures ∙ ap budget image) in
+    let allowed : budget parts ≡ c.from-2.result = sym (c.from-2.ensures ∙ c.budget-budget.ensures ∙ ap budget image) in
     subst (λ (n : ℕ). AreMost t parts (n * c.from-2.result)) dearest
     (subst (λ (n : ℕ). AreMost t parts (c.loop-word.dearest * n)) allowed all)
