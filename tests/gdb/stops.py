@@ -27,6 +27,7 @@ def commands(work):
         list_session(work, windows)
         walk_session(work, windows)
         chain_session(work, windows)
+        till_session(work, windows)
     monitor_session(work)
 
 
@@ -34,7 +35,7 @@ def asked(work, gdb, name, command, *wanted):
     """Looks whether what a command tells has some texts."""
     told = gdb.told(command)
     for it in wanted:
-        work.tally.check(f"{name}: {command}", re.search(it, told) is not None, f"wanted {it}, came {told} {gdb.stop}")
+        work.tally.check(f"{name}: {command}", re.search(it, told, re.M) is not None, f"wanted {it}, came {told} {gdb.stop}")
     return told
 
 
@@ -85,6 +86,22 @@ def chain_session(work, windows):
         frames = len(re.findall(r"^#\d+", told, re.M))
         work.tally.check(f"{name}: frames", frames >= 8 and "corrupt" not in told, told)
         asked(work, gdb, name, "monitor windows", "window  3")
+
+
+def till_session(work, windows):
+    """Variables of a function that has other functions as parts: those that are still there are told by what the input
+    says, and one whose register is another's by now isn't told. Callers up to main."""
+    name = f"till on {windows} windows"
+    with on_run(built_c(work, "till", "-Og"), f"{HERE}/programs/till.in", windows) as gdb:
+        asked(work, gdb, name, "break hour_of", "Breakpoint")
+        asked(work, gdb, name, "continue", r"hour_of \(time=712\) at till\.c:6[12]")
+        asked(work, gdb, name, "backtrace", r"#1 .* enter \(.*\) at till\.c:77\n#2 .* main \(\) at till\.c:10[01]\n$")
+        asked(work, gdb, name, "delete", "")
+        asked(work, gdb, name, "continue", r"till\.c:77: the index into taken \(48 bytes\) leaves it")
+        asked(work, gdb, name, "info locals", "^time = 1831$", "^cents = 410$")
+        asked(work, gdb, name, "info args", "^line = <optimized out>$")
+        asked(work, gdb, name, "up", r"main \(\) at till\.c:10[01]")
+        asked(work, gdb, name, "info locals", '^line = "1831 bread 410"')
 
 
 def monitor_session(work):

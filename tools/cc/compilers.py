@@ -85,7 +85,7 @@ class Compiler:
     target, size_level, library_flags, variables = [], "-Os", [], ["-g"]
 
     def __init__(self, path, request):
-        self.path, self.request = path, request
+        self.path, self.request, self.tells = path, request, False
         if request.is_plus and not shutil.which(self.plus):
             raise Fault(125, f"{request.name}: no compiler of C++ for SPARC: {self.plus} isn't there: install the "
                         "Debian package g++-sparc64-linux-gnu")
@@ -122,7 +122,7 @@ class Compiler:
     @property
     def telling(self):
         """What makes a compiler tell of variables."""
-        return self.variables if self.request.debugs else []
+        return self.variables if self.tells else []
 
     def for_size(self, level):
         """What makes less code beside the level."""
@@ -167,8 +167,6 @@ class Gcc(Compiler):
     kind = ["-c", "-flto"]
     # (an address of a variable in a register that is kept over calls would have to be tested, where it is a constant)
     library_flags = ["-fno-gcse", "-fno-move-loop-invariants"]
-    # (without statements' places, so that words have the lines, and tests the exit words, that they have by -g1)
-    variables = ["-g", "-gno-statement-frontiers"]
 
     @property
     def archiver(self):

@@ -52,17 +52,32 @@ class Build:
                 return f"{path}:{line}: note: main is called as program without words: argc is 1, argv[1] is NULL"
         return None
 
+    def compiled(self, runtime):
+        """Has the compiler make one assembly of all; returns its text, and the paths of the objects before it."""
+        objects = self.compiler.each(self.work)
+        library = self.compiler.library(runtime)
+        self.program = self.compiler.whole(objects, library, self.work)
+        with open(self.program, encoding="utf-8", errors="surrogateescape") as file:
+            return file.read(), objects
+
+    def with_variables(self):
+        """The assembly of the same sources in which the compiler tells of variables, and a folder with what else it
+        told: beside the other one, since it places lines otherwise then, and exit words have lines."""
+        build = Build(self.request, f"{self.work}/variables")
+        build.compiler.tells = True
+        os.makedirs(build.work, exist_ok=True)
+        text, _ = build.compiled(Runtime(build.compiler, build.work))
+        assembly = Assembly(started(text, self.has_parameters))
+        without_traps(assembly)
+        return assembly.text(), build.work
+
     def assembled(self):
         """Makes the assembly of all; returns the paths of its files."""
         runtime = Runtime(self.compiler, self.work)
-        objects = self.compiler.each(self.work)
-        library = self.compiler.library(runtime)
-        path = self.compiler.whole(objects, library, self.work)
-        self.program = path
+        text, objects = self.compiled(runtime)
+        path = self.program
         say(self.compiler.told.rstrip("\n"))
         self.write_dependencies(objects)
-        with open(path, encoding="utf-8", errors="surrogateescape") as file:
-            text = file.read()
         last = LAST.search(text)
         if last:
             raise Fault(2, f"{self.request.name}: refused: {last[1]}: an __attribute__((destructor)) isn't taken: tell "

@@ -98,19 +98,27 @@ def line_program(rows, files, end):
     return sized(struct.pack(">HI", 3, len(head)) + head + out)
 
 
-def frame_rules(is_framed, behind, begins):
-    """Rules of a function of an image: a SAVE saves locals and ins at the frame's address, %fp. `behind` is where its
-    frame ends in the data if it lies there, as one whose address is taken does: there the compiler's debug
-    information looks for locals, so that is the frame's address then, and registers are told one by one. `begins`
-    says that they are those from the function's entry on, where its SAVE is still to come."""
+def frame_rules(is_framed):
+    """Rules of a function of an image: a SAVE, its first word, saves locals and ins at the frame's address, %fp."""
+    return b"\x41\x0d\x1e\x2d\x09\x0f\x1f" if is_framed else b""
+
+
+def standing_rules(is_framed, begins, below):
+    """The same of a function of a program in C that stands alone, whose frame's address is told as so many bytes below
+    %fp: gdb asks that those of callers be greater, and callers may have a frame in the data. `begins` says that its
+    SAVE is still to come."""
+    before = frame_address(14, -below)
     if not is_framed:
-        return b""
-    if not behind:
-        return (b"\x41" if begins else b"") + b"\x0d\x1e\x2d\x09\x0f\x1f"
-    rules = b"\x0f\5\3" + struct.pack(">I", behind)
-    rules += b"".join(bytes([9, it, it + 16]) for it in range(8, 16))
+        return before
+    rules = frame_address(30, -below) + b"".join(bytes([9, it, it + 16]) for it in range(8, 16))
     rules += b"".join(bytes([0x10, it, 2, 0x70 + 30, 4 * (it - 16)]) for it in range(16, 32))
-    return (b"\x41" if begins else b"") + rules
+    return before + b"\x41" + rules if begins else rules
+
+
+def frame_address(register, offset):
+    """The rule that a frame's address is so far from a register."""
+    block = bytes([0x70 + register]) + sleb(offset)
+    return b"\x0f" + uleb(len(block)) + block
 
 
 def frames(runs):

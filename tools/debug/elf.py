@@ -105,7 +105,7 @@ def extents(loaded):
 def plain_runs(loaded):
     """A run for each function, whose frame lies on the stack."""
     framed = dict(loaded.functions)
-    return [(start, stop, frame_rules(framed[start], None, True)) for start, stop in extents(loaded)]
+    return [(start, stop, frame_rules(framed[start])) for start, stop in extents(loaded)]
 
 
 def own_debug(loaded, names, folder):

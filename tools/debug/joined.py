@@ -8,20 +8,21 @@ import collections
 import re
 import struct
 
-from dwarf import sleb, uleb
+from dwarf import frame_address, sleb, uleb
 from loaded import CODE
 from maps import Origin
+from origins import CALL
 
-CALL = re.compile(r"\s*call\s+([\w.$]+)")
 # Registers by fit's own use (crates/fit_joins): the number of a place is made in %g7, addresses in %g6.
 NUMBER, BASE = 7, 6
 ADD, SUB, OR, STORE, SETHI = 0x00, 0x04, 0x02, 0x04, 4
 RETURNS, FIRST = 15, 16
 # gdb's own numbers, by which it unwinds: of %o7, by which functions of the image return, it would want a register.
 PC, NPC = 68, 69
-# The frame's addresses of functions without a frame in the data only tell frames apart: above the data where they
-# call what lies on the stack of functions, below it where not, so that callers' are greater.
-ABOVE, BELOW = 0xE0000, 0x1000
+# The frame's addresses of parts that take no frame from the stack of functions only tell frames apart, and callers'
+# have to be greater: where they call what takes one they are a little above what points to that stack; else below the
+# data, and above those of functions that stand alone, which are told as so many bytes below where they are.
+BELOW, SHIFT = 0x60000, 0xC0000
 
 Site = collections.namedtuple("Site", "caller number at kept behind")
 
@@ -45,8 +46,8 @@ class Part:
 class Joined:
     """The parts of an image's functions."""
 
-    def __init__(self, loaded, mapped, origins, own, behind):
-        self.loaded, self.own, self.behind, self.files = loaded, set(own.values()), behind, origins.files
+    def __init__(self, loaded, mapped, origins, own):
+        self.loaded, self.own, self.files = loaded, set(own.values()), origins.files
         self.rows, self.parts, self.owners, self.origins = {}, {}, [], []
         self.entries, self.known, self.ranks = set(own), {}, {}
         owner = None
@@ -62,6 +63,8 @@ class Joined:
         self.parts = {name: it for name, it in self.parts.items() if name not in self.own and name is not None}
         for it in self.parts.values():
             self.find_frame(it)
+        # what points to the stack of functions, the same register in all of them
+        self.pointer = next((it.pointer for it in self.parts.values() if it.pointer is not None), None)
         self.find_sites()
 
     def find_frame(self, part):
@@ -139,10 +142,30 @@ class Joined:
             elif self.is_behind(word) and behind is None and (at or len(part.sites) == 0):
                 behind = address
         row = file.follows.get(origin.row)
-        while behind is None and (row := file.follows.get(row)) and file.function(row) == file.function(origin.row):
+        while behind is None and (row := file.behind(row)) and file.function(row) == file.function(origin.row):
             behind = min(self.rows.get(origin._replace(row=row), []), default=None)
+        while behind and self.gets_back(behind + 4, kept):
+            behind += 4
         caller = file.function(origin.row)
         return behind and Site(caller, number, at, kept, behind)
+
+    def gets_back(self, address, kept):
+        """Whether a word loads one of some registers that were kept, as the word before it does another one."""
+        words = self.loaded.word(address - 4), self.loaded.word(address)
+        return None not in words and all(it >> 30 == 3 and fields(it)[:2] in ((0, to) for to in kept) for it in words)
+
+    def kept(self):
+        """By the number of the word that a call comes back to, the register that it gets back, and the operations
+        that leave the address where that is kept: callers are looked at there, and the register has no word yet."""
+        out = {}
+        for site in (site for part in self.parts.values() for site in part.sites):
+            word = self.loaded.word(site.behind)
+            _, register, _, _ = fields(word)
+            if word >> 30 == 3 and register in site.kept:
+                base, offset = site.kept[register]
+                place = b"\3" + struct.pack(">I", offset) if base is None else bytes([0x70 + base]) + sleb(offset)
+                out[(site.behind - CODE) // 4] = register, place
+        return out
 
     @staticmethod
     def is_behind(word):
@@ -170,8 +193,9 @@ class Joined:
         if part.pointer is not None:
             return b"\x0c" + uleb(part.pointer) + uleb(frame)
         depth, is_above = self.rank(part.name)
-        address = self.behind.get(part.name) or (ABOVE if is_above else BELOW) + 16 * min(depth, 255)
-        return b"\x0f\5\3" + struct.pack(">I", address)
+        if is_above:
+            return frame_address(self.pointer, 1 + min(depth, 62))
+        return b"\x0f\5\3" + struct.pack(">I", BELOW + 16 * min(depth, 255))
 
     @staticmethod
     def number_of(part, frame):
@@ -203,7 +227,7 @@ class Joined:
         """What tells the registers of a part's caller."""
         out = bytearray()
         for register in range(1, 30):
-            if register in (RETURNS, 14, part.pointer):
+            if register in (RETURNS, 14, self.pointer):
                 continue
             kept = [it for it in part.sites if register in it.kept]
             values = {it.number: self.kept_at(part, it.kept[register], frame) for it in kept}

@@ -12,7 +12,8 @@ def leave(build, map_path, elf_path):
     if elf_path:
         with open(build.source, encoding="utf-8", errors="surrogateescape") as file:
             source = file.read()
-        data, why = linked.debug_file(loaded, source, build.mapped, build.origins, build.work, build.program)
+        told, folder = build.with_variables()
+        data, why = linked.debug_file(loaded, source, build.mapped, build.origins, folder, (build.program, told))
         with open(elf_path, "wb") as file:
             file.write(data)
     return why

@@ -6,12 +6,13 @@ import shutil
 import struct
 import subprocess
 
-from dwarf import frame_rules
+from dwarf import standing_rules
 from elf import Elf, Names, own_debug, written
-from joined import Joined
+from holding import Holding
+from joined import SHIFT, Joined
 from loaded import CODE
 from maps import Fitted
-from moved import Move, Moved, late_registers
+from moved import Move, Moved
 
 ASSEMBLER, LINKER = "sparc64-linux-gnu-as", "sparc64-linux-gnu-ld"
 TEXT, DATA = 0x1000000, 0x2000000
@@ -23,6 +24,27 @@ INNER = "__main"
 SAVE_DOWN = 0x9DE3A000  # save %sp,-F,%sp without its F
 # The name of what gcc told of a source, as an item in its assembly refers to it.
 EARLY = re.compile(r"\s([\w.+-]+\.[0-9a-f]{8})\+\d+")
+
+
+# The frame's address as debug information has it, and where a function that stands alone has its own, above that.
+FRAME_ADDRESS = b"\x9c"
+SHIFTED_ADDRESS = FRAME_ADDRESS + b"\x0c" + struct.pack(">I", SHIFT) + b"\x22"
+SETHI = 4
+
+
+class Frame:
+    """A function's frame: what debug information tells its address by, and how far from that each word of it is, by
+    how far it was; of a whole one those below its end are where they were."""
+
+    def __init__(self, base, words, is_whole):
+        self.base, self.words, self.is_whole = base, words, is_whole
+
+    def offset(self, offset):
+        """How far a byte is from the frame's address, by how far it was; None where that isn't known."""
+        if self.is_whole and offset < 0:
+            return offset
+        moved = self.words.get(offset & ~3)
+        return None if moved is None else moved + (offset & 3)
 
 
 class Unreadable(Exception):
@@ -57,11 +79,9 @@ def linked_of(origins, folder, objects):
         return Elf(file.read())
 
 
-def early_objects(assembly, folder):
+def early_objects(text, folder):
     """What gcc told of the sources of a program that it makes at once: the files in a folder that an assembly names."""
-    with open(assembly, encoding="utf-8", errors="surrogateescape") as file:
-        wanted = {it.encode() for it in EARLY.findall(file.read())}
-    found = []
+    wanted, found = {it.encode() for it in EARLY.findall(text)}, []
     for path in sorted(glob.glob(f"{glob.escape(folder)}/*.debug.temp.o")):
         with open(path, "rb") as file:
             data = file.read()
@@ -90,7 +110,7 @@ class Linked:
             elif kind == FUNCTION and section and self.low <= value < self.low + len(self.text):
                 self.functions[value] = name
         self.objects = {name: [address, size] for address, name, size in fitted.objects}
-        self.joined = Joined(loaded, mapped, origins, fitted.functions, {})
+        self.joined = Joined(loaded, mapped, origins, fitted.functions)
 
     def word(self, address):
         """A word of the linked code."""
@@ -124,21 +144,26 @@ class Linked:
         return 0x2000 - (word & 0x1FFF) if word is not None and word & 0xFFFFE000 == SAVE_DOWN else None
 
     def frames(self, addresses):
-        """Where the frame of each function lies, by the function's address in the linked file: where it ends in the
-        data, or how far from the frame's address each word of the compiler's frame is now."""
+        """The frame of each function, by the function's address in the linked file."""
         own, out = {name: address for address, name in self.fitted.functions.items()}, {}
         for start, name in self.functions.items():
             size, moved, part = self.frame_size(start), self.objects.get(FRAME + name), self.joined.parts.get(name)
+            saved, words, base = self.saved(own[name]) if name in own else None, {}, FRAME_ADDRESS
             if moved and size:
                 moved[1] = size
-                out[start] = moved[0] + size
+                words = self.moved_words(start, addresses, (None, moved[0] + size), size)
+                base = bytes([3]) + struct.pack(">I", moved[0] + size)
             elif part and part.pointer is not None:
-                out[start] = self.moved_words(start, addresses, (part.pointer, part.frame), size)
-            elif name in own and self.saved(own[name]):
-                out[start] = self.moved_words(start, addresses, (14, self.saved(own[name])), size)
-            else:
-                out[start] = {}
+                words = self.moved_words(start, addresses, (part.pointer, part.frame), size)
+            elif saved:
+                words = self.moved_words(start, addresses, (14, saved), size)
+                base = FRAME_ADDRESS if self.is_first(name) else SHIFTED_ADDRESS
+            out[start] = Frame(base, words, bool(moved and size))
         return out
+
+    def is_first(self, name):
+        """Whether a function is the image's first one."""
+        return self.fitted.functions.get(CODE) == name
 
     def saved(self, entry):
         """The bytes of the frame that a function of the image takes."""
@@ -147,31 +172,35 @@ class Linked:
 
     def moved_words(self, start, addresses, now, size):
         """How far from the frame's address each word of a function's frame is, by how far it was: of the words that
-        both name at one place. None of a frame in which these don't agree."""
+        both name at one place. None of a frame in which these don't agree. `now` is what points to it, and its bytes;
+        or None, and where it ends in the data."""
         following, found = min((it for it in self.functions if it > start), default=1 << 32), {}
         for number, address in enumerate(addresses):
             if size is None or address is None or not start <= address < following:
                 continue
             their_word, our_word = self.word(address), self.loaded.words[number]
-            theirs, ours = offset_of(their_word, (14, size)), offset_of(our_word, now)
+            theirs = offset_of(their_word, (14, size))
+            ours = self.offset_in_data(number, now[1]) if now[0] is None else offset_of(our_word, now)
             if None not in (theirs, ours) and is_same_access(their_word, our_word):
                 if found.setdefault(theirs, ours) != ours:
                     return {}
         return found if len(set(found.values())) == len(found) else {}
 
-    def behind(self):
-        """Where frames end in the data, by the names of their functions."""
-        return {name: self.objects[FRAME + name][0] + self.objects[FRAME + name][1]
-                for name in self.functions.values() if FRAME + name in self.objects}
+    def offset_in_data(self, number, end):
+        """How far from an address of the data the word lies that a load or a store names, behind a SETHI of its base;
+        None where it names none so."""
+        word, before = self.loaded.words[number], self.loaded.words[number - 1] if number else 0
+        if word >> 30 != 3 or not word & 0x2000 or before >> 22 != (word >> 14 & 31) << 3 | SETHI:
+            return None
+        return (before << 10 & 0xFFFFFFFF) + ((word & 0x1FFF ^ 0x1000) - 0x1000) - end
 
     def runs(self):
         """The runs of words with rules of frames."""
-        behind, framed = self.behind(), dict(self.loaded.functions)
+        framed = dict(self.loaded.functions)
         starts = {name: address for address, name in self.fitted.functions.items()}
-        self.joined.behind = behind
 
         def standard(name, begins):
-            return frame_rules(framed.get(starts.get(name)), behind.get(name), begins)
+            return standing_rules(framed.get(starts.get(name)), begins, 0 if self.is_first(name) else SHIFT)
         return self.joined.runs(standard)
 
     def sections(self, work):
@@ -179,7 +208,9 @@ class Linked:
         addresses, objects = self.addresses(), self.moved_objects()
         frames = self.frames(addresses)
         text = self.low, self.low + len(self.text)
-        move = Move(addresses, objects, frames, text, late_registers(self.loaded))
+        blocks = {(it - CODE) // 4 for it in self.loaded.blocks}
+        holding = Holding(self.loaded.words, addresses, self.word, self.functions, blocks)
+        move = Move(addresses, objects, frames, text, holding, self.joined.kept())
         inner = next((it for it, name in self.functions.items() if name == INNER), None)
         self.inner = None if inner is None else move.code(inner)
         try:
@@ -204,9 +235,10 @@ def is_same_access(one, other):
     return one >> 19 & 0xFFF == other >> 19 & 0xFFF
 
 
-def debug_file(loaded, source, mapped, origins, folder, assembly):
-    """The bytes of the ELF file of an image, by the source that ./fit made, and the assembly of the program in a
-    folder for work; and why it has no more than names and lines, where it hasn't."""
+def debug_file(loaded, source, mapped, origins, folder, program):
+    """The bytes of the ELF file of an image, by the source that ./fit made; and why it has no more than names and
+    lines, where it hasn't. `program` is the path of the program's assembly, and the text of the one in which the
+    compiler tells of variables; the folder has what else it told then."""
     fitted = Fitted(source)
     names = Names()
     names.functions, names.objects = fitted.functions, fitted.objects
@@ -216,7 +248,10 @@ def debug_file(loaded, source, mapped, origins, folder, assembly):
     for address in loaded.blocks:
         names.labels.setdefault(address, f".L{address:x}")
     try:
-        objects = early_objects(assembly, folder)
+        path, told = program
+        if not next(it for it in origins.files if it.path == path).tell(told):
+            raise Unreadable("the compiler makes other code where it tells of variables")
+        objects = early_objects(told, folder)
         linked = Linked(linked_of(origins, folder, objects), loaded, fitted, mapped, origins)
         debug, why = linked.sections(os.path.realpath(folder)), None
         names.objects = [[address, name, size] for name, (address, size) in linked.objects.items()]

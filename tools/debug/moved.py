@@ -6,36 +6,35 @@ import os
 import struct
 
 from dwarf import END_SEQUENCE, Reader, set_address, sized, sleb, uleb
+from items import (ADDRESS_FORM, EXPRESSION, HIGH, LINE_STRING, LOCATION, LOW, OFFSET_FORM, RANGES, STRING, UNIT, INDEX,
+                   Items)
 from lists import Lists, OldLists
 from loaded import CODE
 
-# Attributes, forms and tags that are looked at.
-LOCATION, LOW, HIGH, FRAME_BASE, DATA_LOCATION = 0x02, 0x11, 0x12, 0x40, 0x46
-FOLDER, LINES, ENTRY, RANGES, RETURN, CALL_PC, CALL_VALUE = 0x1B, 0x10, 0x52, 0x55, 0x7D, 0x81, 0x7E
-VIEWS, NOBODYS = 0x2137, b"\xff\x7f"
-ADDRESS_FORM, OFFSET_FORM, DATA4, CONSTANT, EXPRESSION, LINE_STRING = 0x01, 0x17, 0x06, 0x21, 0x18, 0x1F
-STRING, INDEX = 0x08, 0x0F
-UNIT, FUNCTION = 0x11, 0x2E
-SIZES = {0x01: 4, 0x0B: 1, 0x05: 2, 0x06: 4, 0x07: 8, 0x0C: 1, 0x0E: 4, 0x1F: 4, 0x13: 4, 0x17: 4, 0x11: 1, 0x12: 2,
-         0x10: 4, 0x1E: 16, 0x20: 8, 0x14: 8}
-# What stands behind an operation of an expression: bytes, u and s numbers, b and B blocks.
+# Attributes and tags that are looked at.
+FRAME_BASE, DATA_LOCATION, FOLDER, LINES, ENTRY = 0x40, 0x46, 0x1B, 0x10, 0x52
+RETURN, CALL_PC, CALL_VALUE = 0x7D, 0x81, 0x7E
+FUNCTION, VARIABLE, PARAMETER = 0x2E, 0x34, 0x05
+# What stands behind an operation of an expression: bytes, u and s numbers, b and B blocks; and items that are referred
+# to: r in all of them, c in a unit, and t a type in a unit, as a number.
 OPERANDS = {0x03: "4", 0x08: "1", 0x09: "1", 0x0A: "2", 0x0B: "2", 0x0C: "4", 0x0D: "4", 0x0E: "8", 0x0F: "8",
             0x10: "u", 0x11: "s", 0x15: "1", 0x23: "u", 0x28: "2", 0x2F: "2", 0x90: "u", 0x91: "s", 0x92: "us",
-            0x93: "u", 0x94: "1", 0x98: "2", 0x99: "4", 0x9E: "b", 0xA0: "4s", 0xA3: "b", 0xA4: "uB", 0xA5: "uu",
-            0xA6: "1u", 0xA8: "u", 0xA9: "u", 0xF2: "4s", 0xF3: "b", 0xF4: "uB", 0xF5: "uu", 0xF6: "1u", 0xF7: "u",
-            **{it: "s" for it in range(0x70, 0x90)}}
+            0x93: "u", 0x94: "1", 0x99: "c", 0x9A: "r", 0x9D: "uu", 0x9E: "b", 0xA0: "rs", 0xA3: "b", 0xA4: "tB",
+            0xA5: "ut", 0xA6: "1t", 0xA8: "t", 0xA9: "t", 0xF2: "rs", 0xF3: "b", 0xF4: "tB", 0xF5: "ut", 0xF6: "1t",
+            0xF7: "t", 0xF9: "t", 0xFA: "c", 0xFD: "r", **{it: "s" for it in range(0x70, 0x90)}}
 ADDRESS, BY_FRAME, BY_FP, BY_SP, FP, SP = 0x03, 0x91, 0x8E, 0x7E, 0x6E, 0x5E
-FRAME_ADDRESS, BY_FP_ITSELF = b"\x9c", bytes([FP])
+# What compilers tell a frame's address by: %fp, or what unwinding gives.
+BY_FP_ITSELF = bytes([FP]), b"\x9c"
 
 
 class Move:
     """Where code and data went. `rows` is the linked address of each word's origin, None where it has none; `objects`
     are begins of data in the linked file with sizes and where they are now; `frames`, by the address of a function in
-    the linked file, where its frame ends in the data, or how far from the frame's address each word of it is, by how
-    far it was."""
+    the linked file, its frame; `holding` tells which registers hold at a word what they are said to, and `kept` which
+    one is in memory."""
 
-    def __init__(self, rows, objects, frames, text, late=None):
-        self.late = late or {}  # register to the words where what it is to hold stands in a slot still to come
+    def __init__(self, rows, objects, frames, text, holding, kept):
+        self.holding, self.kept = holding, kept
         self.rows, self.objects, self.frames, (self.low, self.high) = rows, sorted(objects), frames, text
         self.there = {}
         for number, address in enumerate(rows):
@@ -45,12 +44,11 @@ class Move:
 
     def ranges(self, low, high, registers=()):
         """Where the code of a range lies now, as ranges; what it begins with stands in the first one. Words where one
-        of some registers isn't written yet are left out."""
+        of some registers doesn't hold what it did are left out."""
         first, last = bisect.bisect_left(self.known, low), bisect.bisect_left(self.known, high)
-        numbers = sorted(number for it in self.known[first:last] for number in self.there[it])
-        late, out = {number for it in registers for number in self.late.get(it, ())}, []
+        numbers, out = sorted(number for it in self.known[first:last] for number in self.there[it]), []
         for number in numbers:
-            if number in late:
+            if registers and not self.holding.has(number, registers):
                 continue
             at = CODE + 4 * number
             if out and out[-1][1] == at:
@@ -60,6 +58,26 @@ class Move:
         entry = self.code(low) if out else 0
         return sorted(out, key=lambda it: not it[0] <= entry < it[1])
 
+    def kept_at(self, low, high, expression):
+        """Where a register that an expression is of is kept in memory, as places."""
+        for number, (register, place) in self.kept.items():
+            row = self.rows[number]
+            if row is not None and low <= row < high and expression == bytes([0x50 + register]):
+                yield CODE + 4 * number, CODE + 4 * number + 4, place
+
+    def line_rows(self):
+        """Of each word the address that its line is told by: where a store stands in the slot of a branch, what stands
+        before that belongs to the store's line still, so that no line begins before the one before it is done."""
+        rows = list(self.rows)
+        for slot, row in self.holding.stores.items():
+            number = slot
+            while number >= 0 and rows[number] is not None and (number >= slot - 1 or row < rows[number] < row + 64):
+                rows[number] = row
+                if number in self.holding.blocks:
+                    break
+                number -= 1
+        return rows
+
     def code(self, address):
         """The first place that comes from an address, or from the next one that something comes from; 0 where none
         does."""
@@ -67,7 +85,7 @@ class Move:
         return CODE + 4 * self.there[self.known[at]][0] if at < len(self.known) else 0
 
     def frame(self, address):
-        """Where the frame of the function at an address ends."""
+        """The frame of the function at an address; None where no function is."""
         at = bisect.bisect_right(self.starts, address)
         return self.frames[self.starts[at - 1]] if at else None
 
@@ -83,142 +101,112 @@ class Move:
         return 0
 
 
-class Moved:
+class Moved(Items):
     """The compiler's debug information at the places of the image."""
 
     def __init__(self, linked, move, work):
+        super().__init__(linked.sections[".debug_info"], linked.sections[".debug_abbrev"])
         self.linked, self.move, self.work = linked, move, work
         self.strings = bytearray(linked.sections.get(".debug_line_str", b""))
         self.here = len(self.strings)
         self.strings += os.fsencode(os.getcwd()) + b"\0"
-        self.info, self.abbrev = bytearray(linked.sections[".debug_info"]), bytearray(linked.sections[".debug_abbrev"])
         self.of_version = {4: OldLists(linked.sections), 5: Lists(linked.sections)}
         self.lists = self.of_version[5]
-        self.programs, self.written, self.tables = bytearray(), {}, {}
-        self.low = self.function = 0
-        at = 0
-        while at < len(self.info):
-            at = self.unit(at)
+        self.programs, self.written = bytearray(), {}
+        self.low, self.function, self.extent = 0, 0, []
+        for do in (self.find_wide, self.move_items):
+            for unit in self.units:
+                self.lists, self.low, self.function, self.extent = self.of_version[unit.version], 0, 0, []
+                do(unit)
 
     def sections(self):
         """The sections with what they hold."""
-        other = self.linked.sections
-        return [(".debug_info", bytes(self.info)), (".debug_abbrev", bytes(self.abbrev)),
-                (".debug_line", bytes(self.programs)),
+        other, (info, abbreviations) = self.linked.sections, self.assembled()
+        return [(".debug_info", info), (".debug_abbrev", abbreviations), (".debug_line", bytes(self.programs)),
                 *(section for it in self.of_version.values() for section in it.written()),
                 (".debug_str", other.get(".debug_str", b"")), (".debug_line_str", bytes(self.strings))]
 
-    # ---- units
+    # ---- items
 
-    def unit(self, at):
-        """Moves a unit; returns where the next one begins."""
-        r = Reader(self.info, at)
-        end = r.number(4) + at + 4
-        version = r.number(2)
-        if version == 5:
-            _kind, size, abbrev = r.number(1), r.number(1), r.number(4)
-        else:
-            abbrev, size = r.number(4), r.number(1)
-        if version not in self.of_version or size != 4:
-            raise ValueError(f"a unit of version {version}")
-        self.lists = self.of_version[version]
-        if abbrev not in self.tables:
-            self.tables[abbrev] = self.abbreviations(abbrev)
-        self.low = self.function = 0
-        while r.at < end:
-            code = r.uleb()
-            if code:
-                self.item(r, *self.tables[abbrev][code])
-        return end
+    def find_wide(self, unit):
+        """Gives lists of places to the variables of a unit that have one place, a register: it holds them no longer
+        at all words. Where the compiler made no lists gdb trusts no list either at a function's begin: such a unit's
+        variables lie in memory, and a register isn't told."""
+        found, has_lists = [], False
+        for at, code, tag, attributes in self.items(unit):
+            for it in attributes:
+                self.find_function(tag, it)
+                if it.name == FRAME_BASE and it.value in BY_FP_ITSELF:
+                    self.give_room(it, self.move.frame(self.function).base)
+                has_lists |= it.name == LOCATION and it.form == OFFSET_FORM
+                if it.name == LOCATION and it.form == EXPRESSION and tag in (VARIABLE, PARAMETER):
+                    found += [(at, code, it)] * bool(named_in(it.value) - {14, 30})
+        for at, code, it in found if has_lists else ():
+            self.widen(unit, at, code, it)
 
-    def abbreviations(self, at):
-        """By code: tag, and attributes as name, form, value, and what is made of it. Low and high ends become
-        ranges."""
-        r, out = Reader(self.abbrev, at), {}
-        while code := r.uleb():
-            tag, _children, attributes, places = r.uleb(), r.number(1), [], {}
-            while True:
-                place = r.at
-                name, form = r.uleb(), r.uleb()
-                value = r.sleb() if form == CONSTANT else None
-                if not name:
-                    break
-                places[name] = place
-                attributes.append([name, form, value, None])
-            self.spread(tag, attributes, places)
-            out[code] = tag, attributes
-        return out
+    def move_items(self, unit):
+        """Moves the items of a unit."""
+        for item in self.items(unit):
+            self.item(*item)
 
-    def spread(self, tag, attributes, places):
-        """Has an abbreviation name ranges in the place of a low and a high end."""
-        by_name = {it[0]: it for it in attributes}
-        if VIEWS in by_name:  # views of locations aren't kept
-            self.abbrev[places[VIEWS]:places[VIEWS] + 2] = NOBODYS
-        high = by_name.get(HIGH)
-        if tag != UNIT and LOW in by_name and high and high[1] == DATA4:
-            by_name[LOW][3], high[3] = "low", "ranges"
-            self.abbrev[places[LOW]] = 0x06  # no attribute has this number
-            self.abbrev[places[HIGH]], self.abbrev[places[HIGH] + 1] = RANGES, OFFSET_FORM
+    def find_function(self, tag, it):
+        """Notes where a unit or a function begins that an attribute belongs to."""
+        if it.name == LOW and it.form == ADDRESS_FORM:
+            self.low = it.value if tag == UNIT else self.low
+            self.function = it.value if tag == FUNCTION else self.function
+        elif it.name == RANGES and it.form == OFFSET_FORM and tag == FUNCTION:
+            self.function = next(iter(self.lists.ranges(it.value, self.low)), (0, 0))[0]
 
-    @staticmethod
-    def value(r, form, value):
-        """The value of an attribute."""
-        if form in SIZES:
-            return r.number(SIZES[form])
-        if form in (0x19, CONSTANT):
-            return value
-        if form in (0x0F, 0x15):
-            return r.uleb()
-        if form == 0x0D:
-            return r.sleb()
-        if form == 0x08:
-            return r.string()
-        if form in (EXPRESSION, 0x09):
-            return r.take(r.uleb())
-        if form == 0x0A:
-            return r.take(r.number(1))
-        raise ValueError(f"the form {form:X}")
-
-    def put(self, at, word):
-        """Puts a word into the items."""
-        self.info[at:at + 4] = struct.pack(">I", word)
-
-    def item(self, r, tag, attributes):
+    def item(self, _at, _code, tag, attributes):
         """Moves an item."""
         low = 0
-        for name, form, value, change in attributes:
-            place = r.at
-            read = self.value(r, form, value)
-            if name == LOW and form == ADDRESS_FORM:
-                low = read
-                self.low = read if tag == UNIT else self.low
-                self.function = read if tag == FUNCTION else self.function
-                if change is None:
-                    self.put(place, 0 if tag == UNIT else self.move.code(read))
-            elif change == "ranges":
-                self.put(place, self.lists.put_ranges(self.move.ranges(low, low + read)))
+        for it in attributes:
+            self.find_function(tag, it)
+            if it.name == LOW and it.form == ADDRESS_FORM:
+                low = it.value
+                if it.change is None:
+                    self.put(it.place, 0 if tag == UNIT else self.move.code(low))
+            elif it.change == "ranges":
+                self.extent = [(low, low + it.value)] if tag == FUNCTION else self.extent
+                self.put(it.place, self.lists.put_ranges(self.move.ranges(low, low + it.value)))
             else:
-                self.attribute(place, r.at, name, form, read)
+                self.attribute(tag, it)
 
-    def attribute(self, place, end, name, form, read):
+    def attribute(self, tag, it):
         """Moves an attribute that is no low or high end."""
-        if name == FOLDER and form == LINE_STRING and Reader(self.strings, read).string() == self.work:
-            self.put(place, self.here)  # the folder for work goes
-        elif name == RANGES and form == OFFSET_FORM:
-            moved = (self.move.ranges(*it) for it in self.lists.ranges(read, self.low))
-            self.put(place, self.lists.put_ranges([it for some in moved for it in some]))
-        elif name in (ENTRY, RETURN, CALL_PC) and form == ADDRESS_FORM:
-            self.put(place, self.move.code(read))
-        elif name == LINES:
-            self.put(place, self.lines(read))
-        elif name in (LOCATION, FRAME_BASE, CALL_VALUE, DATA_LOCATION) and form == OFFSET_FORM:
-            self.put(place, self.locations(read))
-        elif name == FRAME_BASE and read == BY_FP_ITSELF:
-            self.info[end - 1:end] = FRAME_ADDRESS
-        elif form == EXPRESSION and read:
-            moved = self.expression(read, self.function)
-            # (what can't be told any more has an operation that gdb has no value of)
-            self.info[end - len(read):end] = moved or b"\x96" * (len(read) - 1) + b"\x30"
+        if it.name == FOLDER and it.form == LINE_STRING and Reader(self.strings, it.value).string() == self.work:
+            self.put(it.place, self.here)  # the folder for work goes
+        elif it.name == RANGES and it.form == OFFSET_FORM:
+            self.put_ranges(tag, it)
+        elif it.name in (ENTRY, RETURN, CALL_PC) and it.form == ADDRESS_FORM:
+            self.put(it.place, self.move.code(it.value))
+        elif it.name == LINES:
+            self.put(it.place, self.lines(it.value))
+        elif it.name in (LOCATION, FRAME_BASE, CALL_VALUE, DATA_LOCATION) and it.form == OFFSET_FORM:
+            self.put(it.place, self.locations(self.lists.places(it.value, self.low)))
+        elif it.name == FRAME_BASE and it.value in BY_FP_ITSELF:
+            if it.place not in self.wide:
+                self.info[it.end - 1:it.end] = self.move.frame(self.function).base
+        elif it.form == EXPRESSION and it.value:
+            self.put_expression(tag, it)
+
+    def put_ranges(self, tag, it):
+        """Moves a list of ranges."""
+        ranges = list(self.lists.ranges(it.value, self.low))
+        self.extent = ranges if tag == FUNCTION else self.extent
+        self.put(it.place, self.lists.put_ranges([now for was in ranges for now in self.move.ranges(*was)]))
+
+    def put_expression(self, tag, it):
+        """Moves an expression; one that names registers becomes a list, or isn't told."""
+        if it.place in self.wide:
+            places = ((*pair, it.value) for pair in self.extent)
+            self.wide[it.place] = struct.pack(">I", self.locations(places))
+            return
+        moved = self.expression(it.value, self.function)
+        if it.name == LOCATION and tag in (VARIABLE, PARAMETER) and named_in(it.value) - {14, 30}:
+            moved = None
+        # (what can't be told any more has an operation that gdb has no value of)
+        self.info[it.end - len(it.value):it.end] = moved or b"\x96" * (len(it.value) - 1) + b"\x30"
 
     # ---- places
 
@@ -244,16 +232,27 @@ class Moved:
                 data[r.at - 4:r.at] = struct.pack(">I", now)
                 continue
             for kind in OPERANDS.get(op, ""):
+                start = r.at
                 self.skip(r, kind)
+                if kind in "rct" and not self.refer(data, start, r.at, kind):
+                    return None
         return bytes(data)
+
+    def refer(self, data, start, end, kind):
+        """Moves a reference to an item in an expression; says whether it has room."""
+        unit = 0 if kind == "r" else self.unit.at
+        read = Reader(bytes(data), start)
+        target = read.uleb() if kind == "t" else read.number(4)
+        now = self.shifted(unit + target) - self.shifted(unit)
+        moved = uleb(now) if kind == "t" else struct.pack(">I", now)
+        data[start:end] = moved if len(moved) == end - start else data[start:end]
+        return now == target or len(moved) == end - start
 
     @staticmethod
     def offset(frame, offset, size):
         """An offset from %fp as it is now, in so many bytes; None where it isn't known, or has no room."""
-        if isinstance(frame, dict):
-            moved = frame.get(offset & ~3)
-            offset = None if moved is None else moved + (offset & 3)
-        if frame is None or offset is None:
+        offset = None if frame is None else frame.offset(offset)
+        if offset is None:
             return None
         out = bytes([offset >> 7 * it & 127 | 128 for it in range(size - 1)]) + bytes([offset >> 7 * (size - 1) & 127])
         return out if Reader(out).sleb() == offset else None
@@ -261,20 +260,21 @@ class Moved:
     @staticmethod
     def skip(r, kind):
         """Passes an operand."""
-        if kind == "u":
+        if kind in "ut":
             r.uleb()
         elif kind == "s":
             r.sleb()
         else:
-            r.take(r.uleb() if kind == "b" else r.number(1) if kind == "B" else int(kind))
+            r.take(r.uleb() if kind == "b" else r.number(1) if kind == "B" else 4 if kind in "rc" else int(kind))
 
-    def locations(self, offset):
-        """Moves a list of places; returns where it is."""
+    def locations(self, places):
+        """Moves places; returns where their list is."""
         out = []
-        for low, high, data in self.lists.places(offset, self.low):
+        for low, high, data in places:
             expression = self.expression(data, low)
             if expression is not None:
                 out += ((*it, expression) for it in self.move.ranges(low, high, named_in(expression)))
+                out += self.move.kept_at(low, high, expression)
         return self.lists.put_places(out)
 
     # ---- lines
@@ -286,7 +286,7 @@ class Moved:
         rows, table = lines_of(self.linked.sections[".debug_line"], offset, self.linked.sections)
         head = table.head(os.getcwd())
         covered, out, state, last = covered_by(rows), bytearray(), (1, 1), None
-        for number, address in enumerate(self.move.rows):
+        for number, address in enumerate(self.move.line_rows()):
             now = covered.get(address)
             if now == last:
                 continue
@@ -315,37 +315,6 @@ def named_in(expression):
         for kind in OPERANDS.get(op, ""):
             Moved.skip(r, kind)
     return found
-
-
-def late_registers(loaded):
-    """By register, the numbers of the words where it doesn't hold yet what the compiler gave it there: ./fit moved
-    that into the slot of the branch behind them."""
-    starts, late = set(loaded.blocks), {}
-    for number in range(1, len(loaded.words)):
-        before, word = loaded.words[number - 1], loaded.words[number]
-        is_branch = before >> 30 == 0 and before >> 22 & 7 == 2 or before >> 30 == 1
-        register = written_by(word)
-        if not is_branch or register is None:
-            continue
-        at = number - 1
-        while at >= 0:
-            late.setdefault(register, set()).add(at)
-            if CODE + 4 * at in starts or at and written_by(loaded.words[at - 1]) == register:
-                break
-            at -= 1
-    return late
-
-
-def written_by(word):
-    """The register that a word writes; None where it writes none, or one that holds no variable."""
-    kind, op3, register = word >> 30, word >> 19 & 63, word >> 25 & 31
-    if kind == 0:
-        return register or None if word >> 22 & 7 == 4 else None
-    if kind == 1:
-        return 15
-    if kind == 3:
-        return register if op3 in (0, 1, 2, 3, 9, 10, 13, 15) else None
-    return 8 if op3 == 0x3A else register or None
 
 
 def covered_by(rows):

@@ -17,11 +17,15 @@ from assembly import FILE, LABEL, PLACE, Assembly, plain
 INSTRUCTION = re.compile(r"\s+([a-z]\w*)")
 DIVISION = re.compile(r"[us]div")
 BRANCH = re.compile(r"b(?!tst|set|clr|tog)|call\b")
+JUMP = re.compile(r"\s+ba?(?:,a)?\s+(\.L\w+)\s*$")
+CALL = re.compile(r"\s*call\s+([\w.$]+)")
 REGISTER = re.compile(r"%(?!hi|lo)\w+")
 # Conditions of branches that have two names, and those of the other ways.
 CONDITIONS = {"b": "ba", "bz": "be", "bnz": "bne", "bgeu": "bcc", "blu": "bcs"}
 OPPOSITES = {"be": "bne", "bg": "ble", "bge": "bl", "bgu": "bleu", "bcc": "bcs", "bpos": "bneg", "bvc": "bvs"}
 OPPOSITES |= {there: here for here, there in OPPOSITES.items()}
+# What labels have, and comments, that are told apart by numbers alone.
+NUMBERED = re.compile(r"(?<=\.L)[\w$]+|!.*|\s+$")
 MARK = re.compile(r"#(\d+)\.(\d+)")
 NOTE = re.compile(r"([^:\n]+):(\d+): note: (.*)")
 ROWS = re.compile(r"\s*\.loc\b", re.M)
@@ -40,10 +44,16 @@ class Marked:
 
     def __init__(self, number, path, text):
         self.number, self.path, self.lines = number, path, text.splitlines()
+        self.told = [(row if instruction(line) else None, line) for row, line in enumerate(self.lines, 1)]
         self.assembly = Assembly(text)
         self.has_lines = ROWS.search(text) is not None
         self.rows = [row for row, line in enumerate(self.lines, 1) if instruction(line)]
         self.follows = dict(zip(self.rows, self.rows[1:]))
+        self.precedes = dict(zip(self.rows[1:], self.rows))
+        self.labels = {}
+        for row, line in enumerate(self.lines, 1):
+            if line.startswith(".L") and line.rstrip().endswith(":"):
+                self.labels[line.rstrip()[:-1]] = row
         self.starts = [(row, line.partition(":")[0]) for row, line in enumerate(self.lines, 1)
                        if LABEL.match(line) and not line.startswith(".L")]
 
@@ -51,6 +61,27 @@ class Marked:
         """The name of the function that a row stands in, as the assembly has it."""
         at = bisect.bisect_right(self.starts, (row, "\x7f")) - 1
         return self.starts[at][1] if at >= 0 else None
+
+    def behind(self, row):
+        """The row that control comes to behind an instruction, past jumps; None where that isn't known."""
+        row, seen = self.follows.get(row), set()
+        while row and row not in seen and (found := JUMP.match(self.lines[row - 1])):
+            seen.add(row)
+            at = bisect.bisect_left(self.rows, self.labels.get(found[1], 1 << 32))
+            row = self.rows[at] if at < len(self.rows) else None
+        return None if row in seen else row
+
+    def call_of(self, name, origin, following):
+        """The row of a call of a function, of which ./fit tells no row: behind what it tells of the word before, or
+        before what it tells of the one behind. None where neither is such a call."""
+        rows = [origin.row, self.behind(origin.row)] if origin and origin.assembly == self.number else []
+        if following and following.assembly == self.number:
+            before = self.precedes.get(following.row)
+            while before and instruction(self.lines[before - 1]) == "nop":
+                before = self.precedes.get(before)
+            rows.insert(0, before)
+        calls = (row for row in rows if row and (found := CALL.match(self.lines[row - 1])) and found[1] == name)
+        return next(calls, None)
 
     def marked(self):
         """The text for ./fit. One without lines of C stays as it is: there ./fit tells the row by itself."""
@@ -73,11 +104,19 @@ class Marked:
             out.append(line)
         return "\n".join(out) + "\n"
 
+    def tell(self, text):
+        """Takes in the same assembly, in which the compiler tells of variables; says whether it is the same."""
+        lines, rows = text.splitlines(), iter(self.rows)
+        mine, theirs = ([NUMBERED.sub("", it) for it in some if instruction(it)] for some in (self.lines, lines))
+        if mine == theirs:
+            self.told = [(next(rows) if instruction(it) else None, it) for it in lines]
+        return mine == theirs
+
     def labelled(self):
         """The text for an assembler, in which each instruction has a label that tells its row."""
         out = []
-        for row, line in enumerate(self.lines, 1):
-            out += [f".Lrow{self.number}.{row}:", line] if instruction(line) else [line]
+        for row, line in self.told:
+            out += [f".Lrow{self.number}.{row}:", line] if row else [line]
         return "\n".join(out) + "\n"
 
 
@@ -119,7 +158,10 @@ class Origins:
             if comment:
                 last = self.origin(*comment), comment
             origin = last and last[0]
-            if origin and not comment:
+            call = None if comment else CALL.match(text)
+            if call and origin:
+                origin = self.call_origin(call[1], origin, fitted.rows[number + 2:number + 3])
+            elif origin and not comment:
                 origin = self.follower(origin, text, behind, before)
             before = text
             behind = origin if instruction(text) and BRANCH.match(instruction(text)) else None
@@ -133,6 +175,15 @@ class Origins:
         mapped.add_functions(own, lambda it: plain(self.files[it.assembly].function(it.row) or ""))
         mapped.add_sources()
         return mapped
+
+    def call_origin(self, name, origin, following):
+        """The origin of a call of a function, behind a word with an origin, and before one that may have a comment."""
+        told = self.origin(*following[0][0]) if following and following[0][0] else None
+        for number in {it.assembly for it in (told, origin) if it}:
+            row = self.files[number].call_of(name, origin, told)
+            if row:
+                return Origin(number, row)
+        return origin
 
     def follower(self, origin, text, branch, before):
         """The origin of a word of which ./fit tells no line: that of the word before, but for a branch, a call, and
