@@ -246,6 +246,13 @@ class Clang(Compiler):
             settle(draft, path)
         return [path]
 
+    def crash_of(self, told):
+        """What is told where clang itself ends by a fault, as clang 14 does for SPARC at -O0; nothing else."""
+        if "PLEASE submit a bug report" not in told:
+            return ""
+        return (f"{self.request.name}: {self.path} itself ends by a fault at {self.request.level}: compile by another "
+                "level, or by gcc")
+
     def linked(self, how, paths):
         """The words to compile something with such files."""
         return [self.path, *self.target, *(word for it in paths for word in ("-Xclang", how, "-Xclang", it))]
@@ -262,6 +269,8 @@ class Clang(Compiler):
         ran, is_long = limited([*words, self.request.level, "-w", "-fno-builtin", "-S", f"{work}/kept.c", "-o",
                                 f"{work}/program.s"])
         if is_long or ran.returncode:
-            long = f"{self.request.name}: the compiler took more than {SECONDS} seconds for all files at once"
-            raise Fault(2, self.told + (long if is_long else ran.stderr.strip()))
+            why = f"{self.request.name}: the compiler took more than {SECONDS} seconds for all files at once"
+            if not is_long:
+                why = self.crash_of(ran.stderr) or ran.stderr.strip()
+            raise Fault(2, self.told + why)
         return f"{work}/program.s"
