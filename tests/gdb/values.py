@@ -42,8 +42,11 @@ def seen_at(gdb, lines, path):
     gdb.told(gdb.begins)
     for _ in range(STOPS):
         found = re.search(r'line="(\d+)"', gdb.stop)
-        if not found or "breakpoint-hit" not in gdb.stop:
+        if "breakpoint-hit" not in gdb.stop:
             break
+        if not found:
+            gdb.told("continue")
+            continue
         told = gdb.told("info locals") + gdb.told("info args")
         values = dict(re.findall(r"^(\w+) = (.*)$", told, re.M))
         seen.append((int(found[1]), {name: it.split(" ")[0] for name, it in values.items() if PLAIN.match(it)}))

@@ -288,7 +288,7 @@ class Moved(Items):
         covered, out, state, last = covered_by(rows), bytearray(), (1, 1), None
         for number, address in enumerate(self.move.line_rows()):
             now = covered.get(address)
-            if now == last:
+            if now == last or address is None and last is not None:  # (./fit's own words go on with the line before)
                 continue
             if now is None:
                 out += set_address(CODE + 4 * number) + END_SEQUENCE
