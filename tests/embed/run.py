@@ -58,6 +58,12 @@ def made(words, what, **more):
     return TALLY.check(what, ran.status == 0, f"wanted that it is built, came status {ran.status}: {ran.said[-1500:]}")
 
 
+def passes(words, what, **more):
+    """Whether a command that tries something succeeds."""
+    ran = run(words, seconds=None, **more)
+    return TALLY.check(what, ran.status == 0, f"wanted status 0, came {ran.status}: {ran.said[-3000:]}")
+
+
 def input_of(image):
     """The input that stands beside an example."""
     path = re.sub(r"\.\w+$", ".in", image)
@@ -529,18 +535,56 @@ def try_python(prefix, embed, work, image):
 
 
 def try_go(prefix, embed, work, image):
-    """The hosts in Go."""
+    """The hosts in Go, and the package's own tests, also with the race detector."""
     if not has("go") or not has("pkg-config"):
         TALLY.skip("embed/go", "go or pkg-config")
         return
-    shown_here = shown_by(prefix)
-    env = {**shown_here, "GOCACHE": f"{work}/go-cache", "GOPATH": f"{work}/go", "GOFLAGS": "-mod=mod"}
+    env = {**shown_by(prefix), "GOCACHE": f"{work}/go-cache", "GOPATH": f"{work}/go", "GOPROXY": "off",
+           "GEYSERPAN_EXAMPLES": EXAMPLES}
+    here = {"cwd": f"{embed}/go", "env": env}
     for name in ("filter", "sessions"):
-        made(["go", "build", "-o", f"{work}/go-{name}", f"./{name}"], f"embed/go: {name}", cwd=f"{embed}/go", env=env)
-    try_filter([f"{work}/go-filter"], "embed/go", image, env=shown_here)
-    for way in ([], ["engine"]):
-        came = run([f"{work}/go-sessions", f"{EXAMPLES}/echo/echo.img", "8", *way], SENTENCE, env=shown_here)
-        gives(f"embed/go: 8 sessions side by side {' '.join(way)}", came, SENTENCE)
+        made(["go", "build", "-o", f"{work}/go-{name}", f"./{name}"], f"embed/go: {name}", **here)
+    try_lines([f"{work}/go-filter"], "embed/go", image, [])
+    came = run([f"{work}/go-sessions", f"{EXAMPLES}/echo/echo.img", "8"], SENTENCE)
+    gives("embed/go: 8 sessions side by side", came, SENTENCE)
+    passes(["go", "vet", "./..."], "embed/go by go vet", **here)
+    TALLY.same("embed/go by gofmt", run(["gofmt", "-l", "."], cwd=f"{embed}/go").said, "")
+    for way in ([], ["-race"]):
+        passes(["go", "test", "-count=1", *way, "./..."], f"embed/go's tests {' '.join(way)}", **here)
+    checked = {**env, "GODEBUG": "cgocheck=2"}
+    passes(["go", "test", "-count=1", "."], "embed/go's tests with cgocheck=2", cwd=f"{embed}/go", env=checked)
+
+
+# ---- pages
+
+# What a README of a wrapper prints last: turns are 14 and 16 a byte, as examples/echo has them.
+SHOWN = b"To be, or not to be., exit word 0, 334 turns\n"
+
+
+def home_of(prefix, work):
+    """The environment of a user at whose home `geyserpan` is that prefix."""
+    if not os.path.lexists(f"{work}/geyserpan"):
+        os.symlink(prefix, f"{work}/geyserpan")
+    kept = {"CARGO_HOME": "~/.cargo", "RUSTUP_HOME": "~/.rustup"}
+    found = {name: os.environ.get(name, os.path.expanduser(path)) for name, path in kept.items()}
+    return {"HOME": work, "PATH": os.environ["PATH"], **found}
+
+
+def try_readme(prefix, embed, work, name, tool):
+    """The host that the README of a wrapper shows, in a folder that has nothing but its files and an image."""
+    if not has(tool):
+        TALLY.skip(f"embed/{name}/README.md", tool)
+        return
+    text, folder = text_of(f"{embed}/{name}/README.md"), f"{work}/readme-{name}"
+    for path, body in re.findall(r"^```\w+ (\S+)\n(.*?)^```$", text, re.M | re.S):
+        os.makedirs(os.path.dirname(f"{folder}/{path}"), exist_ok=True)
+        put(f"{folder}/{path}", body)
+    shutil.copy(f"{EXAMPLES}/echo/echo.img", folder)
+    script = re.search(r"^```sh\n(.*?)^```$", text, re.M | re.S)[1]
+    env = {**home_of(prefix, work), "EMBED": embed}
+    ran = run(["bash", "-eu", "-c", script], cwd=folder, env=env, seconds=None)
+    TALLY.check(f"embed/{name}/README.md", ran.status == 0 and ran.out.endswith(SHOWN),
+                f"wanted {shown(SHOWN)} at the end, came status {ran.status}: {ran.said[-1500:]}")
 
 
 def try_page(prefix, work):
@@ -549,10 +593,9 @@ def try_page(prefix, work):
     text, folder = text_of(f"{TOP}/docs/embedding.md"), f"{work}/page"
     host, script = (re.search(rf"^```{it}\n(.*?)^```$", text, re.M | re.S)[1] for it in ("c", "sh"))
     os.makedirs(folder)
-    os.symlink(prefix, f"{work}/geyserpan")
     shutil.copy(f"{EXAMPLES}/echo/echo.img", folder)
     put(f"{folder}/host.c", host)
-    ran = run(["bash", "-eu", "-c", script], cwd=folder, env={"HOME": work, "PATH": os.environ["PATH"]})
+    ran = run(["bash", "-eu", "-c", script], cwd=folder, env=home_of(prefix, work))
     gives("docs/embedding.md", ran, b"abc\nTo be, or not to be.\n", err=b"")
 
 
@@ -565,6 +608,7 @@ def try_hosts(prefix, embed, work, image):
     try_rust(prefix, embed, work, image)
     try_python(prefix, embed, work, image)
     try_go(prefix, embed, work, image)
+    try_readme(prefix, embed, work, "go", "go")
 
 
 # ---- cost

@@ -1,47 +1,50 @@
-// Command filter answers requests by an image that a stranger wrote: filter IMG [engine] < REQUESTS
+// Command filter answers requests by an image that a stranger wrote: filter IMG < REQUESTS
 // Each line of standard input is a request, and standard output takes a line for each.
 package main
 
 import (
 	"bufio"
+	"context"
 	"fmt"
 	"os"
 
-	"geyserpan"
+	"geyserpan.example/geyserpan"
 )
 
-func answer(path string, engine bool) error {
-	bytes, err := os.ReadFile(path)
+func answer(path string) error {
+	data, err := os.ReadFile(path)
 	if err != nil {
 		return err
 	}
-	image, err := geyserpan.Open(bytes, geyserpan.Terms{Turns: 100_000, Output: 4096, Services: geyserpan.Exit | geyserpan.Get | geyserpan.Put, Windows: 8})
+	terms := geyserpan.DefaultTerms()
+	terms.Turns, terms.Output = 100_000, 4096
+	image, err := geyserpan.Open(data, terms)
 	if err != nil {
 		return err
 	}
 	defer image.Close()
-	run := image.Run
-	if engine {
-		run = image.RunOnEngine
-	}
-	room := make([]byte, 4096)
-	out := bufio.NewWriter(os.Stdout)
-	for lines := bufio.NewScanner(os.Stdin); lines.Scan(); {
-		output, _, err := run(lines.Bytes(), room)
+	out, room := bufio.NewWriter(os.Stdout), []byte(nil)
+	lines := bufio.NewScanner(os.Stdin)
+	for lines.Scan() {
+		result, err := image.AppendRun(context.Background(), room[:0], lines.Bytes())
 		if err != nil {
 			return err
 		}
-		out.Write(output)
-		out.WriteByte('\n')
+		room = append(result.Output, '\n')
+		out.Write(room)
+	}
+	if err := lines.Err(); err != nil {
+		return err
 	}
 	return out.Flush()
 }
 
 func main() {
-	if len(os.Args) < 2 {
+	if len(os.Args) != 2 {
+		fmt.Fprintln(os.Stderr, "usage: filter IMG < REQUESTS")
 		os.Exit(3)
 	}
-	if err := answer(os.Args[1], len(os.Args) > 2 && os.Args[2] == "engine"); err != nil {
+	if err := answer(os.Args[1]); err != nil {
 		fmt.Fprintln(os.Stderr, "filter:", err)
 		os.Exit(2)
 	}

@@ -1,6 +1,6 @@
-// Command sessions converses with many at once, each in a goroutine of its own: sessions IMG COUNT [engine] < INPUT
-// Each of COUNT runs is fed standard input, 3 bytes at a time, and gives its output, 2 bytes at a time. Standard output takes the output
-// of the first; that of each other one has to be the same.
+// Command sessions converses with many at once, each in a goroutine of its own: sessions IMG COUNT < INPUT
+// Each of COUNT runs of the one image is fed standard input, 3 bytes at a time, and gives its output, 2 bytes at a
+// time. Standard output takes the output of the first; that of each other one has to be the same.
 package main
 
 import (
@@ -12,41 +12,28 @@ import (
 	"os"
 	"strconv"
 
-	"geyserpan"
+	"geyserpan.example/geyserpan"
 )
 
-// converse has an image of its own, since an image is given to one call at a time.
-func converse(begin func(*geyserpan.Image) (*geyserpan.Run, error), data, input []byte) ([]byte, error) {
-	image, err := geyserpan.Open(data, geyserpan.Terms{Turns: math.MaxUint64, Output: math.MaxUint64, Services: geyserpan.Exit | geyserpan.Get | geyserpan.Put, Windows: 8})
+// converse feeds a run by steps of 1,000 turns.
+func converse(image *geyserpan.Image, input []byte) (output []byte, err error) {
+	session, err := image.Session()
 	if err != nil {
 		return nil, err
 	}
-	defer image.Close()
-	run, err := begin(image)
-	if err != nil {
-		return nil, err
-	}
-	defer run.Close()
-	var output []byte
+	defer session.Close()
 	room := make([]byte, 2)
 	for {
-		piece := input[:min(3, len(input))]
-		status, done, err := run.Step(1000, piece, len(piece) == len(input), room)
-		if err != nil {
-			return nil, err
+		piece := input
+		if len(piece) > 3 {
+			piece = piece[:3]
 		}
-		output, input = append(output, room[:done.Written]...), input[done.Read:]
-		if status == geyserpan.Ended {
-			return output, nil
+		step, err := session.Step(1000, piece, len(piece) == len(input), room)
+		output, input = append(output, room[:step.Written]...), input[step.Read:]
+		if err != nil || step.State == geyserpan.Ended {
+			return output, err
 		}
 	}
-}
-
-func min(a, b int) int {
-	if a < b {
-		return a
-	}
-	return b
 }
 
 type answer struct {
@@ -54,7 +41,30 @@ type answer struct {
 	err    error
 }
 
-func all(path string, count int, engine bool) error {
+// agree gives the output that all of them have in common.
+func agree(image *geyserpan.Image, count int, input []byte) ([]byte, error) {
+	answers := make(chan answer)
+	for i := 0; i < count; i++ {
+		go func() {
+			output, err := converse(image, input)
+			answers <- answer{output, err}
+		}()
+	}
+	first := <-answers
+	for i := 1; i < count; i++ {
+		next := <-answers
+		switch {
+		case first.err != nil:
+		case next.err != nil:
+			first.err = next.err
+		case !bytes.Equal(next.output, first.output):
+			first.err = errors.New("two sessions differ")
+		}
+	}
+	return first.output, first.err
+}
+
+func all(path string, count int) error {
 	data, err := os.ReadFile(path)
 	if err != nil {
 		return err
@@ -63,41 +73,31 @@ func all(path string, count int, engine bool) error {
 	if err != nil {
 		return err
 	}
-	begin := geyserpan.Begin
-	if engine {
-		begin = geyserpan.BeginOnEngine
+	terms := geyserpan.DefaultTerms()
+	terms.Turns, terms.Output = math.MaxUint64, math.MaxUint64
+	image, err := geyserpan.Open(data, terms)
+	if err != nil {
+		return err
 	}
-	answers := make(chan answer)
-	for i := 0; i < count; i++ {
-		go func() {
-			output, err := converse(begin, data, input)
-			answers <- answer{output, err}
-		}()
+	defer image.Close()
+	output, err := agree(image, count, input)
+	if err != nil {
+		return err
 	}
-	first := <-answers
-	for i := 1; i < count; i++ {
-		next := <-answers
-		if next.err != nil {
-			first.err = next.err
-		} else if !bytes.Equal(next.output, first.output) {
-			first.err = errors.New("two sessions differ")
-		}
-	}
-	if first.err == nil {
-		_, first.err = os.Stdout.Write(first.output)
-	}
-	return first.err
+	_, err = os.Stdout.Write(output)
+	return err
 }
 
 func main() {
-	if len(os.Args) < 3 {
+	count := 0
+	if len(os.Args) == 3 {
+		count, _ = strconv.Atoi(os.Args[2])
+	}
+	if count < 1 {
+		fmt.Fprintln(os.Stderr, "usage: sessions IMG COUNT < INPUT")
 		os.Exit(3)
 	}
-	count, err := strconv.Atoi(os.Args[2])
-	if err != nil || count < 1 {
-		os.Exit(3)
-	}
-	if err := all(os.Args[1], count, len(os.Args) > 3 && os.Args[3] == "engine"); err != nil {
+	if err := all(os.Args[1], count); err != nil {
 		fmt.Fprintln(os.Stderr, "sessions:", err)
 		os.Exit(2)
 	}
