@@ -473,21 +473,31 @@ SENTENCE = b"To be, or not to be."
 
 
 def try_rust(prefix, embed, work, image):
-    """The hosts in Rust."""
+    """The hosts in Rust, and the crate's own tests, layout and lints."""
     if not has("cargo"):
         TALLY.skip("embed/rust", "cargo")
         return
-    env = {**shown_by(prefix), "CARGO_TARGET_DIR": f"{work}/cargo"}
-    if not has("pkg-config"):
-        env["GEYSERPAN_LIB_DIR"] = f"{prefix}/lib"
-    words = ["cargo", "build", "--offline", "--release", "--examples"]
-    if not made(words, "embed/rust", cwd=f"{embed}/rust", env=env):
+    env = {**shown_by(prefix), "CARGO_TARGET_DIR": f"{work}/cargo", "GEYSERPAN_EXAMPLES": EXAMPLES,
+           "GEYSERPAN_LIB_DIR": f"{prefix}/lib"}
+    here = {"cwd": f"{embed}/rust", "env": env}
+    if not made(["cargo", "build", "--offline", "--release", "--examples"], "embed/rust", **here):
         return
     hosts = f"{work}/cargo/release/examples"
-    try_filter([f"{hosts}/filter"], "embed/rust", image)
-    for way in ([], ["engine"]):
-        came = run([f"{hosts}/sessions", f"{EXAMPLES}/echo/echo.img", "1000", *way], SENTENCE)
-        gives(f"embed/rust: 1,000 sessions {' '.join(way)}", came, SENTENCE)
+    try_lines([f"{hosts}/filter"], "embed/rust", image, [])
+    came = run([f"{hosts}/sessions", f"{EXAMPLES}/echo/echo.img", "1000"], SENTENCE)
+    gives("embed/rust: 1,000 sessions", came, SENTENCE)
+    passes(["cargo", "test", "--offline"], "embed/rust's tests", **here)
+    for tool, words in {"clippy": ["--offline", "--all-targets", "--", "-D", "warnings"], "fmt": ["--check"]}.items():
+        if run(["cargo", tool, "--version"]).status:
+            TALLY.skip(f"embed/rust by cargo {tool}", f"cargo {tool}")
+        else:
+            passes(["cargo", tool, *words], f"embed/rust by cargo {tool}", **here)
+    if run(["cargo", "+nightly", "--version"]).status:
+        TALLY.skip("embed/rust's tests under AddressSanitizer", "a nightly toolchain")
+        return
+    words = ["cargo", "+nightly", "test", "--offline", "--tests", "--target", "x86_64-unknown-linux-gnu"]
+    sanitized = {**env, "RUSTFLAGS": "-Zsanitizer=address"}
+    passes(words, "embed/rust's tests under AddressSanitizer", cwd=f"{embed}/rust", env=sanitized)
 
 
 def python_site(prefix, embed, work, *flags):
@@ -608,7 +618,8 @@ def try_hosts(prefix, embed, work, image):
     try_rust(prefix, embed, work, image)
     try_python(prefix, embed, work, image)
     try_go(prefix, embed, work, image)
-    try_readme(prefix, embed, work, "go", "go")
+    for name, tool in {"rust": "cargo", "go": "go"}.items():
+        try_readme(prefix, embed, work, name, tool)
 
 
 # ---- cost
