@@ -1,46 +1,52 @@
-// Has an image converse: conversation IMG [engine]
-// Standard input is read a line at a time, as the program asks for it, and what it puts out is written as it comes.
+// Has an image converse: conversation IMG [TURNS]
+// Standard input is read as the program asks for it, and what that puts out is written before it waits for more. With
+// TURNS the run goes by steps of so many turns on a board, as in an event loop, and is fed a line at a time.
 #include "geyserpan.hpp"
 #include <fstream>
 #include <iostream>
 #include <iterator>
 
-template <typename run_type> static uint32_t converse(run_type run, geyserpan::image &image)
+// By steps. A step never waits: what it asks for is brought between two steps.
+static std::uint32_t by_steps(const geyserpan::image &image, std::uint64_t turns)
 {
-    std::vector<uint8_t> room(4096);
+    geyserpan::board_session run(image);
+    std::array<char, 64> room;
     std::string line;
-    std::string_view piece;
-    geyserpan_done done;
-    run.begin(image);
+    geyserpan::bytes piece(line);
     for (bool last = false;;) {
-        uint32_t status = run.step(100000, piece, last, room, done);
-        piece.remove_prefix(done.read);
-        std::cout.write(reinterpret_cast<const char *>(room.data()), static_cast<std::streamsize>(done.written)).flush();
-        if (status == GEYSERPAN_ENDED)
-            return done.exit;
-        if (status == GEYSERPAN_WANTS) {
+        const geyserpan::progress made = run.step(turns, piece, last, room);
+        piece = piece.behind(made.read);
+        std::cout.write(room.data(), static_cast<std::streamsize>(made.written)).flush();
+        if (made.state == geyserpan::status::ended)
+            return made.exit;
+        if (made.state == geyserpan::status::output)
+            throw geyserpan::output_too_long(made.state, "more output than is granted");
+        if (made.state == geyserpan::status::wants) {
             last = !std::getline(std::cin, line);
             if (!last && !std::cin.eof())
                 line += '\n';
-            piece = last ? std::string_view() : line;
-        } else if (status != GEYSERPAN_FULL && status != GEYSERPAN_PAUSED) {
-            geyserpan::check(status);
+            piece = last ? geyserpan::bytes(nullptr, 0) : geyserpan::bytes(line);
         }
     }
 }
 
 int main(int count, char **words)
 try {
-    if (count < 2 || geyserpan_abi() != GEYSERPAN_ABI)
+    if (count < 2) {
+        std::cerr << "usage: conversation IMG [TURNS]\n";
         return 3;
+    }
     std::ifstream file(words[1], std::ios::binary);
-    if (!file)
+    if (!file) {
+        std::cerr << "conversation: " << words[1] << ": can't be read\n";
         return 4;
-    std::string bytes{ std::istreambuf_iterator<char>(file), {} };
-    geyserpan::image image(bytes, { UINT64_MAX, UINT64_MAX, GEYSERPAN_EXIT | GEYSERPAN_GET | GEYSERPAN_PUT, 8 });
-    const bool engine = count > 2 && std::string_view(words[2]) == "engine";
-    return (engine ? converse(geyserpan::engine(), image) : converse(geyserpan::run(), image)) != 0;
-} catch (const geyserpan::refusal &refusal) {
-    std::cerr << "conversation: " << refusal.what() << '\n';
+    }
+    const std::string data{ std::istreambuf_iterator<char>(file), {} };
+    const geyserpan::image image(data, { UINT64_MAX, UINT64_MAX });
+    if (count > 2)
+        return by_steps(image, std::stoull(words[2])) != 0;
+    return geyserpan::filter(image, std::cin, std::cout).exit != 0;
+} catch (const std::exception &error) {
+    std::cerr << "conversation: " << error.what() << '\n';
     return 2;
 }

@@ -1,4 +1,4 @@
-// Answers requests by an image that a stranger wrote: filter IMG [engine] < REQUESTS
+// Answers requests by an image that a stranger wrote: filter IMG < REQUESTS
 // Each line of standard input is a request, and standard output takes a line for each.
 #include "geyserpan.hpp"
 #include <fstream>
@@ -7,19 +7,21 @@
 
 int main(int count, char **words)
 try {
-    if (count < 2 || geyserpan_abi() != GEYSERPAN_ABI)
+    if (count < 2) {
+        std::cerr << "usage: filter IMG < REQUESTS\n";
         return 3;
+    }
     std::ifstream file(words[1], std::ios::binary);
-    if (!file)
+    if (!file) {
+        std::cerr << "filter: " << words[1] << ": can't be read\n";
         return 4;
-    std::string bytes{ std::istreambuf_iterator<char>(file), {} };
-    geyserpan::image filter(bytes, { 100000, 4096, GEYSERPAN_EXIT | GEYSERPAN_GET | GEYSERPAN_PUT, 8 });
-    const bool engine = count > 2 && std::string_view(words[2]) == "engine";
-    geyserpan_report report;
+    }
+    const std::string data{ std::istreambuf_iterator<char>(file), {} };
+    const geyserpan::image image(data, { 100'000, 4096 });
     for (std::string line; std::getline(std::cin, line);)
-        std::cout << (engine ? filter.run_on_engine(line, report) : filter.run(line, report)) << '\n';
+        std::cout << image.run(line).output << '\n';
     return std::cout.flush() ? 0 : 4;
-} catch (const geyserpan::refusal &refusal) {
-    std::cerr << "filter: " << refusal.what() << '\n';
+} catch (const geyserpan::error &error) {
+    std::cerr << "filter: " << error.what() << '\n';
     return 2;
 }

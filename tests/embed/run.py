@@ -453,7 +453,7 @@ def try_c(prefix, embed, work, image):
 
 
 def try_cxx(prefix, embed, work, image):
-    """The hosts in C++."""
+    """The hosts in C++, and what the header gives and refuses."""
     given, env = b"one\n\ntwo " * 100, shown_by(prefix)
     for compiler in ("g++", "clang++"):
         if not has(compiler):
@@ -462,10 +462,31 @@ def try_cxx(prefix, embed, work, image):
         for name in ("filter", "conversation"):
             words = [compiler, "-std=c++17", *WARNINGS, f"{embed}/c++/{name}.cpp", *flags_of(prefix)]
             made([*words, "-o", f"{work}/{compiler}-{name}"], f"embed/c++/{name}.cpp by {compiler}")
-        try_filter([f"{work}/{compiler}-filter"], f"embed/c++ by {compiler}", image, env=env)
-        for way in ([], ["engine"]):
+        try_lines([f"{work}/{compiler}-filter"], f"embed/c++ by {compiler}", image, [], env=env)
+        for way in ([], ["7"]):
             came = run([f"{work}/{compiler}-conversation", f"{EXAMPLES}/echo/echo.img", *way], given, env=env)
             gives(f"{compiler}: a conversation in C++ {' '.join(way)}", came, given)
+        try_wrapped(prefix, work, [compiler, "-std=c++20", *WARNINGS])
+        for kind in ("address,undefined", "thread"):
+            try_wrapped(prefix, work, [compiler, "-std=c++17", "-g", "-O1", f"-fsanitize={kind}"])
+
+
+def try_wrapped(prefix, work, words):
+    """What the header for C++ gives and refuses, eight threads on one image, and runs that are stopped."""
+    wrapped, name = f"{work}/{words[0]}-wrapped", f"wrapped.cpp by {words[0]} {words[-1]}"
+    words = [*words, f"-I{prefix}/include", f"{SOURCES}/wrapped.cpp", f"{prefix}/lib/libgeyserpan.a", "-lpthread"]
+    ran = run([*words, "-o", wrapped], seconds=None)
+    if ran.status and "-fsanitize" in name and "cannot find" in ran.said:
+        TALLY.skip(name, "its library")
+        return
+    if not TALLY.check(name, ran.status == 0, f"wanted that it is built, came {ran.said[-1500:]}"):
+        return
+    echo, refused = f"{EXAMPLES}/echo/echo.img", f"{EXAMPLES}/refused/V1"
+    line = text_of(f"{refused}.told").splitlines()[0]
+    for way in (["answers", echo, f"{refused}.img", line], ["threads", echo, "200"],
+                ["stops", echo, f"{EXAMPLES}/deep/deep.img"]):
+        ran = run(["setarch", "-R", wrapped, *way], seconds=None)
+        gives(f"{name}: {way[0]}", ran, f"{way[0]}\n".encode())
 
 
 # What the hosts of sessions echo.
@@ -618,7 +639,7 @@ def try_hosts(prefix, embed, work, image):
     try_rust(prefix, embed, work, image)
     try_python(prefix, embed, work, image)
     try_go(prefix, embed, work, image)
-    for name, tool in {"rust": "cargo", "go": "go"}.items():
+    for name, tool in {"c++": "cmake", "rust": "cargo", "go": "go"}.items():
         try_readme(prefix, embed, work, name, tool)
 
 
