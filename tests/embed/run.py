@@ -7,9 +7,10 @@ removed. Compares what it exports and asks for, and the layout of its structs, w
 of each example image and of each refused source with the files beside them; outputs whole and in pieces of odd sizes;
 goes through refusals, empty handles and ends; refuses each growth of memory in turn by an allocator of its own; makes
 many runs under AddressSanitizer and valgrind, and in eight threads under ThreadSanitizer, on images of their own and on
-one that they share; begins runs on terms of their own; compares the names of images with hashlib's; and builds and runs
-the examples of embed/ in C, C++, Rust, Python and Go. What isn't there is skipped, and said so. Where the program of
-./sandbox is built, its verdicts and outputs are compared, too.
+one that they share; begins runs on terms of their own; compares the names of images with hashlib's; builds and runs
+the examples of embed/ in C, C++, Rust, Python and Go, the tests that each of these has, under sanitizers where there
+are some, and what their READMEs show, in empty folders; and has a worker of a Dask cluster killed. What isn't there is
+skipped, and said so. Where the program of ./sandbox is built, its verdicts and outputs are compared, too.
 
 With --installed it tries a release that `install PREFIX` has laid out: what the library exports, and the hosts of
 share/geyserpan/embed there, which find header and library by pkg-config.
@@ -20,9 +21,11 @@ instructions, and by a process of the program; and the size of the library."""
 import glob
 import hashlib
 import os
+import random
 import re
 import resource
 import shutil
+import signal
 import subprocess
 import sys
 import sysconfig
@@ -543,8 +546,9 @@ def try_pytest(embed, site, what, **more):
 
 
 def try_python(prefix, embed, work, image):
-    """The package for Python: its example and its tests, also under AddressSanitizer, and its types."""
+    """The package for Python: its examples and its tests, also under AddressSanitizer, and its types."""
     site = python_site(prefix, embed, work)
+    try_dask(embed, work, site)
     if not site:
         return
     env = {**os.environ, "PYTHONPATH": site, "PYTHONDONTWRITEBYTECODE": "1"}
@@ -584,6 +588,60 @@ def try_go(prefix, embed, work, image):
         passes(["go", "test", "-count=1", *way, "./..."], f"embed/go's tests {' '.join(way)}", **here)
     checked = {**env, "GODEBUG": "cgocheck=2"}
     passes(["go", "test", "-count=1", "."], "embed/go's tests with cgocheck=2", cwd=f"{embed}/go", env=checked)
+
+
+# ---- clusters
+
+# Ends with 0 where its input begins with an E, after 4,000 rounds of three turns.
+MATCHER = """.services exit,get
+.function main,leaf,0,0,12011
+.fuel 12011
+ sethi 3,%o1
+ or %o1,928,%o1
+.block loop
+.cell %o1,1,4000,0
+.fuel 9
+.term %o1,3
+ deccc %o1
+ bne loop
+ nop
+.block after
+.fuel 9
+ ta 1
+ sub %o0,69,%o0
+ ta 0
+"""
+
+
+def of_cluster(words, kills, **more):
+    """The output of a command that tells the numbers of its workers on standard error; where `kills`, of which one is
+    killed once there is some output, while the command goes on."""
+    streams = {"stdout": subprocess.PIPE, "stderr": subprocess.PIPE, "bufsize": 0}
+    with subprocess.Popen(words, **streams, **more) as ran:
+        told = next((it for it in ran.stderr if it.startswith(b"workers: ")), b"workers: ").split()[1:]
+        first = ran.stdout.read(1)
+        if kills and told:
+            TALLY.check("a worker is killed in the middle", ran.poll() is None, "wanted that it goes on, came its end")
+            os.kill(int(told[0]), signal.SIGKILL)
+        return first + ran.communicate()[0]
+
+
+def try_dask(embed, work, site):
+    """An image over the lines of a file, on a cluster of Dask, also with a worker killed."""
+    pythons = [it for it in (sys.executable, "/usr/bin/python3") if not run([it, "-c", "import distributed"]).status]
+    if not site or not pythons:
+        TALLY.skip("embed/python/examples/dask_map.py", "the package, or Debian's python3-distributed")
+        return
+    image = put(f"{work}/matcher.img", run([f"{work}/calls", "assemble", put(f"{work}/matcher.s", MATCHER)]).out)
+    dice = random.Random(7)
+    lines = [b"%c line %d, %x\n" % (dice.choice(b"EIWe"), it, dice.getrandbits(200)) for it in range(20000)]
+    words = [pythons[0], f"{embed}/python/examples/dask_map.py", image, put(f"{work}/lines", b"".join(lines))]
+    env = {**os.environ, "PYTHONPATH": site, "PYTHONDONTWRITEBYTECODE": "1"}
+    for kills in (False, True):
+        came = of_cluster(words, kills, cwd=work, env=env)
+        holds = came == b"".join(it for it in lines if it.startswith(b"E"))
+        TALLY.check(f"dask_map.py{', a worker killed' * kills}", holds,
+                    f"wanted the lines that begin with E, came {shown(came[-200:])}")
 
 
 # ---- pages
