@@ -11,7 +11,7 @@ LANGUAGE = ("sbx_asm",)
 PREFIXES = {"engine": "engine", "inspect": "inspect", "cmd": "cmd", "fit": "fit", "native": "native", "leon": "leon",
             "flat": "tests"}
 OTHERS = {"sbx_tool": "cmd", "sbx_reader": "cmd", "sbx_session": "hosts", "host": "hosts", "geyserpan": "hosts",
-          "board": "leon", "v8_vectors": "tests", "v8_turns": "tests", "sbx_verdicts": "tests",
+          "playground": "hosts", "board": "leon", "v8_vectors": "tests", "v8_turns": "tests", "sbx_verdicts": "tests",
           "sbx_bench": "tests"}
 
 

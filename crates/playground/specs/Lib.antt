@@ -1,0 +1,3 @@
+pub mod Rooms
+pub mod Told
+pub mod Denials
