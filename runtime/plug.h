@@ -16,11 +16,7 @@ static inline void quit(int word) { exit(word != 0); }
 #else
 
 typedef __SIZE_TYPE__ size_t;
-#ifdef __cplusplus
-#define NULL __null
-#else
-#define NULL ((void *)0)
-#endif
+#define NULL 0
 
 /* The next byte of the input, 0 to 255; -1 at its end, and from then on. */
 static inline int get(void) {

@@ -9,16 +9,19 @@ static void *taken(std::size_t size) {
     return block;
 }
 
-void *operator new(std::size_t size) { return taken(size); }
-void *operator new[](std::size_t size) { return taken(size); }
-void *operator new(std::size_t size, const std::nothrow_t &) noexcept { return std::malloc(size); }
-void *operator new[](std::size_t size, const std::nothrow_t &) noexcept { return std::malloc(size); }
-void operator delete(void *block) noexcept { std::free(block); }
-void operator delete[](void *block) noexcept { std::free(block); }
-void operator delete(void *block, std::size_t) noexcept { std::free(block); }
-void operator delete[](void *block, std::size_t) noexcept { std::free(block); }
-void operator delete(void *block, const std::nothrow_t &) noexcept { std::free(block); }
-void operator delete[](void *block, const std::nothrow_t &) noexcept { std::free(block); }
+/* What a program may have of its own. */
+#define REPLACEABLE __attribute__((weak))
+
+REPLACEABLE void *operator new(std::size_t size) { return taken(size); }
+REPLACEABLE void *operator new[](std::size_t size) { return taken(size); }
+REPLACEABLE void *operator new(std::size_t size, const std::nothrow_t &) noexcept { return std::malloc(size); }
+REPLACEABLE void *operator new[](std::size_t size, const std::nothrow_t &) noexcept { return std::malloc(size); }
+REPLACEABLE void operator delete(void *block) noexcept { std::free(block); }
+REPLACEABLE void operator delete[](void *block) noexcept { std::free(block); }
+REPLACEABLE void operator delete(void *block, std::size_t) noexcept { std::free(block); }
+REPLACEABLE void operator delete[](void *block, std::size_t) noexcept { std::free(block); }
+REPLACEABLE void operator delete(void *block, const std::nothrow_t &) noexcept { std::free(block); }
+REPLACEABLE void operator delete[](void *block, const std::nothrow_t &) noexcept { std::free(block); }
 
 namespace std {
 const nothrow_t nothrow{};
@@ -44,8 +47,7 @@ void __throw_overflow_error(const char *) { abort(); }
 extern "C" {
 void *__dso_handle;
 
-/* (a program may have its own) */
-__attribute__((weak)) void __cxa_pure_virtual() { std::abort(); }
+REPLACEABLE void __cxa_pure_virtual() { std::abort(); }
 void __cxa_deleted_virtual() { std::abort(); }
 void __cxa_throw_bad_array_new_length() { std::abort(); }
 
