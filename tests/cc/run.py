@@ -195,6 +195,8 @@ def try_programs(author):
         told = f"{len(inputs)} inputs, 0 differ"
         words = [*sources, *(["-std=gnu++20"] if is_plus else []), "--against", *inputs]
         author.called(0, told, *words, tool=PLUS if is_plus else CC)
+        if not is_plus:
+            author.called(0, told, *words, "-O0")
         if has("clang"):
             author.called(0, told, *words, tool=PLUS if is_plus else CC, env={**os.environ, "CC_SPARC": "clang"})
 

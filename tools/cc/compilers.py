@@ -142,7 +142,7 @@ class Compiler:
         made = [f"{work}/{number}-{os.path.basename(it)}{self.ending}" for number, it in enumerate(sources)]
 
         def compiled(source, path):
-            more = [*self.kind, *self.dependencies(f"{path}.d"), "-o", path]
+            more = [*self.kind, *self.by_level(), *self.dependencies(f"{path}.d"), "-o", path]
             return self.called(source, self.request.level, self.request.flags, *more)
         with concurrent.futures.ThreadPoolExecutor() as lanes:
             ran = list(lanes.map(compiled, sources, made))
@@ -150,6 +150,10 @@ class Compiler:
         if any(it.returncode for it in ran):
             raise Fault(2, self.told.rstrip("\n"))
         return made
+
+    def by_level(self):
+        """What sources are compiled with beside the level that is asked for."""
+        return []
 
     def dependencies(self, path):
         """The words that write down what a source includes."""
@@ -167,6 +171,11 @@ class Gcc(Compiler):
     kind = ["-c", "-flto"]
     # (an address of a variable in a register that is kept over calls would have to be tested, where it is a constant)
     library_flags = ["-fno-gcse", "-fno-move-loop-invariants"]
+
+    def by_level(self):
+        """At -O0 calls of functions that gcc knows are calls: it doesn't look for those that it knows in the library,
+        and the headers' own bodies of printf and the like, which call others, aren't taken there."""
+        return ["-fno-builtin"] if self.request.level == "-O0" else []
 
     @property
     def archiver(self):
