@@ -131,8 +131,8 @@ LENT = (
 # for want of memory alone; and what a fault's number is compared with before.
 LIBRARY, MEMORY, NUMBER_OF_MEMORY = "crates/geyserpan/", "MEMORY", "3"
 WANTING = re.compile(
-    r"(?:Box|Arc|Session|FlatSession) :: new \( alloc , [^\[\];]*\)|Arc :: try_clone \( [^{}]*\)"
-    r"|run_(?:windows|flat) \( alloc , [^{}]*\)"
+    r"(?:Box|Arc|Session) :: new \( alloc , [^\[\];]*\)|Arc :: try_clone \( [^{}]*\)"
+    r"|FlatSession :: of \( alloc , [^\[\];]*\)|(?:run_(?:windows|opened)|opened_of) \( alloc , [^{}]*\)"
     r"|write \( & image , alloc \)"
 )
 COMPARED = [f"if number == {it} {{ return" for it in ("NO_MEMORY_FAULT", "NO_MEMORY_RULE", "0")]
@@ -141,9 +141,10 @@ COMPARED = [f"if number == {it} {{ return" for it in ("NO_MEMORY_FAULT", "NO_MEM
 # copied.
 MAKERS = ("OnceCell", "LazyCell", "OnceLock", "LazyLock", "Rc", "Arc", "RcStr", "ArcStr")
 
-# Where such a type stands: what handles of an image share is made where memory for it is there, and a further handle to
-# it where fewer than 2^63 hold it, which the header tells as want of memory.
-SHARED = "crates/geyserpan/src/image_slot.rt"
+# Where such a type stands: what handles and runs of an image share is made where memory for it is there, and a further
+# owner of it where there are fewer than 2^63, which the header tells as want of memory.
+SHARED = ("crates/geyserpan/src/image_slot.rt",
+          *(f"crates/engine_runs/src/{it}.rt" for it in ("flat_run", "opened", "runs")))
 
 # Calls that ask for room for a count of items, and functions of the sources that do it with a count that is handed to
 # them.
@@ -497,7 +498,7 @@ class Sight:
             if is_unsafe or word == "from_raw_os_error" or word == "Allocator" and words_at(tokens, at + 1,
                                                                                             1) == "for":
                 self.found.append(f"{path}:{line}: {words_at(tokens, at, 4)}")
-            if maker_at(tokens, at) and not (path == SHARED and word == "Arc"):
+            if maker_at(tokens, at) and not (path in SHARED and word == "Arc"):
                 around = words_at(tokens, at - 4, 9)
                 self.found.append(f"{path}:{line}: it may make evidence without a growth: {around}")
             asked = asked_at(tokens, at)
