@@ -11,10 +11,12 @@ have to be: exit word, output, window traps, and no other trap. Parts:
   examples   the examples on 4, 8 and 32 windows, by RAM and over the UART, with caches and without
   programs   the programs of examples/c on five inputs each
   verdicts   N of the stored runs (500), on their counts of windows
+  calls      images called by C, a thousand times in a row each, from systems with their MMU off and on
   refused    images that aren't accepted, other words, places that can't be, files that can't be written
   speed      turns a second beside board and engine
 
-It needs qemu-system-sparc, and binutils for SPARC for the first part; what isn't there is told and skipped."""
+It needs qemu-system-sparc, binutils for SPARC for the first part, and gcc for the calls; what isn't there is told and
+skipped."""
 import os
 import re
 import subprocess
@@ -35,7 +37,12 @@ from tally import Tally, Words
 
 BOARD = f"{TOP}/board"
 STORED = f"{TOP}/crates/sbx_verdicts/stdin"
-AS, LD, COPY, NAMES = (f"sparc64-linux-gnu-{it}" for it in ("as", "ld", "objcopy", "nm"))
+AS, LD, COPY, NAMES, GCC = (f"sparc64-linux-gnu-{it}" for it in ("as", "ld", "objcopy", "nm", "gcc"))
+EMBED = f"{TOP}/embed/leon"
+# How C for a LEON3 is compiled here, and where the example has its image.
+FLAGS = ["-m32", "-mcpu=v8", "-mno-fpu", "-O2", "-Wall", "-Wextra", "-Werror", "-ffreestanding", "-fno-builtin",
+         "-fno-pic", "-no-pie", "-nostdlib", "-static", "-Wa,--noexecstack", "-Wl,--build-id=none,-z,noexecstack"]
+CALLED = 0x41000000
 # Where the sections of the sources lie: the stub in physical memory, all else in virtual one.
 SECTIONS = {".text": leon.RAM + 0x4000, ".services": 0xF0000800, ".other": 0xF0002000, ".routines": 0xF0001100}
 # Where they lie in RAM, and how a trap type's vector is told from the others.
@@ -212,6 +219,63 @@ def verdicts(tally, asked):
                 tally.same(f"run {number}", leon.run_in_ram(f"{room}/elf", int(windows), True), wanted)
 
 
+# The inputs of embed/leon/example, and how many calls it makes behind the first ones.
+INPUTS = (b"", b"a", b"Hello, LEON\n", b"the quick brown fox jumps over the lazy dog")
+MORE_CALLS = 1000 - len(INPUTS)
+
+
+def host_made(out, *own):
+    """Makes a host on a LEON3 that calls an image: embed/leon/example, or one whose own `main` calls the example's."""
+    if own:
+        ran = run([GCC, *FLAGS, "-Dmain=example", "-c", f"{EMBED}/example/main.c", "-o", f"{out}.o"])
+        if ran.status:
+            return ran
+    main = f"{out}.o" if own else f"{EMBED}/example/main.c"
+    return run([GCC, *FLAGS, "-T", f"{EMBED}/example/host.ld", "-e", "start", f"{EMBED}/example/start.s", main, *own,
+                f"{EMBED}/geyserpan_leon.c", f"{EMBED}/enter.s", "-o", out])
+
+
+def called(host, image, windows, room):
+    """What a host puts out that calls an image."""
+    words = [leon.PROGRAM, "-M", "leon3_generic", "-cpu", f"LEON3,nwindows={windows}", "-m", "64", "-kernel", host,
+             *(["-device", f"loader,file={image}"] if image else []), "-display", "none", "-monitor", "none", "-serial",
+             f"file:{room}/out"]
+    subprocess.run(words, stdin=subprocess.DEVNULL, stderr=subprocess.DEVNULL, timeout=120, check=False)
+    return bytes_of(f"{room}/out")
+
+
+def calls_wanted(image, windows):
+    """What the example has to put out."""
+    runs = [board_run(image, given, windows) for given in INPUTS]
+    told = [b"%08X %s\nend 00000001 word %s\n" % (len(it.output), it.output, it.end.split()[1].encode()) for it in runs]
+    return b"".join(told) + b"same %08X\n" % MORE_CALLS
+
+
+def calls(tally, _asked):
+    if not has(GCC):
+        tally.skip("calls", GCC)
+        return
+    built("sandbox", "inspect")
+    with tempfile.TemporaryDirectory() as room:
+        hosts = {"MMU off": (), "MMU on": (f"{HERE}/mapped.c",)}
+        for name, own in hosts.items():
+            ran = host_made(f"{room}/{name}", *own)
+            tally.check(f"a host with its {name}", ran.status == 0, ran.said)
+        for name, image, _ in examples():
+            for windows in (4, 8, 32):
+                made(image, f"{room}/elf", "--ram", hex(CALLED), "--windows", str(windows))
+                wanted = calls_wanted(image, windows)
+                for host in hosts:
+                    came = called(f"{room}/{host}", f"{room}/elf", windows, room)
+                    tally.same(f"{name} called on {windows} windows, {host}", came, wanted)
+        host = f"{room}/MMU off"
+        tally.same("a host without an image", called(host, None, 8, room), b"open: 00000005\n")
+        made(f"{EXAMPLES}/hello/hello.img", f"{room}/elf", "--ram", hex(CALLED), "--uart")
+        tally.same("an image for the UART", called(host, f"{room}/elf", 8, room), b"open: 00000005\n")
+        made(f"{EXAMPLES}/hello/hello.img", f"{room}/elf", "--ram", hex(CALLED), "--windows", "7")
+        tally.same("an image for seven windows", called(host, f"{room}/elf", 8, room), b"open: 00000006\n")
+
+
 class Stub(Leon):
     """A LEON3 with a program, which runs up to the first instruction of the image."""
 
@@ -341,7 +405,7 @@ def speed(tally, _asked):
 
 
 PARTS = {"words": words, "loaded": loaded, "start": start, "examples": examples_run, "programs": programs,
-         "verdicts": verdicts, "refused": refused, "speed": speed}
+         "verdicts": verdicts, "calls": calls, "refused": refused, "speed": speed}
 
 
 def main(asked_words):
