@@ -1,0 +1,2 @@
+pub mod Mailbox
+pub mod Laws
