@@ -11,6 +11,7 @@ have to be: exit word, output, window traps, and no other trap. Parts:
   examples   the examples on 4, 8 and 32 windows, by RAM and over the UART, with caches and without
   programs   the programs of examples/c on five inputs each
   verdicts   N of the stored runs (500), on their counts of windows
+  services   each call of a service, step by step, beside the laws of leon_services
   calls      images called by C, a thousand times in a row each, from systems with their MMU off and on
   refused    images that aren't accepted, other words, places that can't be, files that can't be written
   speed      turns a second beside board and engine
@@ -29,6 +30,7 @@ HERE = os.path.dirname(os.path.abspath(__file__))
 sys.path[:0] = [f"{os.path.dirname(HERE)}/lib", HERE]
 sys.path.append(f"{os.path.dirname(os.path.dirname(HERE))}/tools/vectors")
 import leon
+import services
 import v8_board
 from qemu import Leon
 from run import (EXAMPLES, FIT, HOST, INSPECT, SANDBOX, TOP, built, bytes_of, has, least_kib, program, put, run,
@@ -325,6 +327,14 @@ def start(tally, _asked):
             tally.same(f"{name}: code, data and stack", others, [])
 
 
+def services_run(tally, _asked):
+    with tempfile.TemporaryDirectory() as room:
+        for name, given, fills in (("upper", b"a\0\xff", False), ("upper", b"ab", True), ("hello", b"", False)):
+            put(f"{room}/in", given)
+            made(f"{EXAMPLES}/{name}/{name}.img", f"{room}/elf", "--input", f"{room}/in")
+            services.follow(tally, f"{name}{', full' if fills else ''}", Stub(f"{room}/elf"), fills)
+
+
 def refused(tally, _asked):
     hello = f"{EXAMPLES}/hello/hello.img"
     with tempfile.TemporaryDirectory() as room:
@@ -405,7 +415,7 @@ def speed(tally, _asked):
 
 
 PARTS = {"words": words, "loaded": loaded, "start": start, "examples": examples_run, "programs": programs,
-         "verdicts": verdicts, "calls": calls, "refused": refused, "speed": speed}
+         "verdicts": verdicts, "services": services_run, "calls": calls, "refused": refused, "speed": speed}
 
 
 def main(asked_words):
