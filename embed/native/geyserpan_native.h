@@ -10,9 +10,9 @@
 #include <stdint.h>
 #include <string.h>
 
-#define GEYSERPAN_NATIVE_ABI 1u
+#define GEYSERPAN_NATIVE_ABI 2u
 
-/* The bytes of a data block: addresses 00080000 to 000FFFFF, and room for a word at its end. */
+/* The most bytes of a data block: addresses 00080000 to 000FFFFF, and room for a word at its end. */
 #define GEYSERPAN_NATIVE_BLOCK (524288u + 8u)
 
 /* Why a step ended. */
@@ -33,7 +33,8 @@ struct geyserpan_native_io {
        and its 0 ends the run as FULL */
     int (*more)(geyserpan_native_io *), (*full)(geyserpan_native_io *);
     void *host;                 /* the host's own */
-    uint64_t limit;             /* of a step: pauses where a loop begins again, once `turns` have come to it */
+    uint64_t limit;             /* of a step: pauses where a loop begins again, or a function has returned, once
+                                   `turns` have come to it */
     uint64_t turns, overflows, underflows; /* counted so far, on `windows` windows; 0 before the first step */
     uint32_t windows;           /* 4 to 32 */
     uint32_t taken;             /* windows that are taken; 1 before the first step */
@@ -48,7 +49,8 @@ typedef struct {
     uint32_t is_counted;  /* whether turns and window traps are counted */
     uint32_t is_masked;
     uint32_t state_bytes; /* of what a run by steps keeps */
-    /* a run from its start: ENDED, or FULL where `full` says so; the block has GEYSERPAN_NATIVE_BLOCK bytes */
+    uint32_t block_bytes; /* of its data block, at most GEYSERPAN_NATIVE_BLOCK */
+    /* a run from its start: ENDED, or FULL where `full` says so */
     int (*run)(geyserpan_native_io *, uint8_t *block);
     /* the start of a run by steps, and a step */
     void (*start)(uint8_t *block, void *state);
@@ -66,11 +68,23 @@ _Static_assert((int32_t)0xFFFFFFFFu >> 1 == -1, "shifts of negative numbers keep
 #define GP_LIKELY(x) __builtin_expect(!!(x), 1)
 #endif
 
+/* The bytes of the block but for the room at its end. Data stand at its front and the stack at its back, in their order
+   of addresses. Where addresses are masked it is the least power of two that both fit into: from 80000 on and up to
+   FFFFF, addresses of data and of the stack then have places of their own. */
+#if defined GP_UNMASKED || !defined GP_DATA_BYTES
+#define GP_BLOCK 524288u
+#else
+#define GP_FITS(n) (GP_DATA_BYTES + GP_STACK_BYTES <= (n))
+#define GP_BLOCK (GP_FITS(4096u) ? 4096u : GP_FITS(8192u) ? 8192u : GP_FITS(16384u) ? 16384u : \
+    GP_FITS(32768u) ? 32768u : GP_FITS(65536u) ? 65536u : GP_FITS(131072u) ? 131072u : \
+    GP_FITS(262144u) ? 262144u : 524288u)
+#endif
+
 /* Where an address lies in the block. */
 #if defined GP_UNMASKED
 #define GP_PLACE(m, a) ((m) + ((a) - 0x80000u))
 #else
-#define GP_PLACE(m, a) ((m) + ((a) & 0x7FFFFu))
+#define GP_PLACE(m, a) ((m) + ((a) & (GP_BLOCK - 1u)))
 #endif
 
 /* Numbers stand big-endian. */
@@ -222,7 +236,7 @@ GP_INLINE uint32_t gp_sdiv(uint32_t y, uint32_t a, uint32_t b, uint32_t *over)
     static void gp_fill(uint8_t *m) \
     { \
         memset(m, 0, GP_DATA_BYTES); \
-        memset(m + 524288u - GP_STACK_BYTES, 0, GP_STACK_BYTES); \
+        memset(m + GP_BLOCK - GP_STACK_BYTES, 0, GP_STACK_BYTES); \
         memcpy(m, gp_start, sizeof gp_start - 1); \
     } \
     static int gp_run(geyserpan_native_io *io, uint8_t *restrict m) \
@@ -255,7 +269,8 @@ GP_INLINE uint32_t gp_sdiv(uint32_t y, uint32_t a, uint32_t b, uint32_t *over)
 #define PUT(k, keeping, e) do { if (!GP_LIKELY(out < out_end) && !GP_ROOM) goto full; *out++ = (uint8_t)(e); } while (0)
 #define HEAD(k, keeping) ((void)0)
 #else
-/* A run by steps: where input or room is wanted, or the limit is met at a loop, all is kept, and the step ends. */
+/* A run by steps: where input or room is wanted, or the limit is met at a loop or behind a call, all is kept, and the
+   step ends. */
 #undef GET
 #undef PUT
 #undef HEAD
@@ -331,6 +346,7 @@ typedef struct {
         goto ended; \
     } \
     const geyserpan_native_program geyserpan_program_1 = { \
-        GEYSERPAN_NATIVE_ABI, GP_IMAGE, GP_IS_COUNTED, GP_IS_MASKED, sizeof(gp_state), gp_run, gp_begin, gp_step \
+        GEYSERPAN_NATIVE_ABI, GP_IMAGE, GP_IS_COUNTED, GP_IS_MASKED, sizeof(gp_state), GP_BLOCK + 8u, gp_run, \
+        gp_begin, gp_step \
     };
 #endif

@@ -69,11 +69,11 @@ int main(void)
     room = malloc(roomy);
     while (scanf("%u %u %u %zu %zu %llu %4194303s", &row, &program, &windows, &piece, &some, &slice, digits) == 7) {
         const geyserpan_native_program *it = programs[program];
-        uint8_t *input = bytes_of(digits, &count), *block = malloc(GEYSERPAN_NATIVE_BLOCK);
+        uint8_t *input = bytes_of(digits, &count), *block = malloc(it->block_bytes);
         geyserpan_native_io io = { .in = input, .in_end = input + count, .out = room, .out_end = room + roomy,
             .more = no_more, .full = larger, .windows = windows, .taken = 1 };
         int why;
-        memset(block, 0xA5, GEYSERPAN_NATIVE_BLOCK);
+        memset(block, 0xA5, it->block_bytes);
         if (piece) io.out_end = room;
         why = piece ? by_steps(it, &io, block, input + count, piece, some, slice) : it->run(&io, block);
         printf("%u %d %08X %llu %llu %llu ", row, why, (unsigned)io.word, (unsigned long long)io.turns,

@@ -1,41 +1,56 @@
-//! Where a run by steps may pause: before each byte that it gets or puts, and where a loop begins again.
+//! Where a run by steps may pause: before each byte that it gets or puts, where a loop begins again, and behind a call.
+//! So it passes each block once at most between two places where it may pause.
 use native_lang::variables::{CARRY, NEGATIVE};
-use native_lang::{BlockEnd, ProgramBlock, Stmt};
+use native_lang::{Arm, BlockEnd, ProgramBlock, Stmt};
 use std::alloc::{AllocError, Global};
 
-/// The labels that a block goes to from a label that isn't below.
+/// The labels where a pause may be made.
 #[derive(Drop)]
-struct Backward {
+struct Heads {
     marks: Vec<bool>,
 }
 
-impl Backward {
-    /// Marks a label that a block of another label goes to.
+impl Heads {
+    /// Marks a label.
+    fn mark(&mut self, label: u32) {
+        if let Some(mark) = self.marks.get_mut(label as usize) {
+            *mark = true;
+        }
+    }
+
+    /// Marks a label that a block of another label goes to, which isn't below it.
     fn note(&mut self, from: usize, to: u32) {
         if to as usize <= from {
-            if let Some(mark) = self.marks.get_mut(to as usize) {
-                *mark = true;
-            }
+            self.mark(to);
+        }
+    }
+
+    /// Marks where functions return to.
+    fn note_arms(&mut self, arms: &[Arm]) {
+        for arm in arms {
+            self.mark(arm.label);
         }
     }
 }
 
-/// Of each label, whether a block of that label or a higher one goes to it: each loop has one.
-pub(crate) fn loop_heads(alloc: Global, blocks: &[ProgramBlock]) -> Result<Vec<bool>, AllocError> {
+/// Of each label, whether a block of that label or a higher one goes to it, which each loop has one of, or a function
+/// returns to it.
+pub(crate) fn heads(alloc: Global, blocks: &[ProgramBlock]) -> Result<Vec<bool>, AllocError> {
     let mut marks = Vec::new(alloc);
     marks.resize(blocks.len(), false)?;
-    let mut backward = Backward { marks };
+    let mut heads = Heads { marks };
     for (from, block) in blocks.iter().enumerate() {
         match &block.end {
-            BlockEnd::Goto(to) => backward.note(from, *to),
+            BlockEnd::Goto(to) => heads.note(from, *to),
             BlockEnd::If(_, first, second) => {
-                backward.note(from, *first);
-                backward.note(from, *second);
+                heads.note(from, *first);
+                heads.note(from, *second);
             }
-            BlockEnd::Exit(_) | BlockEnd::Dispatch(_, _) => {}
+            BlockEnd::Dispatch(_, arms) => heads.note_arms(arms.as_slice()),
+            BlockEnd::Exit(_) => {}
         }
     }
-    Ok(backward.marks)
+    Ok(heads.marks)
 }
 
 /// Whether a statement makes condition codes. Codes and Y are undefined where a block of an accepted image begins, so a

@@ -201,7 +201,7 @@ impl Body {
         Ok(())
     }
 
-    /// A block, whose label is given, and whether a loop begins there.
+    /// A block, whose label is given, and whether a run by steps may pause there.
     pub fn block(
         &mut self,
         block: &ProgramBlock,

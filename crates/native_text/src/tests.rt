@@ -1,6 +1,6 @@
-//! A small program's lines; an array of the most bytes.
+//! A small program's lines; where a call returns to; an array of the most bytes.
 use crate::{ImageNote, write_program};
-use native_lang::{BlockEnd, Expr, NativeProgram, NumberWidth, Operator, ProgramBlock, Stmt};
+use native_lang::{Arm, BlockEnd, Expr, NativeProgram, NumberWidth, Operator, ProgramBlock, Stmt};
 use std::alloc::{AllocError, Global};
 
 /// Whether a text has a part.
@@ -76,6 +76,47 @@ fn try_echo(alloc: Global) -> Result<bool, AllocError> {
 #[test]
 fn the_lines_of_a_loop(rt: HostRuntime) {
     assert!(rt; matches!(try_echo(rt.alloc()), Ok(true)));
+}
+
+/// A block of no statement.
+fn bare(alloc: Global, end: BlockEnd) -> ProgramBlock {
+    ProgramBlock {
+        statements: Vec::new(alloc),
+        end,
+    }
+}
+
+/// A call of what stands behind, and where it returns to.
+fn call(alloc: Global) -> Result<NativeProgram, AllocError> {
+    let mut arms = Vec::new(alloc);
+    arms.push(Arm {
+        word: 0x4_0000,
+        label: 1,
+    })?;
+    let mut blocks = Vec::new(alloc);
+    blocks.push(bare(alloc, BlockEnd::Goto(2)))?;
+    blocks.push(bare(alloc, BlockEnd::Exit(Expr::Number(0))))?;
+    blocks.push(bare(alloc, BlockEnd::Dispatch(44, arms)))?;
+    Ok(NativeProgram {
+        blocks,
+        data: Vec::new(alloc),
+    })
+}
+
+fn try_call(alloc: Global) -> Result<bool, AllocError> {
+    let program = call(alloc)?;
+    let named = ImageNote {
+        image: &[],
+        stack_bytes: 4096,
+    };
+    let text = write_program(alloc, &program, &named)?;
+    let lines = "L1:;\n    HEAD(1, NO_CODES);\n    EXIT(0u);\nL2:;\n    switch (x44) {\n";
+    Ok(has(text.as_bytes(), lines))
+}
+
+#[test]
+fn a_pause_behind_a_call(rt: HostRuntime) {
+    assert!(rt; matches!(try_call(rt.alloc()), Ok(true)));
 }
 
 fn try_most(alloc: Global) -> Result<bool, AllocError> {
