@@ -23,6 +23,10 @@
    - 64 KB of stack, an x86-64 processor with SSE4.2 and POPCNT (x86-64-v2), and malloc, realloc and free that are one allocator
      with blocks aligned to 16. Instead of these a host may define the three functions at the end.
 
+   Native code. In a program that names `geyserpan_native` the calls with the handle of an image or of a run on the engine pass a part
+   in C, which is only tested, and runs of an image that was given an object are that object's: what is said of the engine then holds
+   as far as the translation, a C compiler and that part do. No other program has any of it. See the call.
+
    Statuses. Each call answers one of the numbers below, and where it isn't said otherwise:
 
    - a status other than OK writes nothing: no byte of `room`, and none of the structs and numbers but those named beside the status;
@@ -81,9 +85,15 @@ enum geyserpan_status {
                                 compare: report as with ROOM. Of step, which stops there: what is granted was written, and there is a
                                 byte more as with FULL; a further step answers the same with nothing read or written (only tested;
                                 into a room of 0 bytes: FULL) */
-    GEYSERPAN_LOST = 15      /* of step: the board has done what no turn does: it has read what nobody gave it, or has ended without an
+    GEYSERPAN_LOST = 15,     /* of step: the board has done what no turn does: it has read what nobody gave it, or has ended without an
                                 exit. What was written so far is the image's all the same, but the library can't vouch for the run any
-                                more: begin again, or end. It has never been seen */
+                                more: begin again, or end. It has never been seen. Of native code, of engine_step and engine_run: the
+                                object did what no accepted image does, and nothing that the run gave is to be believed */
+    GEYSERPAN_FILE = 16,         /* of native: there is no file at the path, or it can't be read */
+    GEYSERPAN_OBJECT = 17,       /* of native: the file is no whole shared object with native code */
+    GEYSERPAN_OBJECT_ABI = 18,   /* of native: the object has a record of another number: build it anew */
+    GEYSERPAN_OBJECT_IMAGE = 19, /* of native: the object was made of another image */
+    GEYSERPAN_OBJECT_COUNTS = 20 /* of native: the object doesn't count turns, as one that was built with --uncounted */
 };
 
 /* What a program may ask for: to end, to read a byte of its input, to write a byte of its output. */
@@ -279,6 +289,28 @@ uint32_t geyserpan_engine_step(geyserpan_engine *engine, uint64_t turns, const u
 
 /* Lets the run go, and keeps the handle. */
 void geyserpan_engine_end(geyserpan_engine *engine);
+
+/* ---- Native code: the engine's calls, by an object that a C compiler made of the image ----
+
+   This call is in libgeyserpan.a alone, and not in the shared object. It asks the C library for dlopen. */
+
+/* Has the image go by the shared object at the path, which `native build` made of it: from then on engine_run, engine_begin and
+   engine_begin_with on this handle, and on those that share it later, make their runs by the object, and engine_step goes on with
+   them. Runs on a board stay on it, and runs that were begun before go on as they were. `open` and `close` let the object go; it stays
+   loaded as long as a handle or a run has it. OK; HANDLE; FILE, OBJECT, OBJECT_ABI, OBJECT_IMAGE, OBJECT_COUNTS, MEMORY: the image
+   goes by what it went by.
+
+   Statuses, outputs, exit words, turns, overflows and underflows are the engine's, but for these:
+   - A step may make more turns than it is allowed, by fewer than 25 for each word of the image, since it pauses behind calls and where
+     a loop begins again. What it made too many is owed, and taken from the next steps.
+   - engine_begin takes all of a run's memory, and engine_step none: some hundreds of bytes, the stack's pages, and the least power of
+     two that stack and data fit into.
+   - LOST may come.
+
+   To load an object is to run it. It has the rights of your own code, and the hash in it guards against a mistake, and against no
+   one who forges it: so load what you built, from a folder where nobody else writes. The file may be replaced or removed while it is
+   loaded, but not written to. `path` ends with a zero byte; one without a slash is a file of the working directory. */
+uint32_t geyserpan_native(geyserpan_image *image, const char *path);
 
 /* ---- Memory ----
 

@@ -6,11 +6,12 @@ Tries libgeyserpan from outside, as tools/release/library lays it out: into PREF
 removed. Compares what it exports and asks for, and the layout of its structs, with include/geyserpan.h; what it tells
 of each example image and of each refused source with the files beside them; outputs whole and in pieces of odd sizes;
 goes through refusals, empty handles and ends; refuses each growth of memory in turn by an allocator of its own; makes
-many runs under AddressSanitizer and valgrind, and in eight threads under ThreadSanitizer, on images of their own and on
-one that they share; begins runs on terms of their own; compares the names of images with hashlib's; builds and runs
-the examples of embed/ in C, C++, Rust, Python and Go, the tests that each of these has, under sanitizers where there
-are some, and what their READMEs show, in empty folders; and has a worker of a Dask cluster killed. What isn't there is
-skipped, and said so. Where the program of ./sandbox is built, its verdicts and outputs are compared, too.
+many runs under AddressSanitizer and valgrind, and in eight threads under ThreadSanitizer, on images of their own and
+on one that they share; begins runs on terms of their own; compares the names of images with hashlib's; has images go
+by objects of native code, and compares these runs with the engine's; builds and runs the examples of embed/ in C,
+C++, Rust, Python and Go, the tests that each of these has, under sanitizers where there are some, and what their
+READMEs show, in empty folders; and has a worker of a Dask cluster killed. What isn't there is skipped, and said so.
+Where the program of ./sandbox is built, its verdicts and outputs are compared, too.
 
 With --installed it tries a release that `install PREFIX` has laid out: what the library exports, and the hosts of
 share/geyserpan/embed there, which find header and library by pkg-config.
@@ -34,10 +35,17 @@ import tempfile
 sys.dont_write_bytecode = True
 SOURCES = os.path.dirname(os.path.abspath(__file__))
 sys.path.insert(0, f"{os.path.dirname(SOURCES)}/lib")
+from natives import objects_for_hosts, try_natives
 from run import EXAMPLES, TOP, bytes_of, has, program, put, run, text_of
 from tally import FAILED, PASSED, Tally, Words, shown
 
 HEAP = {"rattle_alloc", "rattle_realloc", "rattle_dealloc"}
+# The call that goes to objects of native code; what each member of the archive may ask the C library for; and what the
+# member with that call may ask for besides.
+OF_NATIVE = {"geyserpan_native"}
+OF_C = {"memcpy", "memmove", "memset", "malloc", "realloc", "free", "_GLOBAL_OFFSET_TABLE_"}
+FOR_OBJECTS = {"close", "dlclose", "dlopen", "dlsym", "fstat", "memchr", "memcmp", "open", "pread", "strlen",
+               "__stack_chk_fail"}
 PROGRAM = program("sbx_tool")
 LIBRARY = f"{TOP}/tools/release/library"
 TALLY = Tally("embed")
@@ -102,6 +110,15 @@ def names_of(*words):
     return {it.split()[-1] for it in lines if it.split() and not it.endswith(":")}
 
 
+def asked_by(archive):
+    """The names that each member of an archive asks for."""
+    found = {}
+    for line in run(["nm", "-A", "-u", archive]).out.decode().splitlines():
+        _, member, name = re.fullmatch(r"(.*):([^:]+):\s+\w (\S+)", line).groups()
+        found.setdefault(member, set()).add(name)
+    return found
+
+
 def tell_size(prefix):
     """Prints how great the library is."""
     archive, shared = f"{prefix}/lib/libgeyserpan.a", shared_of(prefix)
@@ -114,11 +131,14 @@ def try_symbols(prefix):
     """What the library exports and asks for."""
     archive, shared = f"{prefix}/lib/libgeyserpan.a", shared_of(prefix)
     name = os.path.basename(shared)
-    TALLY.same("names that libgeyserpan.a defines", names_of("-g", "--defined-only", archive), declared() | HEAP)
-    TALLY.same(f"names that {name} exports", names_of("-D", "--defined-only", shared), declared())
-    asked = names_of("-u", archive) - HEAP
-    of_c = {"memcpy", "memmove", "memset", "malloc", "realloc", "free", "_GLOBAL_OFFSET_TABLE_"}
-    TALLY.check("names that libgeyserpan.a asks for", asked <= of_c, f"wanted some of {of_c}, came {asked - of_c} too")
+    defined, kept = names_of("-g", "--defined-only", archive), {f"proved_{it}" for it in declared()}
+    TALLY.same("names that libgeyserpan.a defines", defined - kept, declared() | HEAP)
+    TALLY.same(f"names that {name} exports", names_of("-D", "--defined-only", shared), declared() - OF_NATIVE)
+    asked = asked_by(archive)
+    for member, names in asked.items():
+        more = names - defined - OF_C - (FOR_OBJECTS if member == "native.o" else set())
+        TALLY.check(f"names that {member} asks for", not more, f"wanted none of other libraries, came {more}")
+    TALLY.same("the members of libgeyserpan.a", set(asked), {"proved.o", "heap.o", "native.o"})
     dynamic = run(["readelf", "-d", shared]).out.decode()
     TALLY.check(f"{name}: its soname", f"soname: [{name}]" in dynamic, "wanted its name, came another one")
     TALLY.check(f"{name}: its text", "TEXTREL" not in dynamic, "wanted none that is relocated")
@@ -486,12 +506,15 @@ def try_wrapped(prefix, work, words):
         return
     echo, refused = f"{EXAMPLES}/echo/echo.img", f"{EXAMPLES}/refused/V1"
     line = text_of(f"{refused}.told").splitlines()[0]
+    by_objects = [["native", echo, *OBJECTS]] if OBJECTS else []
     for way in (["answers", echo, f"{refused}.img", line], ["threads", echo, "200"],
-                ["stops", echo, f"{EXAMPLES}/deep/deep.img"]):
+                ["stops", echo, f"{EXAMPLES}/deep/deep.img"], *by_objects):
         ran = run(["setarch", "-R", wrapped, *way], seconds=None)
         gives(f"{name}: {way[0]}", ran, f"{way[0]}\n".encode())
 
 
+# Objects of echo.img and of hello.img, where they can be made.
+OBJECTS = []
 # What the hosts of sessions echo.
 SENTENCE = b"To be, or not to be."
 
@@ -801,6 +824,8 @@ def try_all(prefix, work):
     calls, filter_image = calls_in(prefix, work, "-g", "-std=c11", "-D_POSIX_C_SOURCE=200809L", *WARNINGS)
     if not calls:
         return
+    TALLY.check("a host that doesn't name native code", not names_of(calls) & {"geyserpan_native", "dlopen"},
+                "wanted that it has none of it")
     gives("edges", run([calls, "edges", filter_image], b"HAL!"), b"edges\n")
     ran = run([calls, "lengths", echo, "1000"], b"y\n" * 500, seconds=None)
     gives("lengths of 1 to 1,000 bytes", ran, b"lengths\n")
@@ -813,6 +838,12 @@ def try_all(prefix, work):
     try_shares(prefix, work, echo)
     try_sanitizers(prefix, work, filter_image, echo)
     try_valgrind(calls, filter_image)
+    try_natives(TALLY, prefix, work)
+    OBJECTS.extend(objects_for_hosts(TALLY, work) or [])
+    if OBJECTS:
+        os.environ["GEYSERPAN_OBJECT"] = OBJECTS[0]
+    else:
+        TALLY.skip("native code in C++, Rust, Python and Go", "the program of ./native, or a C compiler")
     try_hosts(prefix, f"{TOP}/embed", work, filter_image)
 
 
