@@ -5,7 +5,8 @@
 //     geyserpan::filter(image, std::cin, std::cout); // a run over streams
 //
 // A const image may be used by any threads at once. A run is a function of image, input and terms, turns included: run
-// it again, or twice, anywhere. It is made on the engine; a `board_session` has a board.
+// it again, or twice, anywhere. It is made on the engine, or by an object of native code where the image was given one;
+// a `board_session` has a board.
 #ifndef GEYSERPAN_HPP
 #define GEYSERPAN_HPP
 #include "geyserpan.h"
@@ -46,7 +47,12 @@ enum class status : std::uint32_t {
     handle = GEYSERPAN_HANDLE,
     source = GEYSERPAN_SOURCE,
     output = GEYSERPAN_OUTPUT,
-    lost = GEYSERPAN_LOST
+    lost = GEYSERPAN_LOST,
+    file = GEYSERPAN_FILE,
+    object = GEYSERPAN_OBJECT,
+    object_abi = GEYSERPAN_OBJECT_ABI,
+    object_image = GEYSERPAN_OBJECT_IMAGE,
+    object_counts = GEYSERPAN_OBJECT_COUNTS
 };
 
 // What a program may ask its host for; a sum by `|`.
@@ -179,6 +185,11 @@ class denied : public error {
     using error::error;
 };
 
+// The file is no object of native code for this image.
+class no_object : public error {
+    using error::error;
+};
+
 // The run puts out more than is granted.
 class output_too_long : public error {
     using error::error;
@@ -203,7 +214,10 @@ inline facts of_c(const geyserpan_facts &told)
         throw std::bad_alloc();
     std::uint8_t text[96];
     const std::size_t length = geyserpan_why_text(answer, &why, text, sizeof text);
-    throw refused(static_cast<status>(answer), std::string(text, text + length), why);
+    const std::string words(text, text + length);
+    if (answer >= GEYSERPAN_FILE)
+        throw no_object(static_cast<status>(answer), words);
+    throw refused(static_cast<status>(answer), words, why);
 }
 
 // With what the image asks for and what is granted.
@@ -269,10 +283,11 @@ using image_handle = owned<geyserpan_image, geyserpan_image_new, geyserpan_image
 using engine_handle = owned<geyserpan_engine, geyserpan_engine_new, geyserpan_engine_free>;
 using board_handle = owned<geyserpan_run, geyserpan_run_new, geyserpan_run_free>;
 
-// What a run has for itself: a handle that shares the image, and one of the run.
+// What a run has for itself: a handle that shares the image, as it was behind so many changes, and one of the run.
 struct pair {
     image_handle image;
     engine_handle engine;
+    unsigned long changes = 0;
 };
 
 // An image that was verified once, for each `image` on it.
@@ -301,6 +316,7 @@ public:
         if (idle.empty()) {
             pair made;
             check(geyserpan_image_share(handle.get(), made.image.get()));
+            made.changes = changes;
             return made;
         }
         pair taken = std::move(idle.back());
@@ -313,8 +329,17 @@ public:
     {
         geyserpan_engine_end(taken.engine.get());
         const std::lock_guard<std::mutex> lock(mutex);
-        if (idle.size() < most)
+        if (idle.size() < most && taken.changes == changes)
             idle.push_back(std::move(taken));
+    }
+
+    // Has the runs that are begun from now on go by an object.
+    void go_by(const char *path)
+    {
+        const std::lock_guard<std::mutex> lock(mutex);
+        check(geyserpan_native(handle.get(), path));
+        changes++;
+        idle.clear();
     }
 
     geyserpan_facts facts = {};
@@ -325,6 +350,7 @@ private:
     std::mutex mutex; // guards what stands below it
     image_handle handle;
     std::vector<pair> idle;
+    unsigned long changes = 0; // how often the handle was given an object
 };
 
 // Handles that a run has until it goes.
@@ -415,6 +441,15 @@ public:
         return image(opened, of);
     }
     image share() const { return image(held(), granted); }
+
+    // Has the runs that are begun from now on, of each `image` that shares this one, go by the shared object that
+    // `native build` made of it. It is run in this process: load what you built yourself. Throws no_object.
+    void native(const std::string &path) const
+    {
+        if (path.find('\0') != std::string::npos)
+            detail::refuse(GEYSERPAN_FILE);
+        held()->go_by(path.c_str());
+    }
 
     geyserpan::facts facts() const { return detail::of_c(held()->facts); }
     const std::array<std::uint8_t, 32> &sha256() const { return held()->name; }

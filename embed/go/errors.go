@@ -19,6 +19,12 @@ const (
 	ErrTurns    Status = C.GEYSERPAN_TURNS    // the image declares more turns than are granted
 	ErrSource   Status = C.GEYSERPAN_SOURCE   // the source has a fault
 	ErrOutput   Status = C.GEYSERPAN_OUTPUT   // the run puts out more than is granted
+
+	ErrNoFile       Status = C.GEYSERPAN_FILE          // there is no file of an object, or it can't be read
+	ErrNoObject     Status = C.GEYSERPAN_OBJECT        // the file is no object of native code
+	ErrObjectABI    Status = C.GEYSERPAN_OBJECT_ABI    // the object is of another version
+	ErrObjectImage  Status = C.GEYSERPAN_OBJECT_IMAGE  // the object was made of another image
+	ErrObjectCounts Status = C.GEYSERPAN_OBJECT_COUNTS // the object doesn't count turns
 )
 
 // What is told of a use that isn't the image's or the run's fault.

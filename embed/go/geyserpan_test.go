@@ -407,3 +407,60 @@ func BenchmarkRun(b *testing.B) {
 		}
 	})
 }
+
+// isNative tells whether the runs of an image go by an object: a step of one turn is more than that.
+func isNative(t *testing.T, image *geyserpan.Image) bool {
+	t.Helper()
+	session, err := image.Session()
+	if err != nil {
+		t.Fatal(err)
+	}
+	defer session.Close()
+	step, err := session.Step(1, []byte("abc"), true, make([]byte, 8))
+	if err != nil {
+		t.Fatal(err)
+	}
+	return step.Turns > 1
+}
+
+func TestNative(t *testing.T) {
+	balanced(t)
+	object, data := os.Getenv("GEYSERPAN_OBJECT"), file(t, "echo/echo.img")
+	if object == "" {
+		t.Skip("GEYSERPAN_OBJECT isn't set")
+	}
+	image, plain := open(t, data, most()), open(t, data, most())
+	more, err := image.With(most())
+	if err != nil {
+		t.Fatal(err)
+	}
+	t.Cleanup(func() { more.Close() })
+	if isNative(t, image) {
+		t.Error("it goes by an object before it was given one")
+	}
+	if err := image.Native(object); err != nil {
+		t.Fatal(err)
+	}
+	if !isNative(t, image) || !isNative(t, more) || isNative(t, plain) {
+		t.Error("wanted that these images go by the object, and no other")
+	}
+	wanted, _ := plain.Run(always, data)
+	if came, err := image.Run(always, data); err != nil || !bytes.Equal(came.Output, wanted.Output) ||
+		came.Turns != wanted.Turns {
+		t.Errorf("wanted %d turns, came %d, %v", wanted.Turns, came.Turns, err)
+	}
+	refused := map[string]error{"/nowhere": geyserpan.ErrNoFile, "a\x00b": geyserpan.ErrNoFile, "/": geyserpan.ErrNoObject}
+	for path, wanted := range refused {
+		if err := image.Native(path); !errors.Is(err, wanted) || !isNative(t, image) {
+			t.Errorf("%q: wanted %v, came %v", path, wanted, err)
+		}
+	}
+	other := open(t, file(t, "hello/hello.img"), most())
+	if err := other.Native(object); !errors.Is(err, geyserpan.ErrObjectImage) {
+		t.Errorf("another image: came %v", err)
+	}
+	other.Close()
+	if err := other.Native(object); !errors.Is(err, geyserpan.ErrClosed) {
+		t.Errorf("a closed image: came %v", err)
+	}
+}

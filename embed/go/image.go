@@ -10,8 +10,9 @@
 //	result, err = image.Filter(ctx, os.Stdout, os.Stdin) // a stream, in fixed memory
 //
 // Any goroutine may use an Image at any time. A run is a function of image, input and terms, turns included: run it
-// again, or twice, anywhere. It is made on the library's engine. A context that is done ends it within some
-// milliseconds; without one it ends within the turns that the image declares, which is proved.
+// again, or twice, anywhere. It is made on the library's engine, or by an object of native code where the image was
+// given one. A context that is done ends it within some milliseconds; without one it ends within the turns that the
+// image declares, which is proved of the engine.
 package geyserpan
 
 // #include "geyserpan.h"
@@ -59,6 +60,11 @@ func (i *Image) With(terms Terms) (*Image, error) {
 	i.opened.give(taken)
 	return other, nil
 }
+
+// Native has the runs that are begun from now on, of this image and of those that With made of it, go by the shared
+// object that "native build" made of it. Their outputs and counts are the same; a step may make more turns than it is
+// allowed. The object is run in this process: load what you built yourself, and don't write to its file meanwhile.
+func (i *Image) Native(path string) error { return i.opened.goBy(i, path) }
 
 // begin begins a run on these terms.
 func (i *Image) begin(terms Terms) (*pair, error) {

@@ -1,11 +1,14 @@
 package geyserpan
 
+// #include <stdlib.h>
 // #include "geyserpan.h"
 import "C"
 
 import (
 	"runtime"
+	"strings"
 	"sync"
+	"unsafe"
 )
 
 // most is how many pairs of handles an image keeps for its next runs.
@@ -14,8 +17,9 @@ const most = 64
 // pair is what a run has for itself: a handle that shares the image, and one of the run. A pair that nobody holds any
 // more, since a session wasn't closed, is freed by the collector.
 type pair struct {
-	image  C.geyserpan_image
-	engine C.geyserpan_engine
+	image   C.geyserpan_image
+	engine  C.geyserpan_engine
+	changes uint64 // the image's, when it was shared
 }
 
 func (p *pair) free() {
@@ -33,10 +37,11 @@ type opened struct {
 	facts Facts
 	name  [32]byte
 
-	mutex  sync.Mutex // guards what stands below it, and whether its users are closed
-	handle C.geyserpan_image
-	idle   []*pair
-	users  int
+	mutex   sync.Mutex // guards what stands below it, and whether its users are closed
+	handle  C.geyserpan_image
+	changes uint64 // how often the handle was given an object
+	idle    []*pair
+	users   int
 }
 
 // open verifies an image; the error is that of its status alone.
@@ -78,7 +83,7 @@ func (o *opened) take(image *Image) (*pair, error) {
 		o.idle = o.idle[:last]
 		return taken, nil
 	}
-	taken := new(pair)
+	taken := &pair{changes: o.changes}
 	status := C.geyserpan_image_new(&taken.image)
 	if status == C.GEYSERPAN_OK {
 		status = C.geyserpan_image_share(&o.handle, &taken.image)
@@ -99,11 +104,39 @@ func (o *opened) give(taken *pair) {
 	C.geyserpan_engine_end(&taken.engine)
 	o.mutex.Lock()
 	defer o.mutex.Unlock()
-	if o.users == 0 || len(o.idle) == most {
+	if o.users == 0 || len(o.idle) == most || taken.changes != o.changes {
 		taken.free()
 		return
 	}
 	o.idle = append(o.idle, taken)
+}
+
+// goBy has the runs that are begun from now on go by an object.
+func (o *opened) goBy(image *Image, path string) error {
+	if strings.IndexByte(path, 0) >= 0 {
+		return refused(C.GEYSERPAN_FILE, C.geyserpan_why{})
+	}
+	name := C.CString(path)
+	defer C.free(unsafe.Pointer(name))
+	o.mutex.Lock()
+	defer o.mutex.Unlock()
+	if image.closed {
+		return ErrClosed
+	}
+	if status := C.geyserpan_native(&o.handle, name); status != C.GEYSERPAN_OK {
+		return refused(status, C.geyserpan_why{})
+	}
+	o.changes++
+	o.drop()
+	return nil
+}
+
+// drop frees the handles that are kept for the next runs.
+func (o *opened) drop() {
+	for _, kept := range o.idle {
+		kept.free()
+	}
+	o.idle = nil
 }
 
 // enter makes one more user.
@@ -125,9 +158,6 @@ func (o *opened) leave(image *Image) {
 	if o.users--; o.users > 0 {
 		return
 	}
-	for _, kept := range o.idle {
-		kept.free()
-	}
-	o.idle = nil
+	o.drop()
 	o.free()
 }

@@ -1,6 +1,7 @@
 // Tries embed/c++/geyserpan.hpp, for tests/run embed, with an allocator that counts blocks and refuses growths:
 //     wrapped answers ECHO REFUSED LINE   what it gives and refuses; LINE is what the refused image is told by
 //     wrapped threads ECHO RUNS           eight threads on one image, and handles that come and go
+//     wrapped native ECHO OBJECT OTHER    runs by an object; OTHER is another image's
 //     wrapped stops ECHO DEEP             runs that are stopped: by streams that throw, and by refused growths
 // The image ECHO hands on its input. What is wrong is told on standard error, with status 1.
 #include "geyserpan.hpp"
@@ -306,12 +307,50 @@ static void stops(const std::string &data, const std::string &deep)
     std::cerr << points << " points, " << growths + of_board << " growths, " << of_steps << " of steps\n";
 }
 
+// ---- objects of native code
+
+// Whether its runs go by an object: a step of one turn is more than that.
+static bool is_native(const geyserpan::image &image)
+{
+    std::array<char, 8> room;
+    return image.session().step(1, "abc", true, room).turns > 1;
+}
+
+static void native(const std::string &data, const std::string &object, const std::string &other)
+{
+    using namespace geyserpan;
+    const image plain(data, most), by_object(data, most), shared = by_object.share(), more = by_object.with(most);
+    session before = by_object.session();
+    HOLDS(!is_native(by_object));
+    by_object.native(object);
+    HOLDS(is_native(by_object) && is_native(shared) && is_native(more) && !is_native(plain));
+    std::array<char, 8> room;
+    HOLDS(before.step(1, "abc", true, room).turns <= 1);
+    before = by_object.session();
+    const result wanted = plain.run(data), came = by_object.run(data);
+    HOLDS(wanted.output == came.output && wanted.turns == came.turns && wanted.exit == came.exit);
+    for (const auto &[path, code] : { std::pair{ std::string("/nowhere"), status::file },
+                                      { std::string(1, '\0') + object, status::file },
+                                      { std::string("/"), status::object }, { other, status::object_image } }) {
+        try {
+            by_object.native(path);
+            HOLDS(!"refused");
+        } catch (const no_object &error) {
+            HOLDS(error.code() == code && *error.what());
+        }
+        HOLDS(is_native(by_object));
+    }
+    std::cout << "native\n";
+}
+
 int main(int count, char **words)
 {
     const std::string_view asked_for = count > 3 ? words[1] : "";
     const std::string data = count > 3 ? bytes_of(words[2]) : "";
     if (asked_for == "answers" && count == 5)
         answers(data, words[3], words[4]);
+    else if (asked_for == "native" && count == 5)
+        native(data, words[3], words[4]);
     else if (asked_for == "threads")
         threads(data, std::atol(words[3]));
     else if (asked_for == "stops")

@@ -13,7 +13,7 @@ from collections.abc import Callable
 import pytest
 
 import geyserpan
-from geyserpan import Denied, Image, OutputTooLong, Refused, Services, Status, Terms
+from geyserpan import Denied, Image, NoObject, OutputTooLong, Refused, Services, Status, Terms
 
 
 def test_runs(echo: Image) -> None:
@@ -225,3 +225,33 @@ def test_interrupt(busy: Image) -> None:
 def test_map_keeps_order(echo: Image) -> None:
     items = [str(number).encode() for number in range(1000)]
     assert list(echo.map(items)) == list(echo.map(items, threads=4)) == items
+
+
+def is_native(image: Image) -> bool:
+    """Whether its runs go by an object: a step of one turn is more than that."""
+    with image.session() as session:
+        session.step(b"abc", last=True, turns=1)
+        return session.turns > 1
+
+
+def test_goes_by_an_object(data: bytes, examples: pathlib.Path) -> None:
+    path = os.environ.get("GEYSERPAN_OBJECT")
+    if not path:
+        pytest.skip("GEYSERPAN_OBJECT isn't set")
+    image, plain = Image(data), Image(data)
+    before = image.session()
+    assert image.run(b"x").output == b"x" and not is_native(image)
+    image.native(pathlib.Path(path))
+    assert is_native(image) and not is_native(plain) and image == plain
+    before.step(b"abc", last=True, turns=1)
+    assert before.turns <= 1
+    assert image.run(data) == plain.run(data) and list(image.map([b"a", b"b"], threads=2)) == [b"a", b"b"]
+    for other, status in (("/nowhere", Status.FILE), ("/", Status.OBJECT)):
+        with pytest.raises(NoObject) as told:
+            image.native(other)
+        assert told.value.status == status and is_native(image)
+    with pytest.raises(NoObject, match="another image"):
+        Image((examples / "hello/hello.img").read_bytes()).native(path)
+    with pytest.raises(ValueError):
+        image.native("a\0b")
+    assert not is_native(pickle.loads(pickle.dumps(image)))

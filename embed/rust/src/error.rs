@@ -61,6 +61,16 @@ pub enum Error {
         /// The line.
         line: u32,
     },
+    /// There is no file of an object, or it can't be read.
+    NoFile,
+    /// The file is no object of native code.
+    NoObject,
+    /// The object is of another version.
+    ObjectAbi,
+    /// The object was made of another image.
+    ObjectImage,
+    /// The object doesn't count turns.
+    ObjectCounts,
     /// The library has calls of another number.
     #[non_exhaustive]
     Abi {
@@ -83,6 +93,11 @@ impl Error {
             raw::REFUSED => Error::Refused { rule: why.number, function: why.function, address: why.address },
             raw::MEMORY => Error::Memory,
             raw::SOURCE => Error::Source { cause: why.number, line: why.address },
+            raw::FILE => Error::NoFile,
+            raw::OBJECT => Error::NoObject,
+            raw::OBJECT_ABI => Error::ObjectAbi,
+            raw::OBJECT_IMAGE => Error::ObjectImage,
+            raw::OBJECT_COUNTS => Error::ObjectCounts,
             _ => Error::Unknown { status },
         }
     }
@@ -132,6 +147,11 @@ impl Error {
                 raw::OUTPUT
             }
             Error::Memory => raw::MEMORY,
+            Error::NoFile => raw::FILE,
+            Error::NoObject => raw::OBJECT,
+            Error::ObjectAbi => raw::OBJECT_ABI,
+            Error::ObjectImage => raw::OBJECT_IMAGE,
+            Error::ObjectCounts => raw::OBJECT_COUNTS,
             Error::Abi { .. } => raw::OK,
             Error::Unknown { status } => status,
         };
@@ -169,6 +189,8 @@ impl From<Error> for io::Error {
             Error::NoImage { .. } | Error::Refused { .. } | Error::Source { .. } => io::ErrorKind::InvalidData,
             Error::Windows { .. } | Error::Services { .. } | Error::Turns { .. } => io::ErrorKind::PermissionDenied,
             Error::Memory => io::ErrorKind::OutOfMemory,
+            Error::NoFile => io::ErrorKind::NotFound,
+            Error::NoObject | Error::ObjectAbi | Error::ObjectImage | Error::ObjectCounts => io::ErrorKind::InvalidData,
             _ => io::ErrorKind::Other,
         };
         io::Error::new(kind, error)

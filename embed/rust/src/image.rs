@@ -4,7 +4,10 @@ use crate::raw::{self, Handle};
 use crate::session::{Session, State};
 use crate::stream::Reader;
 use crate::terms::{Facts, Report, Terms};
+use std::ffi::CString;
 use std::io::{self, Read, Write};
+use std::os::unix::ffi::OsStrExt;
+use std::path::Path;
 use std::sync::{Arc, Mutex, MutexGuard, PoisonError};
 use std::{fmt, ptr};
 
@@ -40,17 +43,18 @@ impl Drop for EngineHandle {
     }
 }
 
-/// What a run has for itself: a handle that shares the image, and one of the run.
+/// What a run has for itself: a handle that shares the image, as it was behind so many changes, and one of the run.
 pub(crate) struct Pair {
     pub(crate) image: ImageHandle,
     pub(crate) engine: EngineHandle,
+    changes: u64,
 }
 
 impl Pair {
     /// No handles.
     pub(crate) fn none() -> Pair {
         let null = || Handle { at: ptr::null_mut() };
-        Pair { image: ImageHandle(null()), engine: EngineHandle(null()) }
+        Pair { image: ImageHandle(null()), engine: EngineHandle(null()), changes: 0 }
     }
 }
 
@@ -59,25 +63,32 @@ fn locked<T>(mutex: &Mutex<T>) -> MutexGuard<'_, T> {
     mutex.lock().unwrap_or_else(PoisonError::into_inner)
 }
 
+/// The handle of an image, how often it was given an object, and handles of runs that have ended.
+struct Kept {
+    handle: ImageHandle,
+    changes: u64,
+    idle: Vec<Pair>,
+}
+
 /// An image that was verified once, for each `Image` on it.
 pub(crate) struct Opened {
     pub(crate) facts: Facts,
     name: [u8; 32],
-    handle: Mutex<ImageHandle>,
-    idle: Mutex<Vec<Pair>>,
+    kept: Mutex<Kept>,
 }
 
 impl Opened {
     /// Handles of its own for a run: those of an earlier run, or new ones.
     fn take(&self) -> Result<Pair, Error> {
-        if let Some(pair) = locked(&self.idle).pop() {
+        let mut kept = locked(&self.kept);
+        if let Some(pair) = kept.idle.pop() {
             return Ok(pair);
         }
-        let mut pair = Pair::none();
+        let mut pair = Pair { changes: kept.changes, ..Pair::none() };
         // SAFETY: each handle is used behind its `new` alone; that of the image is in use for this call, by its lock.
         let status = unsafe {
             match raw::geyserpan_image_new(&mut pair.image.0) {
-                raw::OK => match raw::geyserpan_image_share(&mut locked(&self.handle).0, &mut pair.image.0) {
+                raw::OK => match raw::geyserpan_image_share(&mut kept.handle.0, &mut pair.image.0) {
                     raw::OK => raw::geyserpan_engine_new(&mut pair.engine.0),
                     status => status,
                 },
@@ -95,9 +106,25 @@ impl Opened {
     pub(crate) fn give(&self, mut pair: Pair) {
         // SAFETY: the handle came from its `new`.
         unsafe { raw::geyserpan_engine_end(&mut pair.engine.0) };
-        let mut idle = locked(&self.idle);
-        if idle.len() < MOST {
-            idle.push(pair);
+        let mut kept = locked(&self.kept);
+        if kept.idle.len() < MOST && kept.changes == pair.changes {
+            kept.idle.push(pair);
+        }
+    }
+
+    /// Has the runs that are begun from now on go by an object.
+    fn go_by(&self, path: &Path) -> Result<(), Error> {
+        let path = CString::new(path.as_os_str().as_bytes()).map_err(|_| Error::NoFile)?;
+        let mut kept = locked(&self.kept);
+        // SAFETY: the handle came from its `new`, and is in use for this call, by its lock; the path ends with a zero
+        // byte.
+        match unsafe { raw::geyserpan_native(&mut kept.handle.0, path.as_ptr()) } {
+            raw::OK => {
+                kept.changes += 1;
+                kept.idle.clear();
+                Ok(())
+            }
+            status => Err(Error::refused(status, raw::Why::default())),
         }
     }
 
@@ -158,8 +185,8 @@ impl Image {
             raw::WINDOWS => return Err(Error::denied(status, &facts.into(), terms)),
             _ => return Err(Error::refused(status, why)),
         }
-        let (handle, idle) = (Mutex::new(handle), Mutex::default());
-        let opened = Opened { facts: facts.into(), name: crate::sha256(bytes), handle, idle };
+        let kept = Mutex::new(Kept { handle, changes: 0, idle: Vec::new() });
+        let opened = Opened { facts: facts.into(), name: crate::sha256(bytes), kept };
         Ok(Image { opened: Arc::new(opened), terms: *terms })
     }
 
@@ -170,6 +197,20 @@ impl Image {
     pub fn with(&self, terms: &Terms) -> Result<Image, Error> {
         self.opened.give(self.opened.begin(terms)?);
         Ok(Image { opened: Arc::clone(&self.opened), terms: *terms })
+    }
+
+    /// Has the runs that are begun from now on, of this image and its clones, go by the shared object that
+    /// `native build` made of it. Their outputs and counts are the same; a step may make more turns than it is allowed.
+    ///
+    /// # Safety
+    /// The object is run in this process, with all of its rights: it has to be what `native build` made, and its file
+    /// isn't written to while it is loaded.
+    ///
+    /// # Errors
+    /// [`Error::NoFile`], [`Error::NoObject`], [`Error::ObjectAbi`], [`Error::ObjectImage`], [`Error::ObjectCounts`],
+    /// or memory was refused: its runs then go by what they went by.
+    pub unsafe fn native(&self, path: impl AsRef<Path>) -> Result<(), Error> {
+        self.opened.go_by(path.as_ref())
     }
 
     /// What it declares and is made of.

@@ -18,7 +18,8 @@
 //!
 //! Any thread may use an [`Image`] at any time, and a clone is the same image. A [`Session`] is a run in pieces, which
 //! never waits; a [`Reader`] and [`Image::filter`] are runs over streams. A run is a function of image, input and
-//! terms, turns included: run it again, or twice, anywhere. It is made on the library's engine.
+//! terms, turns included: run it again, or twice, anywhere. It is made on the library's engine, or by an object of
+//! native code where the image was given one.
 #![warn(missing_docs)]
 
 mod error;

@@ -1,4 +1,5 @@
 //! What of geyserpan.h is called.
+use std::os::raw::c_char;
 
 /// The number of the calls that this crate is made for.
 pub const ABI: u32 = 1;
@@ -17,6 +18,11 @@ pub const FULL: u32 = 10;
 pub const PAUSED: u32 = 11;
 pub const SOURCE: u32 = 13;
 pub const OUTPUT: u32 = 14;
+pub const FILE: u32 = 16;
+pub const OBJECT: u32 = 17;
+pub const OBJECT_ABI: u32 = 18;
+pub const OBJECT_IMAGE: u32 = 19;
+pub const OBJECT_COUNTS: u32 = 20;
 
 /// `geyserpan_image` and `geyserpan_engine`.
 #[repr(C)]
@@ -97,6 +103,7 @@ extern "C" {
         why: *mut Why,
     ) -> u32;
     pub fn geyserpan_image_share(image: *mut Handle, other: *mut Handle) -> u32;
+    pub fn geyserpan_native(image: *mut Handle, path: *const c_char) -> u32;
     pub fn geyserpan_facts_of(image: *mut Handle, facts: *mut Facts) -> u32;
     pub fn geyserpan_engine_new(engine: *mut Handle) -> u32;
     pub fn geyserpan_engine_free(engine: Handle);

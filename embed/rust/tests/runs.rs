@@ -49,6 +49,35 @@ fn runs_the_examples() {
     assert!(tried >= 10);
 }
 
+/// Whether its runs go by an object: a step of one turn is more than that.
+fn is_native(image: &Image) -> bool {
+    image.session().unwrap().step(1, b"abc", true, &mut [0; 8]).turns > 1
+}
+
+#[test]
+fn goes_by_an_object() {
+    let (Some(image), Ok(object)) = (echo(), env::var("GEYSERPAN_OBJECT")) else { return };
+    let (clone, plain, mut before) = (image.clone(), echo().unwrap(), image.session().unwrap());
+    assert!(!is_native(&image));
+    // SAFETY: `native build` made it.
+    unsafe { image.native(object) }.unwrap();
+    assert!(is_native(&image) && is_native(&clone) && !is_native(&plain));
+    assert!(before.step(1, b"abc", true, &mut [0; 8]).turns <= 1);
+    drop(before);
+    let (mut wanted, mut came) = (Vec::new(), Vec::new());
+    assert_eq!(image.run_into(b"abc", &mut came).unwrap(), plain.run_into(b"abc", &mut wanted).unwrap());
+    assert_eq!(wanted, came);
+    for (path, error) in [("/nowhere", Error::NoFile), ("a\0b", Error::NoFile), ("/", Error::NoObject)] {
+        // SAFETY: nothing is loaded.
+        assert_eq!(unsafe { image.native(path) }, Err(error));
+        assert!(!error.to_string().is_empty() && is_native(&image));
+    }
+    let other = assemble(b".services exit\n.function main,leaf,0,0,4\n.fuel 4\n mov 0,%o0\n ta 0\n").unwrap();
+    // SAFETY: `native build` made it.
+    let refused = unsafe { Image::open(&other, &most()).unwrap().native(env::var("GEYSERPAN_OBJECT").unwrap()) };
+    assert_eq!(refused, Err(Error::ObjectImage));
+}
+
 #[test]
 fn refuses_an_image() {
     assert!(matches!(Image::open(b"", &most()), Err(Error::NoImage { number: 1, .. })));

@@ -12,14 +12,15 @@
 
     geyserpan.filter(image, sys.stdin.buffer, sys.stdout.buffer)   # a run over streams
 
-An image may be used by many threads at once. Runs are made without the GIL on the library's engine, and Ctrl-C ends one
-within a second. An image pickles by its bytes and its terms: a process that gets it verifies it once, however often it
-comes.
+An image may be used by many threads at once. Runs are made without the GIL on the library's engine, or by an object of
+native code where the image was given one, and Ctrl-C ends one within a second. An image pickles by its bytes and its
+terms: a process that gets it verifies it once, however often it comes.
 """
 from __future__ import annotations
 
 import enum
 import functools
+import os
 from collections import deque
 from collections.abc import Callable, Iterable, Iterator
 from concurrent.futures import Future, ThreadPoolExecutor
@@ -32,8 +33,8 @@ from . import _native
 if TYPE_CHECKING:
     from _typeshed import ReadableBuffer as Buffer
 
-__all__ = ["Denied", "Error", "Facts", "Image", "Lost", "OutputTooLong", "Refused", "Result", "Services", "Session",
-           "Status", "Step", "Terms", "Test", "assemble", "check", "filter", "sha256", "version"]
+__all__ = ["Denied", "Error", "Facts", "Image", "Lost", "NoObject", "OutputTooLong", "Refused", "Result", "Services",
+           "Session", "Status", "Step", "Terms", "Test", "assemble", "check", "filter", "sha256", "version"]
 __version__ = "0.1.0"
 
 
@@ -65,6 +66,11 @@ class Status(enum.IntEnum):
     SOURCE = 13
     OUTPUT = 14
     LOST = 15
+    FILE = 16
+    OBJECT = 17
+    OBJECT_ABI = 18
+    OBJECT_IMAGE = 19
+    OBJECT_COUNTS = 20
 
 
 class Test(enum.IntEnum):
@@ -101,6 +107,10 @@ class Denied(Error, ValueError):
 
 class OutputTooLong(Error):
     """A run that was stopped where its output came to what the terms grant."""
+
+
+class NoObject(Error, ValueError):
+    """A file that is no object of native code for this image."""
 
 
 class Lost(Error):
@@ -169,7 +179,9 @@ class Step:
 
 
 _KINDS: dict[int, type[Error]] = {Status.WINDOWS: Denied, Status.SERVICES: Denied, Status.TURNS: Denied,
-                                  Status.OUTPUT: OutputTooLong, Status.LOST: Lost}
+                                  Status.OUTPUT: OutputTooLong, Status.LOST: Lost, Status.FILE: NoObject,
+                                  Status.OBJECT: NoObject, Status.OBJECT_ABI: NoObject,
+                                  Status.OBJECT_IMAGE: NoObject, Status.OBJECT_COUNTS: NoObject}
 
 
 def _raise(failure: _native.Failure) -> NoReturn:
@@ -227,6 +239,15 @@ class Image:
         self.terms = terms
         self.facts = _facts(self._native.facts)
         self.sha256 = sha256(self._native.data)
+
+    def native(self, path: str | bytes | os.PathLike[str]) -> None:
+        """Has the runs that are begun from now on go by the shared object that `native build` made of it: outputs and
+        counts are the same, and a step may make more turns than it is allowed. NoObject where the file is another one.
+        The object is run in this process: load what you built yourself. It doesn't travel with a pickle."""
+        try:
+            self._native.native(path)
+        except _native.Failure as failure:
+            _raise(failure)
 
     @property
     def data(self) -> bytes:

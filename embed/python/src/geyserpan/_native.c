@@ -127,10 +127,11 @@ static PyObject *told(const geyserpan_facts *facts)
 
 /* ---- images ---- */
 
-/* What a call has for itself while it goes without the GIL. */
+/* What a call has for itself while it goes without the GIL: handles to the image as it was behind so many changes. */
 typedef struct {
     geyserpan_image image;
     geyserpan_engine engine;
+    unsigned long changes;
 } Pair;
 
 typedef struct {
@@ -141,6 +142,7 @@ typedef struct {
     geyserpan_facts facts;
     Pair kept[MOST];
     int count;
+    unsigned long changes; /* how often the image was given an object */
 } Image;
 
 static void drop_pair(Pair pair)
@@ -158,7 +160,7 @@ static int take_pair(Image *self, Pair *pair)
         *pair = self->kept[--self->count];
         return 0;
     }
-    *pair = (Pair){ { NULL }, { NULL } };
+    *pair = (Pair){ { NULL }, { NULL }, self->changes };
     uint32_t status = geyserpan_image_new(&pair->image);
     if (status == GEYSERPAN_OK)
         status = geyserpan_image_share(&self->image, &pair->image);
@@ -175,7 +177,7 @@ static int take_pair(Image *self, Pair *pair)
 static void give_pair(Image *self, Pair pair)
 {
     geyserpan_engine_end(&pair.engine);
-    if (self->count < MOST)
+    if (self->count < MOST && pair.changes == self->changes)
         self->kept[self->count++] = pair;
     else
         drop_pair(pair);
@@ -331,6 +333,23 @@ static PyObject *image_run(Image *self, PyObject *args)
     return made;
 }
 
+/* native(path): has the runs that are begun from now on go by an object. It is loaded with the GIL held, since the
+   image's handle is in use for the call. */
+static PyObject *image_native(Image *self, PyObject *given)
+{
+    PyObject *path;
+    if (!PyUnicode_FSConverter(given, &path))
+        return NULL;
+    uint32_t status = geyserpan_native(&self->image, PyBytes_AsString(path));
+    Py_DECREF(path);
+    if (status != GEYSERPAN_OK)
+        return fail(status, NULL);
+    self->changes++;
+    while (self->count)
+        drop_pair(self->kept[--self->count]);
+    Py_RETURN_NONE;
+}
+
 static PyObject *image_facts(Image *self, void *closure)
 {
     (void)closure;
@@ -345,6 +364,7 @@ static PyObject *image_data(Image *self, void *closure)
 
 static PyMethodDef image_methods[] = {
     { "run", (PyCFunction)(void (*)(void))image_run, METH_VARARGS, NULL },
+    { "native", (PyCFunction)(void (*)(void))image_native, METH_O, NULL },
     { NULL, NULL, 0, NULL },
 };
 static PyGetSetDef image_gets[] = {

@@ -1,3 +1,5 @@
+from os import PathLike
+
 from _typeshed import ReadableBuffer as Buffer
 
 _Terms = tuple[int, int, int, int]
@@ -9,6 +11,7 @@ class Failure(Exception):
 class Image:
     def __new__(cls, data: Buffer, terms: _Terms, /) -> Image: ...
     def run(self, data: Buffer, terms: _Terms | None, /) -> tuple[bytes, int, int]: ...
+    def native(self, path: str | bytes | PathLike[str], /) -> None: ...
     @property
     def facts(self) -> _Facts: ...
     @property
