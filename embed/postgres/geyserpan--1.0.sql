@@ -21,6 +21,10 @@ CREATE FUNCTION geyserpan_facts(image bytea, OUT budget bigint, OUT services tex
 CREATE FUNCTION geyserpan_assemble(source text) RETURNS bytea
     AS 'MODULE_PATHNAME', 'sql_assemble' LANGUAGE C IMMUTABLE STRICT PARALLEL SAFE COST 10000;
 
+-- whether its runs go by an object of geyserpan.native_directory
+CREATE FUNCTION geyserpan_is_native(image bytea) RETURNS boolean
+    AS 'MODULE_PATHNAME', 'sql_is_native' LANGUAGE C STABLE STRICT PARALLEL SAFE COST 10000;
+
 -- A column of this type holds accepted images alone.
 CREATE DOMAIN geyserpan_image AS bytea CHECK (geyserpan_verify(VALUE));
 

@@ -153,14 +153,14 @@ def rules(work):
         try_breaking(work, breaking)
 
 
-def try_rule(work, image):
-    """The rule's answers row by row, by a function and by geyserpan_match."""
+def try_rule(work, image, setting=""):
+    """The rule's answers row by row, by a function and by geyserpan_match, in a session with this setting."""
     lots = random.Random(15)
     lines = [line_of(lots) for _ in range(20000)]
     wanted = "".join("t" if has_failed(it) else "f" for it in lines)
     path = put(work.at("lines"), "\n".join(lines) + "\n")
-    setting = (f"CREATE TABLE line (number serial, line text); COPY line (line) FROM '{path}';\n{loaded(image)}"
-               "CREATE FUNCTION has_failed(text) RETURNS boolean LANGUAGE geyserpan AS :'image';\n")
+    setting += (f"CREATE TABLE line (number serial, line text); COPY line (line) FROM '{path}';\n{loaded(image)}"
+                "CREATE FUNCTION has_failed(text) RETURNS boolean LANGUAGE geyserpan AS :'image';\n")
     calls = ("has_failed(line)", "geyserpan_match(:'image', line)")
     came = work.server.answers([f"SELECT string_agg(coalesce(left(({it})::text, 1), '-'), '' ORDER BY number)"
                                 " FROM line;" for it in calls], setting)

@@ -10,6 +10,7 @@ user postgres or nobody where root runs it. Parts, all but `speed` where none is
   rules         a rule from C over 20,000 lines beside Python's answers, and one that breaks, with its line
   page          docs/postgres.md from its C file to its WHERE clause, as the page shows it
   tenants       roles that are no superuser: the extension, functions, limits
+  natively      examples, the rule and a run that is broken off by objects of native code; objects that aren't taken
   parallel      parallel workers and a dump that is restored: the same answers
   stopped       runs that a timeout, a cancel or a termination breaks off, at many moments; what stays in memory
   growths       each growth of memory refused in turn
@@ -19,7 +20,7 @@ user postgres or nobody where root runs it. Parts, all but `speed` where none is
 
 PREFIX is where a library is laid out already; else tools/release/library lays one out. `speed` takes N rows
 (1,000,000). It needs Debian's postgresql-15 and postgresql-server-dev-15; what needs a compiler for SPARC,
-postgresql-plperl-15 or postgresql-plpython3-15 is skipped without it."""
+the program of ./native, postgresql-plperl-15 or postgresql-plpython3-15 is skipped without it."""
 import os
 import shutil
 import sys
@@ -30,6 +31,7 @@ HERE = os.path.dirname(os.path.abspath(__file__))
 sys.path.insert(0, f"{os.path.dirname(HERE)}/lib")
 from answers import examples, installcheck, page, refused, rules
 from library import library
+from natively import natively
 from run import TOP, run
 from server import Server, missing
 from sessions import long, parallel, tenants
@@ -37,8 +39,8 @@ from speed import speed
 from stopped import growths, stopped
 from tally import FAILED, Tally, Words
 
-PARTS = {it.__name__: it for it in (installcheck, examples, refused, rules, page, tenants, parallel, stopped, growths,
-                                    long, speed)}
+PARTS = {it.__name__: it for it in (installcheck, examples, refused, rules, page, tenants, natively, parallel, stopped,
+                                    growths, long, speed)}
 UNASKED = ("speed",)
 
 

@@ -3,6 +3,7 @@ import os
 import random
 
 from answers import COMPILER, RULE, compiled, has_failed, loaded, whole_line
+from natively import directory, lacks, object_in
 from run import built, has, put, run
 from server import config
 
@@ -76,6 +77,13 @@ WAYS = (
      "has_failed(line)"),
     ("`geyserpan_match`, the same image as a constant", None, "", "geyserpan_match(:'image', line)"),
 )
+# The same by an object of native code, where one can be made.
+BY_OBJECT = (
+    ("**LANGUAGE geyserpan**, the same rule by an object", None,
+     "CREATE FUNCTION native_rule(text) RETURNS boolean LANGUAGE geyserpan IMMUTABLE AS :'image';\n",
+     "native_rule(line)"),
+    ("`geyserpan_match`, by an object", None, "", "geyserpan_match(:'image', line)"),
+)
 
 
 def native(work):
@@ -104,16 +112,35 @@ def ticks(told):
     return (int(fields[11]) + int(fields[12])) / os.sysconf("SC_CLK_TCK")
 
 
-def measure(work, image, way):
+def measure(work, image, way, setting=SETTING):
     """The rows that a condition finds, and the least seconds of the backend's processor that it takes."""
     _, _, makes, condition = way
     now = "SELECT pg_read_file('/proc/self/stat');"
     query = f"{now} SELECT count(*) FROM log WHERE {condition}; {now}"
-    told = work.server.answers([query] * ROUNDS, f"{loaded(image)}{SETTING}{makes}", seconds=3600)
+    told = work.server.answers([query] * ROUNDS, f"{loaded(image)}{setting}{makes}", seconds=3600)
     rounds = [[it for it in lines.split("\n") if it] for lines, _ in told]
     if any(len(it) != 3 for it in rounds):
         return rounds[0][-1], 0
     return rounds[0][1], min(ticks(it[2]) - ticks(it[0]) for it in rounds)
+
+
+def tell(work, image, way, failed, setting=SETTING):
+    """Prints the line of a way."""
+    count, seconds = measure(work, image, way, setting)
+    wanted = work.rows if "scan" in way[0] else failed
+    if work.tally.same(way[0], count, str(wanted)):
+        print(f"| {way[0]} | {seconds / work.rows * 1e6:.2f} | {work.rows / seconds:,.0f} |", flush=True)
+
+
+def tell_native(work, image, failed):
+    """Prints the lines of the ways by an object."""
+    if lacks():
+        work.tally.skip("the rule by an object", lacks())
+        return
+    folder = work.at("objects")
+    if object_in(work, folder, image):
+        for way in BY_OBJECT:
+            tell(work, image, way, failed, SETTING + directory(folder))
 
 
 def speed(work):
@@ -133,8 +160,6 @@ def speed(work):
         if way[1] and "ERROR" in work.server.ask(f"CREATE EXTENSION IF NOT EXISTS {way[1]};"):
             work.tally.skip(way[0], f"the extension {way[1]}")
             continue
-        count, seconds = measure(work, image, way)
-        wanted = work.rows if "scan" in way[0] else failed
-        if work.tally.same(way[0], count, str(wanted)):
-            print(f"| {way[0]} | {seconds / work.rows * 1e6:.2f} | {work.rows / seconds:,.0f} |", flush=True)
+        tell(work, image, way, failed)
+    tell_native(work, image, failed)
     work.server.ask("DROP TABLE log;")

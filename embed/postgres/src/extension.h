@@ -21,9 +21,13 @@ typedef struct Settings
 	int			max_memory;		/* kB of the library and of the images that are kept */
 	int			max_output;		/* kB of a run's output, or of one line of it */
 	double		max_turns;		/* turns that a run may ask for */
+	char	   *native_directory;	/* where objects of native code stand, or nothing */
 } Settings;
 
 extern Settings settings;
+
+/* How often native_directory was set: an image of another count was opened before that. */
+extern uint64 native_changes;
 
 /* ---- memory.c ---- */
 
@@ -47,6 +51,8 @@ typedef struct Image
 	Size		length;
 	uint8	   *bytes;
 	int			users;			/* the list of kept images, call sites and groups */
+	uint64		native_changes;
+	bool		is_native;		/* its runs go by an object */
 } Image;
 
 /* An image that is in use until its memory context ends. */

@@ -99,6 +99,13 @@ sql_assemble(PG_FUNCTION_ARGS)
 	PG_RETURN_BYTEA_P(assembled(VARDATA_ANY(source), VARSIZE_ANY_EXHDR(source)));
 }
 
+PG_FUNCTION_INFO_V1(sql_is_native);
+Datum
+sql_is_native(PG_FUNCTION_ARGS)
+{
+	PG_RETURN_BOOL(image_argument(fcinfo, 0)->is_native);
+}
+
 /* ---- runs ---- */
 
 /* The run of a call, whose arguments are image, input and max_turns. */

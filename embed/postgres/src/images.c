@@ -50,6 +50,34 @@ forget_unused(void)
 	return found;
 }
 
+/* Has the runs of an image go by the object of its name, if there is one. One that isn't taken is told, and then the
+   engine makes them. */
+static void
+go_natively(Image *image)
+{
+	static const geyserpan_why none;
+	uint8		name[32];
+	char		words[96];
+	StringInfoData path;
+	uint32		status;
+
+	if (settings.native_directory == NULL || settings.native_directory[0] == '\0')
+		return;
+	(void) geyserpan_sha256(image->bytes, image->length, name, sizeof name);
+	initStringInfo(&path);
+	appendStringInfo(&path, "%s/", settings.native_directory);
+	for (int i = 0; i < lengthof(name); i++)
+		appendStringInfo(&path, "%02x", name[i]);
+	appendStringInfoString(&path, ".so");
+	status = geyserpan_native(&image->handle, path.data);
+	image->is_native = status == GEYSERPAN_OK;
+	if (status != GEYSERPAN_OK && status != GEYSERPAN_FILE)
+		ereport(WARNING,
+				errmsg("geyserpan: %s: %.*s", path.data,
+					   (int) geyserpan_why_text(status, &none, (uint8 *) words, sizeof words), words));
+	pfree(path.data);
+}
+
 /* An image with a copy of its bytes, from a handle that holds it; NULL where memory is refused. */
 static Image *
 new_image(geyserpan_image handle, const char *bytes, Size length, uint64 hash)
@@ -66,7 +94,8 @@ new_image(geyserpan_image handle, const char *bytes, Size length, uint64 hash)
 		rattle_dealloc(image);
 		return NULL;
 	}
-	*image = (Image) {.handle = handle,.hash = hash,.length = length,.bytes = copy.at,.users = 1};
+	*image = (Image) {.handle = handle,.hash = hash,.length = length,.bytes = copy.at,.users = 1,
+		.native_changes = native_changes};
 	memcpy(image->bytes, bytes, length);
 	(void) geyserpan_facts_of(&image->handle, &image->facts);
 	return image;
@@ -103,7 +132,8 @@ kept_image(const char *bytes, Size length, uint64 hash)
 	{
 		Image	   *image = dlist_container(Image, node, at.cur);
 
-		if (image->hash == hash && image->length == length && memcmp(image->bytes, bytes, length) == 0)
+		if (image->hash == hash && image->length == length && image->native_changes == native_changes &&
+			memcmp(image->bytes, bytes, length) == 0)
 		{
 			dlist_move_head(&kept_images, &image->node);
 			return image;
@@ -131,6 +161,7 @@ find_image(const char *bytes, Size length, geyserpan_why *why, uint32 *status)
 	dlist_push_head(&kept_images, &image->node);
 	if (++kept_count > MOST_KEPT)
 		forget(dlist_tail_element(Image, node, &kept_images));
+	go_natively(image);
 	return image;
 }
 

@@ -13,6 +13,13 @@ void		_PG_init(void);
 #define MOST_TURNS 1099511627776.0	/* 2^40, the most that an image can declare */
 
 Settings	settings;
+uint64		native_changes = 0;
+
+static void
+at_native_directory(const char *path, void *none)
+{
+	native_changes++;
+}
 
 static const char *
 show_turns(void)
@@ -37,6 +44,10 @@ define_settings(void)
 							 "What asks for more isn't run.",
 							 &settings.max_turns, 10000000, 0, MOST_TURNS, PGC_SUSET, 0,
 							 NULL, NULL, show_turns);
+	DefineCustomStringVariable("geyserpan.native_directory", "Sets where objects of native code are looked for.",
+							   "An image runs by the file that is named by its SHA-256, with .so behind it.",
+							   &settings.native_directory, "", PGC_SUSET, 0,
+							   NULL, at_native_directory, NULL);
 	MarkGUCPrefixReserved("geyserpan");
 }
 
