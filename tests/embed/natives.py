@@ -32,6 +32,21 @@ def stored():
     return [it for it in found if it[1]]
 
 
+def doubling(depth):
+    """A source whose functions call the next one twice, without a loop."""
+    lines, budget = [".services exit"], 2
+    functions = [".function f0,leaf,0,0,2\n.fuel 2\n retl\n nop"]
+    for level in range(1, depth + 1):
+        budget = 2 * budget + 55
+        call = f" call f{level - 1}\n nop\n"
+        functions.insert(0, f".function f{level},framed,96,{96 * level},{budget}\n.fuel {budget}\n save %sp,-96,%sp\n"
+                            f"{call}{call} ret\n restore")
+    total, stack = budget + 31, 96 * (depth + 1)
+    lines += [f".function main,framed,96,{stack},{total}", f".fuel {total}", " save %sp,-96,%sp", f" call f{depth}",
+              " nop", " mov 0,%o0", " ta 0"]
+    return "\n".join([*lines, *functions, ""])
+
+
 class Natives:
     """What these trials have in common: how they count, where they work, and the host."""
 
@@ -93,6 +108,9 @@ class Natives:
         if not os.path.exists(program("fit")) or not os.path.exists(program("sbx_tool")):
             self.tally.skip("examples/c by objects", "the programs of fit and sandbox")
             return
+        source = put(f"{self.work}/doubling.s", doubling(14).encode())
+        if self.made([SANDBOX, "asm", source, f"{source}.img"], "calls without a loop"):
+            yield f"{source}.img", b""
         for source in sorted(os.listdir(f"{EXAMPLES}/c/gcc")):
             name, made = source.removesuffix(".s"), f"{self.work}/{source}"
             parts = [f"{EXAMPLES}/c/gcc/{it}" for it in (source, "plug.s")]
