@@ -110,7 +110,7 @@ fn try_call(alloc: Global) -> Result<bool, AllocError> {
         stack_bytes: 4096,
     };
     let text = write_program(alloc, &program, &named)?;
-    let lines = "L1:;\n    HEAD(1, NO_CODES);\n    EXIT(0u);\nL2:;\n    switch (x44) {\n";
+    let lines = "L1:;\n    HEAD(1, NO_CODES);\n    EXIT(0u);\nL2:;\n    goto L1;\n";
     Ok(has(text.as_bytes(), lines))
 }
 
