@@ -41,7 +41,7 @@ def ends(work):
         tally.check(f"inspect run on {given}", wanted in told, f"wanted {wanted}, came {told[:200]}")
         told = run([INSPECT, "run", "--limit", "1000000", "--map", mapped, image], given.encode()).err.decode()
         tally.check(f"inspect run --map on {given}", f"{place}: {why}" in told, f"wanted {place}: {why}, came {told}")
-        by_gdb(work, image, given, f"{place}: {why}")
+        by_gdb(work, image, given, f"{place}: {why}", SIGNALS[given])
         by_page(work, image, given, f"{place}: {why}")
         wanted = f"{place}: {why}", f"line {line_of(text)}: "
         by_program(work, "host", ["--max-turns", "1000000000000", image], given, wanted)
@@ -57,7 +57,12 @@ def ends(work):
     tally.check("inspect run of an exit word", "00000078\nturns" in told, told[:200])
 
 
-def by_gdb(work, image, given, wanted):
+def map_of(image):
+    """The map that ./cc left beside an image."""
+    return f"{os.path.splitext(image)[0]}.map"
+
+
+def by_gdb(work, image, given, wanted, signal):
     """What gdb tells of an end, where it is there."""
     if not has(GDB):
         work.tally.skip(f"gdb on {given}", f"Debian's package {GDB}")
@@ -65,11 +70,12 @@ def by_gdb(work, image, given, wanted):
     path = put(work.at("given"), given)
     with on_run(image, path) as gdb:
         told = gdb.told("continue")
-        work.tally.check(f"gdb on {given}", wanted in told and SIGNALS[given] in gdb.stop,
-                         f"wanted {wanted} as {SIGNALS[given]}, came {told} {gdb.stop}")
+        work.tally.check(f"gdb on {given}", wanted in told and signal in gdb.stop,
+                         f"wanted {wanted} as {signal}, came {told} {gdb.stop}")
         path, line = wanted.split(":")[:2]
         told = gdb.told("info line *$pc")
-        work.tally.check(f"gdb on {given} stops at the line", f"Line {line} of \"{path}\"" in told, told)
+        work.tally.check(f"gdb on {given} stops at the line", f"Line {line} of \"{os.path.basename(path)}\"" in told,
+                         told)
 
 
 def by_program(work, name, words, given, wanted):
@@ -77,7 +83,7 @@ def by_program(work, name, words, given, wanted):
     if not os.path.exists(program(name)):
         work.tally.skip(f"{name} on {given}", f"the program {name}")
         return
-    for more, it in zip((["--map", work.at("kinds.map")], []), wanted):
+    for more, it in zip((["--map", map_of(words[-1])], []), wanted):
         ran = run([f"{TOP}/{name}", "run", *more, *words], given.encode())
         work.tally.check(f"{name} run {' '.join(more[:1])} on {given}", it in ran.err.decode() and ran.status == 1,
                          f"wanted {it}, came {ran.said}")
@@ -85,7 +91,7 @@ def by_program(work, name, words, given, wanted):
 
 def by_page(work, image, given, wanted):
     """What a page's data tell of an end, in hexadecimal."""
-    words = [INSPECT, "page", "--limit", "1000000", "--map", work.at("kinds.map"), image]
+    words = [INSPECT, "page", "--limit", "1000000", "--map", map_of(image), image]
     found = re.search(r"^z([0-9A-F]+)$", run(words, given.encode()).out.decode(), re.M)
     told = bytes.fromhex(found[1]).decode() if found else "nothing"
     work.tally.check(f"inspect page --map on {given}", wanted in told, f"wanted {wanted}, came {told}")

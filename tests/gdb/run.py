@@ -5,6 +5,7 @@ Drives gdb-multiarch on runs by its machine interface, and tells ends of runs by
 all where none is named (tests/run docs plays the sessions of the pages):
 
   ends       exit words of tests, told by ./cc --run, ./inspect run, ./inspect run --map, ./host and gdb
+  twins      the same of tests that stand in the same lines of two files of one name
   images     what ./cc --debug and --map leave beside an image; its bytes are those without
   states     `inspect states --from`: the state behind a turn goes on as the run does
   commands   stops, breakpoints, watched bytes, backtraces and `monitor`, on 4, 8 and 32 windows
@@ -29,12 +30,13 @@ from packets import packets, refused
 from run import built, has
 from stops import back, commands, speed
 from tally import Tally, Words
+from twins import twins
 from values import values
 
 COMPILER = "sparc64-linux-gnu-gcc"
-PARTS = {it.__name__: it for it in (ends, images, states, commands, back, values, packets, refused, speed)}
+PARTS = {it.__name__: it for it in (ends, twins, images, states, commands, back, values, packets, refused, speed)}
 WITHOUT_COMPILER = ("states", "packets", "refused")
-WITHOUT_GDB = ("ends", "images", *WITHOUT_COMPILER)
+WITHOUT_GDB = ("ends", "twins", "images", *WITHOUT_COMPILER)
 
 
 class Work:

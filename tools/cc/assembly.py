@@ -1,4 +1,5 @@
 """What is looked up and changed in the assembly of a whole program, before ./fit reads it."""
+import os
 import re
 
 FILE = re.compile(r'\s*\.file\s+(\d+)\s+"([^"]*)"(?:\s+"([^"]*)")?')
@@ -22,6 +23,8 @@ OTHERWISE = {"e": "ne", "z": "ne", "g": "le", "ge": "l", "gu": "leu", "cc": "cs"
 OTHERWISE |= {there: here for here, there in OTHERWISE.items()} | {"nz": "e", "lu": "cc", "ne": "e", "cs": "cc"}
 # Text of constants, in which no name stands.
 TEXT = re.compile(r"\s*\.(asci[iz]|string|file|ident)\b")
+# An object as a note of ./fit's names it.
+OBJECT = re.compile(r"(?<=the index into )[^\n]+?(?= \(\d+ bytes?\))")
 # The variables of exit.c of which one is there only where something calls atexit.
 AT_EXIT = re.compile(r"^(?:\s*\.(?:local|comm)\s+)?__exit_(?:functions|told)\b(?!\.\d)", re.M)
 START = """
@@ -53,6 +56,12 @@ __main_name:
 """
 
 
+# ./fit goes on with the line before where a compiler tells that it doesn't know one, so it gets the greatest line that
+# an exit word has in the place of 0.
+NO_LINE = 0xFFFF
+UNTOLD = re.compile(r"^(\s*\.loc\s+\d+\s+)0\b", re.M)
+
+
 class Assembly:
     """The lines of an assembly, and where they come from."""
 
@@ -67,9 +76,9 @@ class Assembly:
         for number, line in enumerate(self.lines, 1):
             file, loc, label = FILE.match(line), PLACE.match(line), LABEL.match(line)
             if file:
-                self.files[file[1]] = "/".join(filter(None, file.groups()[1:]))
+                self.files[file[1]] = os.path.join("", *filter(None, file.groups()[1:]))
             elif loc:
-                place = (loc[1], int(loc[2]))
+                place = (loc[1], 0 if int(loc[2]) == NO_LINE else int(loc[2]))
             elif label and not line.startswith(".L"):
                 function, place = plain(label[1]), None
             self.places[number], self.functions[number] = place, function
@@ -83,10 +92,31 @@ class Assembly:
         return "\n".join(self.lines) + "\n"
 
 
+def files_of(path):
+    """The paths of the files that an assembly has lines of."""
+    with open(path, encoding="utf-8", errors="surrogateescape") as file:
+        return list(Assembly(file.read()).files.values())
+
+
 def plain(name):
     """A function's name without what a compiler puts behind it for a copy or a part, and as C has main."""
     name = re.sub(r"\.(constprop|isra|part|cold|lto_priv|llvm|\d).*$", "", name)
     return "main" if name == INNER else name
+
+
+def with_untold_lines(text):
+    """Has ./fit know where a compiler doesn't tell the line."""
+    return UNTOLD.sub(rf"\g<1>{NO_LINE}", text)
+
+
+def where(path, line):
+    """A file and a line as they are told."""
+    return f"{path}:{line}" if int(line or 0) not in (0, NO_LINE) else path
+
+
+def plain_objects(text):
+    """What is told of tests, with the names of objects as C has them."""
+    return OBJECT.sub(lambda it: plain(it[0]), text)
 
 
 def without_traps(assembly):

@@ -7,7 +7,7 @@ import subprocess
 import sys
 import tempfile
 
-from assembly import LAST, Assembly, started, without_traps
+from assembly import LAST, Assembly, started, where, with_untold_lines, without_traps
 from compilers import TOP, compiler_of, limited
 from fault import Fault
 from request import ending_of, request_of
@@ -82,21 +82,22 @@ class Build:
         if last:
             raise Fault(2, f"{self.request.name}: refused: {last[1]}: an __attribute__((destructor)) isn't taken: tell "
                         "atexit of the function")
-        text = started(text, self.has_parameters)
+        text = with_untold_lines(started(text, self.has_parameters))
         self.assembly = Assembly(text)
         traps = without_traps(self.assembly)
         with open(path, "w", encoding="utf-8", errors="surrogateescape") as file:
             file.write(self.assembly.text())
-        self.teller = Teller(self.request, self.assembly)
+        helpers = runtime.helpers()
+        self.teller = Teller(self.request, self.assembly, helpers, self.work)
         say(*(self.trap(it) for it in traps), self.has_parameters)
         written = [it for it in self.request.files if ending_of(it) == ".s"]
-        return [*written, path, *runtime.helpers()]
+        return [*written, path, *helpers]
 
     def trap(self, number):
         """What is told of a trap that a compiler put in."""
         path, line, function = self.teller.place("program.s", number)
-        return demangled(f"{path}:{line}: note: {function}: the compiler sees that C defines nothing here, as where a "
-                         "null pointer is read or a value isn't returned: a run ends here as by abort")
+        return demangled(f"{where(path, line)}: note: {function}: the compiler sees that C defines nothing here, as "
+                         "where a null pointer is read or a value isn't returned: a run ends here as by abort")
 
     def write_dependencies(self, objects):
         """Writes which files the sources include, in one file for all."""
@@ -113,7 +114,8 @@ class Build:
     def fitted(self):
         """Compiles and fits; returns how ./fit ended."""
         self.made = self.assembled()
-        self.origins = Origins(self.made, self.work) if self.request.is_traced else None
+        is_traced = self.request.is_traced or self.teller.has_namesakes
+        self.origins = Origins(self.made, self.work) if is_traced else None
         given = self.origins.marked if self.origins else self.made
         words = [f"{TOP}/fit", *given, "-o", self.source, *self.request.fitting]
         ran, is_long = limited(words, SECONDS)
@@ -127,7 +129,7 @@ class Build:
 
     def unmark(self):
         """Takes the marks of rows from what ./fit made and told, and keeps the map that they give."""
-        notes, self.ran.stderr = self.ran.stderr, bare(self.ran.stderr)
+        notes, self.ran.stderr = self.ran.stderr, self.origins.told(self.ran.stderr, self.teller.shown)
         if self.ran.returncode == 0:
             with open(self.source, encoding="utf-8", errors="surrogateescape") as file:
                 source = file.read()

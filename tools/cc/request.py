@@ -40,7 +40,7 @@ class Request:
     @property
     def is_traced(self):
         """Whether it is asked which line each word comes from."""
-        return self.maps or self.debugs or self.runs or bool(self.inputs)
+        return self.maps or self.debugs or self.runs or self.notes or bool(self.inputs)
 
     @property
     def is_plus(self):

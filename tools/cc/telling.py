@@ -6,6 +6,7 @@ import re
 import shutil
 import subprocess
 
+from assembly import files_of, plain_objects, where
 from compilers import TOP
 
 # So many notes are told line by line.
@@ -35,20 +36,38 @@ def demangled(text):
     return subprocess.run(["c++filt"], input=text, stdout=subprocess.PIPE, text=True, check=False).stdout
 
 
-class Teller:
-    """Tells what ./fit said of a program."""
+def from_here(path):
+    """A path by where it lies below this folder; the whole one elsewhere, and in the library."""
+    here = os.getcwd().rstrip("/") + "/"
+    return path[len(here):] if path.startswith(here) and not path.startswith(f"{TOP}/runtime/") else path
 
-    def __init__(self, request, assembly):
-        self.request, self.assembly = request, assembly
-        self.paths = {}
+
+class Teller:
+    """Tells what ./fit said of a program, by its assembly and the files of assembly that the library has beside it,
+    in a folder for work."""
+
+    def __init__(self, request, assembly, helpers, work):
+        self.request, self.assembly, self.work = request, assembly, work
+        self.paths, self.known = {}, {}
         self.library = {os.path.basename(it) for it in glob.glob(f"{TOP}/runtime/**/*.*", recursive=True)}
-        for path in [*assembly.files.values(), *request.files]:
+        for path in [*assembly.files.values(), *(path for it in helpers for path in files_of(it)), *request.files]:
             self.paths.setdefault(os.path.basename(path), set()).add(self.shown(path))
 
+    @property
+    def has_namesakes(self):
+        """Whether files in different folders have one name, which is all that ./fit tells of them."""
+        return any(len(it) > 1 for it in self.paths.values())
+
     def shown(self, path):
-        """A path as the words of the call have it."""
-        same = [it for it in self.request.files if os.path.basename(it) == os.path.basename(path)]
-        return same[0] if len(same) == 1 and not path.startswith(TOP) else os.path.normpath(path)
+        """A path as the words of the call have it; that of another file from here on, where it lies below, else the
+        whole one. A compiler's paths begin where it worked."""
+        if path not in self.known:
+            whole, same = os.path.realpath(os.path.join(self.work, path)), os.path.basename(path)
+            named = [it for it in self.request.files if os.path.realpath(it) == whole]
+            if not named and not os.path.exists(whole):  # (lines that tell another place than where the file is now)
+                named = [it for it in self.request.files if os.path.basename(it) == same]
+            self.known[path] = named[0] if len(named) == 1 else from_here(whole) if os.path.exists(whole) else path
+        return self.known[path]
 
     def path(self, name):
         """The path of the one file of that name; the name where there are several."""
@@ -66,11 +85,11 @@ class Teller:
     def notes(self, text):
         """The notes: those on the program line by line where they are few, else how many stand in each function; those
         on the library counted."""
-        found = NOTE.findall(text)
+        found = NOTE.findall(plain_objects(text))
         if self.request.notes:
-            return [f"{self.path(name)}:{line}: note: {why}" for name, line, why in found]
+            return [f"{where(self.path(name), line)}: note: {why}" for name, line, why in found]
         own = [it for it in found if not self.is_library(it[0])]
-        lines = [f"{self.path(name)}:{line}: note: {why}" for name, line, why in own]
+        lines = [f"{where(self.path(name), line)}: note: {why}" for name, line, why in own]
         if len(own) > FEW:
             lines = [f"{self.request.name}: {len(own)} tests were added ({self.counted(own)}): --notes tells each"]
         if len(found) > len(own):
@@ -80,10 +99,10 @@ class Teller:
 
     def is_library(self, name):
         """Whether a file of that name is the library's, or one of C++'s headers."""
-        base = os.path.basename(name)
-        if any(os.path.basename(it) == base for it in self.request.files):
-            return False
-        return base in self.library or "/c++/" in self.path(name)
+        path, own = self.path(name), self.request.files
+        if path == os.path.basename(path):  # (one of several files of that name, or one that lies here)
+            return path in self.library and path not in map(os.path.basename, own)
+        return path not in own and (path.startswith(f"{TOP}/runtime/") or "/c++/" in path)
 
     def counted(self, found):
         """How many notes stand in each function."""
@@ -118,16 +137,15 @@ class Teller:
         if not name:
             return demangled(f"{self.request.name}: refused: {why}")
         path, line, function = self.place(name, int(line) if line else 0)
-        where = f"{path}:{line}" if line else path
         inside = f"{function}: " if function and not why.startswith(f"{function}:") else ""
-        return demangled(f"{where}: refused: {inside}{why}")
+        return demangled(f"{where(path, line)}: refused: {inside}{why}")
 
     def fault_of_fit(self, what, source, word=None):
         """What ./fit made that isn't accepted: never the program's fault."""
         place = place_of_word(source, word)
         name = self.request.name
-        where = f"{self.path(place[0])}:{place[1]}: " if place else ""
-        return (f"{where}{name}: a fault of ./fit's, and not of the program: what it made of this line isn't accepted: "
+        begin = f"{where(self.path(place[0]), place[1])}: " if place else ""
+        return (f"{begin}{name}: a fault of ./fit's, and not of the program: what it made of this line isn't accepted: "
                 f"{what}", f"{name}: nothing is made; another -O level may do; --keep FOLDER has what to report")
 
 

@@ -5,7 +5,10 @@ import json
 import subprocess
 import tempfile
 
+from effects import bit, written
+from exits import NO_FUNCTION, RESULT, failing, telling
 from loaded import TOP, Fault, tool
+from maps import MOST_LINE, UNKNOWN
 from tape import Turn
 
 # What a test's kind says, by the upper half of an exit word, and the signal that it comes as; the lower half is its
@@ -25,9 +28,10 @@ ABORT, TRAP = 6, 5
 # So many places at the most belong to the end of a run behind the test that failed; and behind a call through a
 # pointer, whose functions are looked through one after the other.
 BEHIND_TEST, BEHIND_CALL = 8, 4000
-NO_FUNCTION = 9
-# The most turns of a run on 8 windows whose last ones are looked at where it ends in a test, and so many of them.
-WINDOWS, MOST_TURNS, FEW, LAST = 8, 9_999_999_999, 20_000_000, 50_000
+INDEX = 1
+# The most turns of a run on 8 windows whose last ones are looked at where it ends in a test: where one place alone may
+# have said the exit word, and where several may; and so many of them.
+WINDOWS, MOST_TURNS, FEW, MANY, LAST = 8, 9_999_999_999, 1_000_000, 20_000_000, 50_000
 
 
 class Ending:
@@ -36,6 +40,8 @@ class Ending:
     def __init__(self, word, mapped=None):
         self.word, self.mapped = word, mapped
         self.turns, self.output, self.trap = 0, b"", None
+        # the address of the word that said the exit word, and whether that is the program's own, and no test's
+        self.teller, self.is_own = None, False
 
     @classmethod
     def of(cls, text, mapped=None):
@@ -48,7 +54,7 @@ class Ending:
     @property
     def kind(self):
         """The kind of the test that failed; None where the exit word is none of a test's."""
-        return None if self.word is None else KINDS.get(self.word >> 16)
+        return None if self.word is None or self.is_own else KINDS.get(self.word >> 16)
 
     @property
     def is_test(self):
@@ -65,56 +71,59 @@ class Ending:
     @property
     def line(self):
         """The number of the line of the test that failed."""
-        return self.word & 0xFFFF
+        return self.word & MOST_LINE
 
     @property
     def behind(self):
         """How many places at the most belong to the end of the run behind the test that failed."""
         return BEHIND_CALL if self.word >> 16 == NO_FUNCTION else BEHIND_TEST
 
-    def failing(self, places):
-        """Which of the last places of the run, from the last one on backwards, is that of the test that failed: the
-        branch that led to the end. All calls through pointers share one, so of these it is the last word of the
-        call's line. `places` are their addresses."""
-        if self.word >> 16 == NO_FUNCTION and self.mapped:
-            found = (number for number, pc in enumerate(places) if self.is_line(self.mapped.place(pc)))
-            return next(found, branch_to_end(places[:BEHIND_TEST]))
-        return branch_to_end(places)
+    def look(self, places):
+        """Looks through the last places of the run, each its address and its word, from the last one on backwards, for
+        the word that said the exit word; returns which of them is that of the test that failed."""
+        number = telling(places)
+        if number is None:
+            return branch_to_end([address for address, _ in places])
+        self.teller, word = places[number]
+        self.is_own = (self.mapped is not None and self.teller not in self.mapped.ends
+                       and written(word) == bit(RESULT))
+        return 0 if self.is_own else failing(places, number)
 
-    def is_line(self, place):
-        """Whether a place is in the line that the exit word tells."""
-        return place is not None and place.line == self.line
+    def ends(self):
+        """What the map says of this end: of the word that said it, where the run was looked through for that; else of
+        all words that may have. Nothing is known where nothing is said."""
+        if self.mapped is None:
+            return []
+        found = self.mapped.ends_of(self.word)
+        return found if self.teller is None else [it for it in found if it is self.mapped.ends.get(self.teller)]
 
-    def where(self, test=None, address=None):
-        """The line of a test by file and number, as well as it is known."""
-        if test:
-            return f"{test.place.path}:{test.place.line}"
-        place = self.mapped.place(address) if self.mapped and address is not None else None
-        if self.is_line(place):
-            return f"{place.path}:{self.line}"
-        places = sorted({it.place for it in self.tests()})
-        return " or ".join(f"{it.path}:{it.line}" for it in places) or f"line {self.line}"
+    def is_sure(self):
+        """Whether the test that failed is known: all that may have said the exit word look at one thing in one line."""
+        ends = self.ends()
+        return len({it.place for it in ends}) == 1 and len({self.why_of(it) for it in ends}) == 1
 
-    def tests(self):
-        """The tests of this kind that the map has in this line of any file."""
-        return self.mapped.tests_in(self.line, self.word >> 16) if self.mapped else []
+    def why_of(self, end):
+        """What failed where an end is that of the run."""
+        subjects = self.mapped.subjects_of(end) if end.kind == INDEX else ()
+        return f"{min(subjects)} leaves it" if len(subjects) == 1 else self.kind.words
 
-    def told(self, address=None):
-        """The end in words; None where nothing is known of its word. `address` is that of a word of the test that
-        failed."""
+    def where(self):
+        """The line of the test by file and number, or by all files that it may be of; else by its number alone."""
+        places = sorted({it.place for it in self.ends()})
+        if not places or any(it.path == UNKNOWN or not it.line for it in places):
+            return f"line {self.line}" if 0 < self.line < MOST_LINE else "a line that the compiler doesn't tell"
+        return " or ".join(f"{it.path}:{it.line}" for it in places)
+
+    def why(self):
+        """What failed."""
+        found = {self.why_of(it) for it in self.ends()}
+        return found.pop() if len(found) == 1 else self.kind.words
+
+    def told(self):
+        """The end in words; None where nothing is known of its word."""
         if self.kind is None:
-            return told_of(self.word)
-        test = self.mapped.test_at(address) if self.mapped and address is not None else None
-        if test is None and address is None and len(self.tests()) == 1:
-            test, = self.tests()
-        where, why = self.where(test, address), self.kind.words
-        if test and self.word >> 16 == 1:
-            why = f"{test.subject} leaves it"
-        return f"{where}: {why} (exit word {self.word:08X})"
-
-    def sentence(self, session):
-        """The same, at the last place of a session."""
-        return self.told(session.tape.turn().pc)
+            return told_of(self.word) if self.word == ABORTED else None
+        return f"{self.where()}: {self.why()} (exit word {self.word:08X})"
 
 
 def branch_to_end(places):
@@ -139,32 +148,19 @@ def told_of(word, place=None):
     return kind and f"{place or f'line {word & 0xFFFF}'}: {kind.words} (exit word {word:08X})"
 
 
-class Last:
-    """The last turns of a run, by the lines of its states."""
+def look_at_end(path, given, ending):
+    """Looks through the last turns of a run on an open input, by the lines of its states, for the test it ended in."""
+    words = [f"{TOP}/inspect", "states", "--windows", str(WINDOWS), "--limit", str(ending.turns), path]
+    with subprocess.Popen(words, stdin=given, stdout=subprocess.PIPE, bufsize=1 << 20) as told:
+        lines = list(collections.deque(told.stdout, maxlen=LAST))
+    turns = (Turn(it.decode()) for it in reversed(lines[:-1]) if is_own(it))
+    ending.look([(it.pc, it.word) for it in itertools.islice(turns, ending.behind)])
 
-    def __init__(self, path, given, ending):
-        turns = ending.turns
-        words = [f"{TOP}/inspect", "states", "--windows", str(WINDOWS), "--limit", str(turns), path]
-        with subprocess.Popen(words, stdin=given, stdout=subprocess.PIPE, bufsize=1 << 20) as told:
-            lines = collections.deque(told.stdout, maxlen=LAST)
-        self.lines = list(lines)
-        own = (at for at in range(len(self.lines) - 2, -1, -1) if self.is_own(at))
-        places = list(itertools.islice(own, ending.behind))
-        self.at = places[ending.failing([self.turn(it).pc for it in places])] if places else 0
 
-    def turn(self, at):
-        """What a line tells."""
-        return Turn(self.lines[at].decode())
-
-    def is_own(self, at):
-        """Whether a line is a place of the program's own."""
-        parts = self.lines[at].split(b" ", 12)
-        return parts[4] == b"0" and parts[5][6] < 56
-
-    @property
-    def address(self):
-        """The address of the test that failed."""
-        return self.turn(self.at).pc
+def is_own(line):
+    """Whether a line of a run's states is a place of the program's own."""
+    parts = line.split(b" ", 12)
+    return parts[4] == b"0" and parts[5][6] < 56
 
 
 def end_told(path, given, mapped=None):
@@ -179,8 +175,9 @@ def end_told(path, given, mapped=None):
             return None
         if not ending.word:
             return None
-        # (where the map has one test of the kind in the line, the run needn't be gone through for it)
-        if ending.is_test and mapped and ending.turns <= FEW and len(ending.tests()) != 1:
+        # (where no word of the code says this exit word for a test, the program itself has it)
+        ending.is_own = ending.is_test and mapped is not None and not ending.ends()
+        if ending.is_test and mapped and ending.turns <= (FEW if ending.is_sure() else MANY):
             file.seek(0)
-            return ending.told(Last(path, file, ending).address)
+            look_at_end(path, file, ending)
         return ending.told() or f"the exit word is {ending.word} ({ending.word:08X})"

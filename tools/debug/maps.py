@@ -3,8 +3,10 @@ code comes from, and the tests that ./fit added.
 
 A map is a text. Its first line has the SHA-256 of the image; then a line for each word, `00040010 0 123 name.c:7`:
 its address, the number of a file of assembly, a line of that, and the line of C; one for each test, `test 0 123
-name.c:7 the index into name (32 bytes)`, by the same numbers; one for each word that another function begins at,
-`function 00040010 take`; and one for each source, with the SHA-256 of its bytes, `source 9f86.. name.c`."""
+name.c:7 the index into name (32 bytes)`, by the same numbers; one for each word that says the line of an exit word,
+`end 00040010 1 0 123 name.c:7`: its address, the kind of the test, and the test's place; one for each word that another
+function begins at, `function 00040010 take`; and one for each source, with the SHA-256 of its bytes, `source 9f86..
+name.c`."""
 import bisect
 import collections
 import hashlib
@@ -15,11 +17,20 @@ from loaded import CODE, Fault, bytes_of
 HEAD = re.compile(r"map of image ([0-9a-f]{64})")
 WORD = re.compile(r"([0-9A-F]{8}) (\d+) (\d+) (.+):(\d+)")
 TEST = re.compile(r"test (\d+) (\d+) (.+?):(\d+) (.*)")
+END = re.compile(r"end ([0-9A-F]{8}) (\d+) (\d+) (\d+) (.+):(\d+)")
 FUNCTION = re.compile(r"function ([0-9A-F]{8}) (\S+)")
 SOURCE = re.compile(r"source ([0-9a-f]{64}) (.+)")
 
 Origin = collections.namedtuple("Origin", "assembly row")  # the number of a file of assembly, and a line of it
 Place = collections.namedtuple("Place", "path line")
+# The greatest line that an exit word has; of further lines it has this one.
+MOST_LINE = 0xFFFF
+# The upper halves of exit words that tests have.
+KINDS_OF_ENDS = (1, 2, 3, 4, 5, 9)
+# The last of those whose tests are noted.
+NOTED = 3
+# The path of a file that isn't known.
+UNKNOWN = "?"
 # The kinds of tests by what they look at; all others look at an index.
 KINDS = {"the address": 2, "the divisor": 3}
 
@@ -33,11 +44,21 @@ class Test(collections.namedtuple("Test", "origin place subject")):
         return KINDS.get(self.subject, 1)
 
 
+class End(collections.namedtuple("End", "kind origin place")):
+    """What a word says that tells the line of an exit word: the upper half of that, and where the test stands."""
+
+    @property
+    def word(self):
+        """The exit word, which has the greatest line where none is known."""
+        return self.kind << 16 | min(self.place.line or MOST_LINE, MOST_LINE)
+
+
 class Map:
     """What a map tells."""
 
     def __init__(self):
         self.words, self.tests = {}, []  # address to (origin, place); tests
+        self.ends = {}  # address to End
         self.functions, self.sources = {}, {}  # address to the name of the function from there on; path to sum
 
     def add(self, address, origin, place):
@@ -49,18 +70,20 @@ class Map:
         found = self.words.get(address)
         return found and found[1]
 
-    def test_at(self, address):
-        """The test that a word belongs to; None where it belongs to none."""
-        found = self.words.get(address)
-        return next((it for it in self.tests if found and it.origin == found[0]), None)
+    def ends_of(self, word):
+        """What the words that tell an exit word say."""
+        return [it for it in self.ends.values() if it.word == word]
 
-    def tests_in(self, line, kind):
-        """The tests of a kind, as exit words have it, in a line of any file."""
-        return [it for it in self.tests if it.place.line == line and it.kind == kind]
+    def subjects_of(self, end):
+        """What the tests look at that an end may be of."""
+        return {it.subject for it in self.tests if (it.kind, it.origin, it.place) == end}
 
-    def note(self, function, source):
-        """Takes in what a line tells of a function or of a source, as it was matched."""
-        if function:
+    def note(self, end, function, source):
+        """Takes in what a line tells of an end, of a function or of a source, as it was matched."""
+        if end:
+            origin, place = Origin(int(end[3]), int(end[4])), Place(end[5], int(end[6]))
+            self.ends[int(end[1], 16)] = End(int(end[2]), origin, place)
+        elif function:
             self.functions[int(function[1], 16)] = function[2]
         elif source:
             self.sources[source[2]] = source[1]
@@ -88,6 +111,8 @@ class Map:
         for test in self.tests:
             (number, row), (path, line) = test.origin, test.place
             lines.append(f"test {number} {row} {path}:{line} {test.subject}")
+        for address, (kind, (number, row), (path, line)) in sorted(self.ends.items()):
+            lines.append(f"end {address:08X} {kind} {number} {row} {path}:{line}")
         lines += (f"function {address:08X} {name}" for address, name in sorted(self.functions.items()))
         lines += (f"source {it} {path}" for path, it in sorted(self.sources.items()))
         return "\n".join(lines) + "\n"
@@ -109,7 +134,7 @@ def read(path, image):
             origin, place = Origin(int(test[1]), int(test[2])), Place(test[3], int(test[4]))
             found.tests.append(Test(origin, place, test[5]))
         else:
-            found.note(FUNCTION.fullmatch(line), SOURCE.fullmatch(line))
+            found.note(END.fullmatch(line), FUNCTION.fullmatch(line), SOURCE.fullmatch(line))
     return found
 
 
@@ -131,14 +156,17 @@ class Fitted:
 
     def __init__(self, text):
         self.rows = []  # of each word where it comes from, None where that isn't told, and its text
+        self.blocks = set()  # numbers of words that a block begins at
         self.functions, self.objects = {}, []  # address to name; address, name, bytes
         address, size = CODE, 0
         for row in text.splitlines():
             found = self.OBJECT.match(row)
             if found:
                 self.objects.append([int(found[2], 16), found[1], 0])
-            elif row.startswith(".function"):
-                self.functions[address] = row.split()[1].split(",")[0]
+            elif row.startswith((".function", ".block")):
+                self.blocks.add(len(self.rows))
+                if row.startswith(".function"):
+                    self.functions[address] = row.split()[1].split(",")[0]
             elif row.startswith(("    .byte", "    .skip")) and self.objects:
                 size = row.count(",") + 1 if ".byte" in row else int(row.split()[1])
                 self.objects[-1][2] += size

@@ -5,14 +5,16 @@
 Code and exit words stay what they are, since of a line they have its number alone; but divisions that have one line
 share a file, since their tests share an end."""
 import bisect
+import os
 import re
 import sys
 
+from exits import NO_FUNCTION, Exits
 from loaded import CODE, TOP
-from maps import Fitted, Map, Origin, Place, Test
+from maps import MOST_LINE, NOTED, UNKNOWN, End, Fitted, Map, Origin, Place, Test
 
 sys.path.insert(0, f"{TOP}/tools/cc")
-from assembly import FILE, LABEL, PLACE, Assembly, plain
+from assembly import FILE, LABEL, NO_LINE, PLACE, Assembly, plain, plain_objects
 
 INSTRUCTION = re.compile(r"\s+([a-z]\w*)")
 DIVISION = re.compile(r"[us]div")
@@ -20,6 +22,10 @@ BRANCH = re.compile(r"b(?!tst|set|clr|tog)|call\b")
 JUMP = re.compile(r"\s+ba?(?:,a)?\s+(\.L\w+)\s*$")
 CALL = re.compile(r"\s*call\s+([\w.$]+)")
 REGISTER = re.compile(r"%(?!hi|lo)\w+")
+# A line that ./fit is told where the compiler tells none.
+TOLD = re.compile(rf"^(\s*\.loc\s+\d+\s+){NO_LINE}\b")
+# A call through a pointer, and what leaves a constant in %o0.
+THROUGH, CONSTANT = re.compile(r"\s*(?:call|jmpl)\s+%"), re.compile(r"\s*(?:sethi|set|mov|or)\b.*%o0\s*$")
 # Conditions of branches that have two names, and those of the other ways.
 CONDITIONS = {"b": "ba", "bz": "be", "bnz": "bne", "bgeu": "bcc", "blu": "bcs"}
 OPPOSITES = {"be": "bne", "bg": "ble", "bge": "bl", "bgu": "bleu", "bcc": "bcs", "bpos": "bneg", "bvc": "bvs"}
@@ -40,10 +46,10 @@ def instruction(line):
 
 
 class Marked:
-    """A file of assembly, whose instructions are marked by their rows."""
+    """A file of assembly, whose instructions are marked by their rows, in a folder for work."""
 
-    def __init__(self, number, path, text):
-        self.number, self.path, self.lines = number, path, text.splitlines()
+    def __init__(self, number, path, text, folder):
+        self.number, self.path, self.lines, self.folder = number, path, text.splitlines(), folder
         self.told = [(row if instruction(line) else None, line) for row, line in enumerate(self.lines, 1)]
         self.assembly = Assembly(text)
         self.has_lines = ROWS.search(text) is not None
@@ -91,16 +97,17 @@ class Marked:
         for row, line in enumerate(self.lines, 1):
             file, told, label = FILE.match(line), PLACE.match(line), LABEL.match(line)
             if file:
-                files[file[1]] = (file[3] or file[2]).rpartition("/")[2]
+                files[file[1]] = os.path.realpath(os.path.join(self.folder, file[2], file[3] or ""))
             elif told and told[1] in files and int(told[2]) > 0:
                 place = files[told[1]], int(told[2])
             elif label and not line.startswith(".L"):
                 place, divisions = None, {}
             name = instruction(line)
             if name:
-                path, number = place or (self.path.rpartition("/")[2], row)
+                path, number = place or (self.path, row)
                 mark = divisions.setdefault((path, number), row) if DIVISION.match(name) else row
-                out += [f'\t.file {FIRST + row} "{path}#{self.number}.{mark}"', f"\t.loc {FIRST + row} {number} 0"]
+                out += [f'\t.file {FIRST + row} "{path.rpartition("/")[2]}#{self.number}.{mark}"',
+                        f"\t.loc {FIRST + row} {number} 0"]
             out.append(line)
         return "\n".join(out) + "\n"
 
@@ -116,7 +123,7 @@ class Marked:
         """The text for an assembler, in which each instruction has a label that tells its row."""
         out = []
         for row, line in self.told:
-            out += [f".Lrow{self.number}.{row}:", line] if row else [line]
+            out += [f".Lrow{self.number}.{row}:", line] if row else [TOLD.sub(r"\g<1>0", line)]
         return "\n".join(out) + "\n"
 
 
@@ -132,7 +139,7 @@ class Origins:
         self.files, self.marked = [], []
         for number, path in enumerate(paths):
             with open(path, encoding="utf-8", errors="surrogateescape") as file:
-                self.files.append(Marked(number, path, file.read()))
+                self.files.append(Marked(number, path, file.read(), folder))
             self.marked.append(f"{folder}/{number}-{path.rpartition('/')[2]}" if self.files[-1].has_lines else path)
             if self.files[-1].has_lines:
                 with open(self.marked[-1], "w", encoding="utf-8", errors="surrogateescape") as file:
@@ -151,13 +158,23 @@ class Origins:
         found = origin and self.files[origin.assembly].assembly.place(origin.row)
         return Place(shown(found[0]), found[1]) if found else Place(bare(name), line)
 
+    def told(self, text, shown):
+        """What ./fit told, without marks: the notes with the paths of their files."""
+        def with_path(found):
+            place = self.place(self.origin(found[1], int(found[2])), found[1], int(found[2]), shown)
+            return f"{place.path}:{place.line}: note: {found[3]}"
+        return bare(NOTE.sub(with_path, text))
+
     def map_of(self, source, notes, shown):
         """The map of the image of a source that ./fit made of the marked files, with the notes that it told."""
         mapped, fitted, last, behind, before = Map(), Fitted(source), None, None, ""
+        exits, ends = Exits(fitted.rows), {}
         for number, (comment, text) in enumerate(fitted.rows):
             if comment:
                 last = self.origin(*comment), comment
             origin = last and last[0]
+            if last and (word := exits.word(number)):
+                ends[CODE + 4 * number] = word, origin, self.place(origin, *last[1], shown)
             call = None if comment else CALL.match(text)
             if call and origin:
                 origin = self.call_origin(call[1], origin, fitted.rows[number + 2:number + 3])
@@ -167,14 +184,39 @@ class Origins:
             behind = origin if instruction(text) and BRANCH.match(instruction(text)) else None
             if origin:
                 mapped.add(CODE + 4 * number, origin, self.place(origin, *last[1], shown))
-        for name, line, why in NOTE.findall(notes):
-            origin, (subject, is_test, _) = self.origin(name, int(line)), why.partition(" may be ")
-            if origin and is_test:
-                mapped.tests.append(Test(origin, self.place(origin, name, int(line), shown), subject))
+        self.add_tests(mapped, notes, shown)
+        mapped.ends = {address: end for address, it in ends.items() if (end := self.end_of(mapped, *it))}
         own = {address: plain(name) for address, name in fitted.functions.items()}
         mapped.add_functions(own, lambda it: plain(self.files[it.assembly].function(it.row) or ""))
         mapped.add_sources()
         return mapped
+
+    def add_tests(self, mapped, notes, shown):
+        """Adds the tests that notes tell of."""
+        for name, line, why in NOTE.findall(notes):
+            origin, (subject, is_test, _) = self.origin(name, int(line)), why.partition(" may be ")
+            if origin and is_test:
+                place = self.place(origin, name, int(line), shown)
+                mapped.tests.append(Test(origin, place, plain_objects(subject)))
+
+    def end_of(self, mapped, word, origin, place):
+        """What a word says that tells an exit word, by the line that ./fit tells of it: of a test that was noted, of a
+        call through a pointer, or of what the meter and the stack have. Of another line the file isn't known. None
+        where the program itself has the exit word."""
+        end, text = End(word >> 16, origin, place), self.row(origin)
+        is_there, is_own = True, CONSTANT.match(text) is not None
+        if end.kind == NO_FUNCTION:
+            is_there = THROUGH.match(text) is not None
+            is_own = not is_there and place.line != word & MOST_LINE
+        elif end.kind <= NOTED:
+            is_there = len(mapped.subjects_of(end)) > 0
+        if is_own:
+            return None
+        return end if is_there and end.word == word else End(end.kind, origin, Place(UNKNOWN, word & MOST_LINE))
+
+    def row(self, origin):
+        """The line of assembly of an origin."""
+        return self.files[origin.assembly].lines[origin.row - 1] if origin else ""
 
     def call_origin(self, name, origin, following):
         """The origin of a call of a function, behind a word with an origin, and before one that may have a comment."""

@@ -63,7 +63,8 @@ class Session:
         places = [last]
         while len(places) < self.ending.behind and (before := self.last_own(places[-1] - 1, search)) is not None:
             places.append(before)
-        return places[self.ending.failing([self.tape.turn(it).pc for it in places])]
+        turns = map(self.tape.turn, places)
+        return places[self.ending.look([(it.pc, it.word) for it in turns])]
 
     def is_behind(self, place):
         """Whether a place stands behind the one where the end is told."""
@@ -189,7 +190,7 @@ class Session:
         """The signal and the words of the run's end."""
         ending, total = self.ending, self.tape.total
         if ending.word is not None:
-            told = ending.sentence(self) or f"exit word {ending.word:08X}"
+            told = ending.told() or f"exit word {ending.word:08X}"
             return ending.signal, f"\n[{told}, after {total} turns]\n"
         if ending.trap is not None:
             told = f"trap {ending.trap:02X}, which no handler serves"

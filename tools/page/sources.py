@@ -1,4 +1,5 @@
 """The lines of a page's data that tell names of a source, and the lines of C that words come from."""
+import itertools
 import os
 import re
 import sys
@@ -39,13 +40,16 @@ def c_lines(mapped, folder):
         last = place
 
 
-def end_lines(turns, mapped):
-    """Yields a line that tells which test turns ended in, where they ended in one."""
+def end_lines(turns, mapped, words):
+    """Yields a line that tells which test turns ended in, where they ended in one; `words` has those of the code by
+    their addresses."""
     end = turns[-1].end if turns else None
     ending = Ending(int(end[5:], 16) if end and end.startswith("exit ") else None, mapped)
     if ending.is_test:
-        places = [it.pc for it in reversed(turns) if it.user and it.fetched][:ending.behind]
-        yield f"z{hexadecimal(ending.told(places[ending.failing(places)]))}"
+        own = (it.pc for it in reversed(turns) if it.user and it.fetched)
+        ending.look([(pc, words.get(pc)) for pc in itertools.islice(own, ending.behind)])
+        if told := ending.told():
+            yield f"z{hexadecimal(told)}"
 
 
 def lines_of(path, mapped, folder):
