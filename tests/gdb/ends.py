@@ -46,6 +46,7 @@ def ends(work):
         wanted = f"{place}: {why}", f"line {line_of(text)}: "
         by_program(work, "host", ["--max-turns", "1000000000000", image], given, wanted)
         by_program(work, "native", [image], given, wanted)
+    deep(work)
     against = put(work.at("against.in"), "i9")
     told = run([CC, KINDS, "--turns", "100000", "--against", against]).said
     tally.check("cc --against", f"here {KINDS}:{line_of(ENDS['i9'][0])}: the index into name" in told, told[-300:])
@@ -55,6 +56,28 @@ def ends(work):
     tally.check("cc --run of an exit word", "the exit word is 120 (00000078)" in told, told[-200:])
     told = run([INSPECT, "run", image], b"x0").said
     tally.check("inspect run of an exit word", "00000078\nturns" in told, told[:200])
+
+
+def deep(work):
+    """A function that calls itself too often, and leaves a constant in %o0 first: its end is no exit word of the
+    program's own."""
+    image, path = work.at("calc.img"), f"{HERE}/programs/calc.c"
+    made = run([CC, "-Og", path, "--debug", "-o", image])
+    work.tally.check("calc.c is made", made.status == 0, made.said)
+    words = [INSPECT, "run", "--limit", "1000000", "--map", map_of(image), image]
+    told, wanted = run(words, bytes_of(f"{HERE}/programs/calc.in")).err.decode(), "calc.c:27: calls go too deep"
+    work.tally.check("inspect run --map on calc.c", wanted in told, told)
+    if has(GDB):
+        with on_run(image, f"{HERE}/programs/calc.in") as gdb:
+            told = gdb.told("break variable") + gdb.told("continue") + gdb.told("continue") + gdb.told("continue")
+            told = gdb.told("backtrace 20")
+            callers = re.findall(r"^#\d+ .*?(\w+) \(", told, re.M)
+            work.tally.same("callers in calc.c", callers, ["variable", "factor", "product", "sum", "main"])
+            told = gdb.told("delete") + gdb.told("continue") + gdb.told("backtrace 2")
+            work.tally.check("gdb on calc.c", wanted in told and "power (a=2, " in told, told)
+            # (the first call goes through a pointer)
+            told = gdb.told("backtrace -2")
+            work.tally.check("the callers end", re.match(r"#1\d\d .*power.*\n#1\d\d 0x00000000 in", told), told)
 
 
 def map_of(image):
@@ -97,8 +120,36 @@ def by_page(work, image, given, wanted):
     work.tally.check(f"inspect page --map on {given}", wanted in told, f"wanted {wanted}, came {told}")
 
 
+def lines_of_ends(work, name, path):
+    """The words that say exit words are of lines that are there, as the exit words have it; by gcc all lines are
+    known."""
+    ends = re.findall(r"^end [0-9A-F]{8} ([0-9A-F]{8}) \d+ \d+ (.+):(\d+)$", text_of(path), re.M)
+    counts = {it: len(text_of(it).splitlines()) for it in {it[1] for it in ends} - {"?"}}
+    wrong = [it for it in ends if it[1] != "?" and not 0 < int(it[2]) <= counts[it[1]]]
+    wrong += [it for it in ends if int(it[0][4:], 16) not in (int(it[2]), 0xFFFF)]
+    wrong += [it for it in ends if it[1] == "?" and "clang" not in name]
+    work.tally.check(f"{name}: lines of ends", ends and not wrong, str(wrong[:3]))
+
+
+def same_images(work):
+    """The suite's own programs at other levels, and by clang: the image with a map is the one without. calc.c has loops
+    that its functions begin with, and divisions that clang makes copies of."""
+    for compiler, level in (("sparc64-linux-gnu-gcc", "-Og"), ("sparc64-linux-gnu-gcc", "-O3"), ("clang", "-O1")):
+        if not has(compiler):
+            work.tally.skip(f"images by {compiler}", f"Debian's package {compiler}")
+            continue
+        for path in sorted(glob.glob(f"{HERE}/programs/*.c")):
+            env, outs = {**os.environ, "CC_SPARC": compiler}, (work.at("plain.img"), work.at("mapped.img"))
+            made = [run([CC, level, path, *more, "-o", out], env=env) for out, more in zip(outs, ((), ("--map",)))]
+            name = f"{os.path.basename(path)} by {compiler} {level}"
+            if work.tally.check(f"{name} is made", all(it.status == 0 for it in made), made[-1].said):
+                work.tally.same(f"{name} with --map", *map(bytes_of, reversed(outs)))
+                lines_of_ends(work, name, work.at("mapped.map"))
+
+
 def images(work):
     """Looks whether what is asked for beside an image leaves its bytes as they are, and each word has an origin."""
+    same_images(work)
     sources = sorted(glob.glob(f"{EXAMPLES}/c/*.c")) + sorted(glob.glob(f"{HERE}/programs/*.c"))
     for path in sources:
         name = os.path.basename(path)
@@ -114,6 +165,7 @@ def images(work):
         notes = sorted(it.partition(": note: ")[0] for it in said if ": note: " in it and "main is" not in it)
         told = re.findall(r"^test \d+ \d+ (.*?:\d+) ", text_of(work.at("mapped.map")), re.M)
         work.tally.same(f"{name}: tests in the map", sorted(told), notes)
+        lines_of_ends(work, name, work.at("mapped.map"))
         if has("sparc64-linux-gnu-readelf"):
             shown = "--debug-dump=info,line,loc,Ranges,frames"
             told = run(["sparc64-linux-gnu-readelf", shown, work.at("debugged.elf")]).err.decode()

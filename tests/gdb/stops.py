@@ -35,7 +35,8 @@ def asked(work, gdb, name, command, *wanted):
     """Looks whether what a command tells has some texts."""
     told = gdb.told(command)
     for it in wanted:
-        work.tally.check(f"{name}: {command}", re.search(it, told, re.M) is not None, f"wanted {it}, came {told} {gdb.stop}")
+        is_there = re.search(it, told, re.M) is not None
+        work.tally.check(f"{name}: {command}", is_there, f"wanted {it}, came {told} {gdb.stop}")
     return told
 
 

@@ -20,7 +20,7 @@ ENDS = {
 # By which compilers and levels they are told. By clang's -O2 both files share code, whose lines it doesn't tell.
 WAYS = (("sparc64-linux-gnu-gcc", "-O2"), ("sparc64-linux-gnu-gcc", "-Og"), ("sparc64-linux-gnu-gcc", "-O0"),
         ("sparc64-linux-gnu-gcc", "-Os"), ("clang", "-Os"), ("clang", "-O2"))
-UNTOLD = "a line that the compiler doesn't tell"
+UNTOLD = "that isn't known"
 
 
 def twins(work):

@@ -56,10 +56,8 @@ __main_name:
 """
 
 
-# ./fit goes on with the line before where a compiler tells that it doesn't know one, so it gets the greatest line that
-# an exit word has in the place of 0.
+# The line of what no line is known of: the greatest one that an exit word has.
 NO_LINE = 0xFFFF
-UNTOLD = re.compile(r"^(\s*\.loc\s+\d+\s+)0\b", re.M)
 
 
 class Assembly:
@@ -78,7 +76,7 @@ class Assembly:
             if file:
                 self.files[file[1]] = os.path.join("", *filter(None, file.groups()[1:]))
             elif loc:
-                place = (loc[1], 0 if int(loc[2]) == NO_LINE else int(loc[2]))
+                place = (loc[1], int(loc[2]))
             elif label and not line.startswith(".L"):
                 function, place = plain(label[1]), None
             self.places[number], self.functions[number] = place, function
@@ -104,13 +102,8 @@ def plain(name):
     return "main" if name == INNER else name
 
 
-def with_untold_lines(text):
-    """Has ./fit know where a compiler doesn't tell the line."""
-    return UNTOLD.sub(rf"\g<1>{NO_LINE}", text)
-
-
 def where(path, line):
-    """A file and a line as they are told."""
+    """A file and a line as they are told, where the line is known."""
     return f"{path}:{line}" if int(line or 0) not in (0, NO_LINE) else path
 
 

@@ -7,7 +7,7 @@ import subprocess
 import sys
 import tempfile
 
-from assembly import LAST, Assembly, started, where, with_untold_lines, without_traps
+from assembly import LAST, Assembly, started, where, without_traps
 from compilers import TOP, compiler_of, limited
 from fault import Fault
 from request import ending_of, request_of
@@ -15,7 +15,7 @@ from runtime import Runtime
 from telling import Teller, demangled
 
 sys.path.insert(0, f"{TOP}/tools/debug")
-from origins import Origins, bare
+from origins import Files, Origins
 
 # So many seconds of processor ./fit may take.
 SECONDS = 300
@@ -82,14 +82,14 @@ class Build:
         if last:
             raise Fault(2, f"{self.request.name}: refused: {last[1]}: an __attribute__((destructor)) isn't taken: tell "
                         "atexit of the function")
-        text = with_untold_lines(started(text, self.has_parameters))
+        text = started(text, self.has_parameters)
         self.assembly = Assembly(text)
-        traps = without_traps(self.assembly)
+        helpers = runtime.helpers()
+        self.teller = Teller(self.request, Assembly(text), helpers, self.work)
+        say(*(self.trap(it) for it in without_traps(self.assembly)), self.has_parameters)
         with open(path, "w", encoding="utf-8", errors="surrogateescape") as file:
             file.write(self.assembly.text())
-        helpers = runtime.helpers()
-        self.teller = Teller(self.request, self.assembly, helpers, self.work)
-        say(*(self.trap(it) for it in traps), self.has_parameters)
+        self.teller.assembly = Assembly(self.assembly.text())
         written = [it for it in self.request.files if ending_of(it) == ".s"]
         return [*written, path, *helpers]
 
@@ -115,16 +115,14 @@ class Build:
         """Compiles and fits; returns how ./fit ended."""
         self.made = self.assembled()
         is_traced = self.request.is_traced or self.teller.has_namesakes
-        self.origins = Origins(self.made, self.work) if is_traced else None
-        given = self.origins.marked if self.origins else self.made
-        words = [f"{TOP}/fit", *given, "-o", self.source, *self.request.fitting]
+        self.origins = (Origins if is_traced else Files)(self.made, self.work)
+        words = [f"{TOP}/fit", *self.origins.given, "-o", self.source, *self.request.fitting]
         ran, is_long = limited(words, SECONDS)
         if is_long:
             raise Fault(2, f"{self.request.name}: ./fit took more than {SECONDS} seconds of processor: compile by -Os, "
                         "or write __attribute__((noinline)) before the greatest functions")
         self.ran = ran
-        if self.origins:
-            self.unmark()
+        self.unmark()
         return ran
 
     def unmark(self):
@@ -135,7 +133,7 @@ class Build:
                 source = file.read()
             self.mapped = self.origins.map_of(source, notes, self.teller.shown)
             with open(self.source, "w", encoding="utf-8", errors="surrogateescape") as file:
-                file.write(bare(source))
+                file.write(self.origins.bare(source))
 
     def keep(self):
         """Leaves what was made where --keep says."""

@@ -6,21 +6,12 @@ import os
 import subprocess
 import tempfile
 
-from assembly import NO_LINE, with_untold_lines
 from compilers import HEADERS, PLUS, TOP
 from fault import Fault
 from kept import settle
 
 # (gcc keeps what has a builtin's name, called or not, where it takes it for one)
 WORDS = ["-w", "-fno-builtin"]
-
-
-def tell_untold(path):
-    """Has ./fit know where an assembly of a compiler's doesn't tell the line."""
-    with open(path, "r+", encoding="utf-8", errors="surrogateescape") as file:
-        text = with_untold_lines(file.read())
-        file.seek(0)
-        file.write(text)
 
 
 class Runtime:
@@ -30,7 +21,7 @@ class Runtime:
         self.compiler, self.request, self.work = compiler, compiler.request, work
         version = subprocess.run([compiler.path, "--version"], stdout=subprocess.PIPE, check=False).stdout
         settings = (version, compiler.target, compiler.kind, compiler.size_level, compiler.library_flags, HEADERS,
-                    PLUS, WORDS, self.request.arena, self.request.is_plus, NO_LINE)
+                    PLUS, WORDS, self.request.arena, self.request.is_plus)
         digest = hashlib.sha256(repr(settings).encode())
         for path in sorted(glob.glob(f"{TOP}/runtime/**/*", recursive=True)):
             if os.path.isfile(path):
@@ -58,8 +49,6 @@ class Runtime:
             if ran.returncode:
                 os.unlink(draft)
                 raise Fault(125, f"{self.request.name}: {source} can't be compiled: {ran.stderr}")
-            if ending == ".s":
-                tell_untold(draft)
             settle(draft, path)
         return path
 

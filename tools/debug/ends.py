@@ -6,7 +6,7 @@ import subprocess
 import tempfile
 
 from effects import bit, written
-from exits import NO_FUNCTION, RESULT, failing, telling
+from exits import CALLED, NO_FUNCTION, TOLD, failing, telling
 from loaded import TOP, Fault, tool
 from maps import MOST_LINE, UNKNOWN
 from tape import Turn
@@ -29,6 +29,8 @@ ABORT, TRAP = 6, 5
 # pointer, whose functions are looked through one after the other.
 BEHIND_TEST, BEHIND_CALL = 8, 4000
 INDEX = 1
+# So many places are named at the most where a test may be in one of them.
+FEW_PLACES = 3
 # The most turns of a run on 8 windows whose last ones are looked at where it ends in a test: where one place alone may
 # have said the exit word, and where several may; and so many of them.
 WINDOWS, MOST_TURNS, FEW, MANY, LAST = 8, 9_999_999_999, 1_000_000, 20_000_000, 50_000
@@ -83,10 +85,12 @@ class Ending:
         the word that said the exit word; returns which of them is that of the test that failed."""
         number = telling(places)
         if number is None:
-            return branch_to_end([address for address, _ in places])
+            self.is_own = self.mapped is not None
+            return 0
         self.teller, word = places[number]
-        self.is_own = (self.mapped is not None and self.teller not in self.mapped.ends
-                       and written(word) == bit(RESULT))
+        # (%g5 and %g6 are ./fit's alone)
+        is_told = self.mapped is None or self.teller in self.mapped.ends
+        self.is_own = not (is_told or written(word) & (bit(TOLD) | bit(CALLED)))
         return 0 if self.is_own else failing(places, number)
 
     def ends(self):
@@ -110,8 +114,11 @@ class Ending:
     def where(self):
         """The line of the test by file and number, or by all files that it may be of; else by its number alone."""
         places = sorted({it.place for it in self.ends()})
-        if not places or any(it.path == UNKNOWN or not it.line for it in places):
-            return f"line {self.line}" if 0 < self.line < MOST_LINE else "a line that the compiler doesn't tell"
+        if not places or len(places) > FEW_PLACES or any(it.path == UNKNOWN for it in places):
+            if 0 < self.line < MOST_LINE:
+                return f"line {self.line}"
+            name = self.mapped and self.teller is not None and self.mapped.function_at(self.teller)
+            return f"a line of {name} that isn't known" if name else "a line that isn't known"
         return " or ".join(f"{it.path}:{it.line}" for it in places)
 
     def why(self):
@@ -126,15 +133,6 @@ class Ending:
         return f"{self.where()}: {self.why()} (exit word {self.word:08X})"
 
 
-def branch_to_end(places):
-    """Which of the last places of a run, from the last one on backwards, is the branch that led to its end behind a
-    test that failed; the last one where that isn't near. `places` are their addresses."""
-    for number, (pc, before) in enumerate(zip(places, places[1:])):
-        if pc != before + 4:
-            return min(number + 2, len(places) - 1)  # (its slot stands behind it)
-    return 0
-
-
 def end_of(path, given, windows, limit):
     """What `inspect run --json` tells of a run on an open input."""
     return tool("inspect", "run", "--json", "--windows", str(windows), "--limit", str(limit), path, given=given)
@@ -144,8 +142,9 @@ def told_of(word, place=None):
     """An exit word in words, of a test in a line of C that is named or else by its number; None of another word."""
     if word == ABORTED:
         return f"abort was called, or a test of the library's failed (exit word {word:08X})"
-    kind = KINDS.get(word >> 16)
-    return kind and f"{place or f'line {word & 0xFFFF}'}: {kind.words} (exit word {word:08X})"
+    kind, line = KINDS.get(word >> 16), word & MOST_LINE
+    place = place or (f"line {line}" if line < MOST_LINE else "a line that isn't known")
+    return kind and f"{place}: {kind.words} (exit word {word:08X})"
 
 
 def look_at_end(path, given, ending):

@@ -12,8 +12,9 @@ from maps import KINDS_OF_ENDS as KINDS
 NUMBER = re.compile(r"\s+(?:sethi (?P<high>\d+)|or %g0,(?P<low>\d+)),%(?P<register>g5|g6|o0)\s*$")
 REST = re.compile(r"\s+or %(\w\d),(\d+),%\1\s*$")
 END, END_BY_CALL = re.compile(r"\s+ta 0\s*$"), re.compile(r"\s+or %o0,%g6,%o0\s*$")
-# The kind of a call through what is no function's; the registers of its line, %g6, and of the exit word, %o0.
-NO_FUNCTION, CALLED, RESULT = 9, 6, 8
+# The kind of a call through what is no function's; the registers of the exit word that tests share, %g5, of the line of
+# such a call, %g6, and of a run's exit word, %o0.
+NO_FUNCTION, TOLD, CALLED, RESULT = 9, 5, 6, 8
 OR, SHIFT = 0x02, 0x26
 # How far behind a word the one may be that has the rest of its number, by register.
 NEAR = {"o0": 1, "g6": 16}

@@ -9,13 +9,14 @@ import re
 import struct
 
 from dwarf import frame_address, sleb, uleb
+from effects import has_slot
 from loaded import CODE
 from maps import Origin
 from origins import CALL
 
 # Registers by fit's own use (crates/fit_joins): the number of a place is made in %g7, addresses in %g6.
 NUMBER, BASE = 7, 6
-ADD, SUB, OR, STORE, SETHI = 0x00, 0x04, 0x02, 0x04, 4
+ADD, SUB, OR, COMPARE, STORE, SETHI = 0x00, 0x04, 0x02, 0x14, 0x04, 4
 RETURNS, FIRST = 15, 16
 # gdb's own numbers, by which it unwinds: of %o7, by which functions of the image return, it would want a register.
 PC, NPC = 68, 69
@@ -41,6 +42,7 @@ class Part:
         # The register that points to its frame on the stack of functions, the word that takes the frame, what stands
         # around its body, and the words around that one word.
         self.pointer, self.frame, self.taken, self.head, self.entry = None, 0, None, None, (0, 0)
+        self.given = None  # the numbers of the words where the frame is given back
 
 
 class Joined:
@@ -202,8 +204,8 @@ class Joined:
         """The operations that leave the number of the place that a part was called from; None where that isn't
         known."""
         places = {it.at for it in part.sites}
-        if len(part.sites) == 1:
-            return b""
+        if len(part.sites) == 1 and part.sites[0].number is None:
+            return b""  # (the one call leaves no number; where one does there are others, as through a pointer)
         if len(places) != 1 or None in places or any(it.number is None for it in part.sites):
             return None
         (register, offset), = places
@@ -291,12 +293,38 @@ class Joined:
     def stage(self, number, part):
         """Where a word stands in a part: 0 before its frame is taken, 1 in its body, 2 behind that, where its number
         is read."""
-        if part is None or part.pointer is None or self.origins[number] != part.head:
+        if part is None or part.pointer is None:
             return 1
-        address, (first, last) = CODE + 4 * number, part.entry
-        if not first <= address < last:
-            return 2
-        return 0 if address <= part.taken else 1
+        if self.is_entry(number, part):
+            return 0 if CODE + 4 * number <= part.taken else 1
+        if part.given is None:
+            part.given = self.given(part)
+        return 2 if number in part.given else 1
+
+    def is_entry(self, number, part):
+        """Whether a word stands around the one that takes a part's frame."""
+        first, last = part.entry
+        return self.origins[number] == part.head and first <= CODE + 4 * number < last
+
+    def given(self, part):
+        """The words where a part's frame is given back, or has been: from the sum on that gives it, and those that look
+        for the place to go back to by its number; with their slots. Others of the head's line are the body's, as those
+        behind a call that the body begins with."""
+        out, is_given = set(), False
+        for number in ((it - CODE) // 4 for it in part.words):
+            if self.origins[number] != part.head or self.is_entry(number, part):
+                is_given = False
+                if number - 1 in out and has_slot(self.loaded.words[number - 1]):
+                    out.add(number)
+                continue
+            word = self.loaded.words[number]
+            op3, rd, rs1, immediate = fields(word)
+            gives = op3 == ADD and rd == rs1 == part.pointer and immediate == part.frame
+            looks = op3 == COMPARE and rd == 0 and rs1 == BASE
+            is_given = word >> 30 == 2 and (gives or looks) or is_given and self.origins[number - 1] == part.head
+            if is_given:
+                out.add(number)
+        return out
 
     def rules_at(self, part, stage):
         """The rules of a part at a stage, reckoned once."""

@@ -3,10 +3,10 @@ code comes from, and the tests that ./fit added.
 
 A map is a text. Its first line has the SHA-256 of the image; then a line for each word, `00040010 0 123 name.c:7`:
 its address, the number of a file of assembly, a line of that, and the line of C; one for each test, `test 0 123
-name.c:7 the index into name (32 bytes)`, by the same numbers; one for each word that says the line of an exit word,
-`end 00040010 1 0 123 name.c:7`: its address, the kind of the test, and the test's place; one for each word that another
-function begins at, `function 00040010 take`; and one for each source, with the SHA-256 of its bytes, `source 9f86..
-name.c`."""
+name.c:7 the index into name (32 bytes)`, by the same numbers; one for each word that says an exit word, or the line in
+it, `end 00040010 00010007 0 123 name.c:7`: its address, the exit word, and the test's place; one for each word that
+another function begins at, `function 00040010 take`; and one for each source, with the SHA-256 of its bytes,
+`source 9f86.. name.c`."""
 import bisect
 import collections
 import hashlib
@@ -17,13 +17,13 @@ from loaded import CODE, Fault, bytes_of
 HEAD = re.compile(r"map of image ([0-9a-f]{64})")
 WORD = re.compile(r"([0-9A-F]{8}) (\d+) (\d+) (.+):(\d+)")
 TEST = re.compile(r"test (\d+) (\d+) (.+?):(\d+) (.*)")
-END = re.compile(r"end ([0-9A-F]{8}) (\d+) (\d+) (\d+) (.+):(\d+)")
+END = re.compile(r"end ([0-9A-F]{8}) ([0-9A-F]{8}) (\d+) (\d+) (.+):(\d+)")
 FUNCTION = re.compile(r"function ([0-9A-F]{8}) (\S+)")
 SOURCE = re.compile(r"source ([0-9a-f]{64}) (.+)")
 
 Origin = collections.namedtuple("Origin", "assembly row")  # the number of a file of assembly, and a line of it
 Place = collections.namedtuple("Place", "path line")
-# The greatest line that an exit word has; of further lines it has this one.
+# The greatest line that an exit word has; of further ones it has this one, and of those that the compiler doesn't tell.
 MOST_LINE = 0xFFFF
 # The upper halves of exit words that tests have.
 KINDS_OF_ENDS = (1, 2, 3, 4, 5, 9)
@@ -44,13 +44,13 @@ class Test(collections.namedtuple("Test", "origin place subject")):
         return KINDS.get(self.subject, 1)
 
 
-class End(collections.namedtuple("End", "kind origin place")):
-    """What a word says that tells the line of an exit word: the upper half of that, and where the test stands."""
+class End(collections.namedtuple("End", "word origin place")):
+    """What a word of code tells that says an exit word, or the line in it: the exit word, and where the test stands."""
 
     @property
-    def word(self):
-        """The exit word, which has the greatest line where none is known."""
-        return self.kind << 16 | min(self.place.line or MOST_LINE, MOST_LINE)
+    def kind(self):
+        """The kind of the test."""
+        return self.word >> 16
 
 
 class Map:
@@ -70,19 +70,25 @@ class Map:
         found = self.words.get(address)
         return found and found[1]
 
+    def function_at(self, address):
+        """The name of the function that a word is of; None where none is known."""
+        starts = sorted(self.functions)
+        at = bisect.bisect_right(starts, address)
+        return self.functions[starts[at - 1]] if at else None
+
     def ends_of(self, word):
         """What the words that tell an exit word say."""
         return [it for it in self.ends.values() if it.word == word]
 
     def subjects_of(self, end):
         """What the tests look at that an end may be of."""
-        return {it.subject for it in self.tests if (it.kind, it.origin, it.place) == end}
+        return {it.subject for it in self.tests if (it.kind, *it[:2]) == (end.kind, *end[1:])}
 
     def note(self, end, function, source):
         """Takes in what a line tells of an end, of a function or of a source, as it was matched."""
         if end:
             origin, place = Origin(int(end[3]), int(end[4])), Place(end[5], int(end[6]))
-            self.ends[int(end[1], 16)] = End(int(end[2]), origin, place)
+            self.ends[int(end[1], 16)] = End(int(end[2], 16), origin, place)
         elif function:
             self.functions[int(function[1], 16)] = function[2]
         elif source:
@@ -111,8 +117,8 @@ class Map:
         for test in self.tests:
             (number, row), (path, line) = test.origin, test.place
             lines.append(f"test {number} {row} {path}:{line} {test.subject}")
-        for address, (kind, (number, row), (path, line)) in sorted(self.ends.items()):
-            lines.append(f"end {address:08X} {kind} {number} {row} {path}:{line}")
+        for address, (word, (number, row), (path, line)) in sorted(self.ends.items()):
+            lines.append(f"end {address:08X} {word:08X} {number} {row} {path}:{line}")
         lines += (f"function {address:08X} {name}" for address, name in sorted(self.functions.items()))
         lines += (f"source {it} {path}" for path, it in sorted(self.sources.items()))
         return "\n".join(lines) + "\n"

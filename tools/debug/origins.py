@@ -3,7 +3,10 @@
 ./fit tells of a word the line of C that its instruction had. So each instruction is given a file of its own,
 `name.c#0.123` for row 123 of the assembly with the number 0, in a copy that ./fit reads: then it tells the row, too.
 Code and exit words stay what they are, since of a line they have its number alone; but divisions that have one line
-share a file, since their tests share an end."""
+share a file, since their tests share an end.
+
+Where ./fit knows no line it tells the row; so in each copy so many lines stand before the first one that no exit word
+has a row for a line of C."""
 import bisect
 import os
 import re
@@ -22,10 +25,10 @@ BRANCH = re.compile(r"b(?!tst|set|clr|tog)|call\b")
 JUMP = re.compile(r"\s+ba?(?:,a)?\s+(\.L\w+)\s*$")
 CALL = re.compile(r"\s*call\s+([\w.$]+)")
 REGISTER = re.compile(r"%(?!hi|lo)\w+")
-# A line that ./fit is told where the compiler tells none.
-TOLD = re.compile(rf"^(\s*\.loc\s+\d+\s+){NO_LINE}\b")
-# A call through a pointer, and what leaves a constant in %o0.
-THROUGH, CONSTANT = re.compile(r"\s*(?:call|jmpl)\s+%"), re.compile(r"\s*(?:sethi|set|mov|or)\b.*%o0\s*$")
+# A line that the compiler doesn't know; and so many lines stand before an assembly that has lines of C.
+UNTOLD, PAD = re.compile(r"^(\s*\.loc\s+\d+\s+)0\b", re.M), NO_LINE
+# A call through a pointer, and what leaves the begin of a constant in %o0.
+THROUGH, CONSTANT = re.compile(r"\s*(?:call|jmpl)\s+%"), re.compile(r"\s*(?:sethi\s+%hi\(|set\s+)(\d+)\)?,\s*%o0\s*$")
 # Conditions of branches that have two names, and those of the other ways.
 CONDITIONS = {"b": "ba", "bz": "be", "bnz": "bne", "bgeu": "bcc", "blu": "bcs"}
 OPPOSITES = {"be": "bne", "bg": "ble", "bge": "bl", "bgu": "bleu", "bcc": "bcs", "bpos": "bneg", "bvc": "bvs"}
@@ -46,13 +49,13 @@ def instruction(line):
 
 
 class Marked:
-    """A file of assembly, whose instructions are marked by their rows, in a folder for work."""
+    """A file of assembly, whose instructions are marked by their rows."""
 
-    def __init__(self, number, path, text, folder):
-        self.number, self.path, self.lines, self.folder = number, path, text.splitlines(), folder
+    def __init__(self, number, path, text):
+        self.number, self.path, self.lines = number, path, text.splitlines()
         self.told = [(row if instruction(line) else None, line) for row, line in enumerate(self.lines, 1)]
         self.assembly = Assembly(text)
-        self.has_lines = ROWS.search(text) is not None
+        self.there = {}  # rows by those of the marked text
         self.rows = [row for row, line in enumerate(self.lines, 1) if instruction(line)]
         self.follows = dict(zip(self.rows, self.rows[1:]))
         self.precedes = dict(zip(self.rows[1:], self.rows))
@@ -62,6 +65,10 @@ class Marked:
                 self.labels[line.rstrip()[:-1]] = row
         self.starts = [(row, line.partition(":")[0]) for row, line in enumerate(self.lines, 1)
                        if LABEL.match(line) and not line.startswith(".L")]
+        self.first = {}  # function to the origin of its first instruction
+        for row, name in self.starts:
+            if found := self.from_row(row):
+                self.first.setdefault(name, found)
 
     def function(self, row):
         """The name of the function that a row stands in, as the assembly has it."""
@@ -89,26 +96,31 @@ class Marked:
         calls = (row for row in rows if row and (found := CALL.match(self.lines[row - 1])) and found[1] == name)
         return next(calls, None)
 
+    def from_row(self, row):
+        """The origin of the first instruction from a row on."""
+        at = bisect.bisect_left(self.rows, row)
+        return Origin(self.number, self.rows[at]) if at < len(self.rows) else None
+
     def marked(self):
-        """The text for ./fit. One without lines of C stays as it is: there ./fit tells the row by itself."""
-        if not self.has_lines:
-            return "\n".join(self.lines) + "\n"
+        """The text for ./fit."""
         out, files, place, divisions = [], {}, None, {}
         for row, line in enumerate(self.lines, 1):
             file, told, label = FILE.match(line), PLACE.match(line), LABEL.match(line)
             if file:
-                files[file[1]] = os.path.realpath(os.path.join(self.folder, file[2], file[3] or ""))
-            elif told and told[1] in files and int(told[2]) > 0:
-                place = files[told[1]], int(told[2])
+                files[file[1]] = (file[3] or file[2]).rpartition("/")[2]
+            elif told and told[1] in files:
+                place = told[1], int(told[2]) or NO_LINE
             elif label and not line.startswith(".L"):
-                place, divisions = None, {}
+                place = None
             name = instruction(line)
             if name:
-                path, number = place or (self.path, row)
-                mark = divisions.setdefault((path, number), row) if DIVISION.match(name) else row
-                out += [f'\t.file {FIRST + row} "{path.rpartition("/")[2]}#{self.number}.{mark}"',
-                        f"\t.loc {FIRST + row} {number} 0"]
+                number, at = place or (None, PAD + row)
+                mark = divisions.setdefault(place, row) if place and DIVISION.match(name) else row
+                path = files.get(number) or self.path.rpartition("/")[2]
+                out += [f'\t.file {FIRST + row} "{path}#{self.number}.{row}"'] * (mark == row)
+                out.append(f"\t.loc {FIRST + mark} {at} 0")
             out.append(line)
+            self.there[len(out)] = row
         return "\n".join(out) + "\n"
 
     def tell(self, text):
@@ -123,55 +135,104 @@ class Marked:
         """The text for an assembler, in which each instruction has a label that tells its row."""
         out = []
         for row, line in self.told:
-            out += [f".Lrow{self.number}.{row}:", line] if row else [TOLD.sub(r"\g<1>0", line)]
+            out += [f".Lrow{self.number}.{row}:", line] if row else [line]
         return "\n".join(out) + "\n"
 
 
-def bare(text):
-    """A text without marks."""
-    return MARK.sub("", text)
-
-
-class Origins:
-    """The files of assembly of a program, and where its words come from."""
+class Files:
+    """The files of assembly of a program, and what ./fit is given in the place of those that have lines of C: so many
+    lines stand before them that a row is no line of C for an exit word, and of a line that isn't known ./fit is told.
+    It goes on with the line before else."""
 
     def __init__(self, paths, folder):
-        self.files, self.marked = [], []
+        self.given, self.paths = [], {}  # paths; that of the file that each is given for
         for number, path in enumerate(paths):
             with open(path, encoding="utf-8", errors="surrogateescape") as file:
-                self.files.append(Marked(number, path, file.read(), folder))
-            self.marked.append(f"{folder}/{number}-{path.rpartition('/')[2]}" if self.files[-1].has_lines else path)
-            if self.files[-1].has_lines:
-                with open(self.marked[-1], "w", encoding="utf-8", errors="surrogateescape") as file:
-                    file.write(self.files[-1].marked())
+                text = file.read()
+            given = f"{folder}/{number}-{path.rpartition('/')[2]}" if ROWS.search(text) else path
+            self.given.append(given)
+            self.paths[given] = path
+            told = self.told_of(number, path, text)
+            if given != path:
+                with open(given, "w", encoding="utf-8", errors="surrogateescape") as file:
+                    file.write("\n" * PAD + told)
+
+    def told_of(self, _number, _path, text):
+        """The text for ./fit, of one with lines of C."""
+        return UNTOLD.sub(rf"\g<1>{NO_LINE}", text)
+
+    def row(self, _path, row):
+        """The row of a file of assembly, by that of the text for ./fit."""
+        return row
+
+    def bare(self, text):
+        """What ./fit made or told, with rows of files of assembly as these are."""
+        def with_row(found):
+            path = self.paths[found[1]]
+            return f"{path}:{self.row(path, int(found[2]) - PAD)}"
+        names = "|".join(re.escape(given) for given, path in self.paths.items() if given != path)
+        return re.sub(rf"({names}):(\d+)", with_row, text) if names else text
+
+    def told(self, text, _shown):
+        """What ./fit told."""
+        return self.bare(text)
+
+    @staticmethod
+    def map_of(_source, _notes, _shown):
+        """No map: where words come from isn't known."""
+
+
+class Origins(Files):
+    """The same where it is asked where words come from: each instruction is marked."""
+
+    def __init__(self, paths, folder):
+        self.files = []
+        super().__init__(paths, folder)
+
+    def told_of(self, number, path, text):
+        """The text with marks."""
+        self.files.append(Marked(number, path, text))
+        return self.files[-1].marked()
+
+    def row(self, path, row):
+        """The row by that of the marked text."""
+        return next(it for it in self.files if it.path == path).there.get(row, row)
+
+    def bare(self, text):
+        """A text without marks."""
+        return MARK.sub("", super().bare(text))
 
     def origin(self, name, line):
         """The origin that a comment or a note of ./fit's tells of."""
         mark = MARK.search(name)
         if mark:
             return Origin(int(mark[1]), int(mark[2]))
-        number = next((it.number for it in self.files if it.path == name), None)
-        return None if number is None else Origin(number, line)
+        file = next((it for it in self.files if it.path == self.paths.get(name)), None)
+        if file is None or file.path == name:
+            return file and Origin(file.number, line)
+        # (of a function's begin, whose first instruction has the line)
+        return file.from_row(file.there.get(line - PAD, line))
 
     def place(self, origin, name, line, shown):
         """The line of C of an origin; `shown` gives a path as the author has it."""
         found = origin and self.files[origin.assembly].assembly.place(origin.row)
-        return Place(shown(found[0]), found[1]) if found else Place(bare(name), line)
+        return Place(shown(found[0]), found[1]) if found else Place(self.bare(name), line)
 
     def told(self, text, shown):
-        """What ./fit told, without marks: the notes with the paths of their files."""
+        """What ./fit told: the notes with the paths of their files."""
         def with_path(found):
             place = self.place(self.origin(found[1], int(found[2])), found[1], int(found[2]), shown)
             return f"{place.path}:{place.line}: note: {found[3]}"
-        return bare(NOTE.sub(with_path, text))
+        return self.bare(NOTE.sub(with_path, text))
 
     def map_of(self, source, notes, shown):
         """The map of the image of a source that ./fit made of the marked files, with the notes that it told."""
         mapped, fitted, last, behind, before = Map(), Fitted(source), None, None, ""
         exits, ends = Exits(fitted.rows), {}
         for number, (comment, text) in enumerate(fitted.rows):
-            if comment:
-                last = self.origin(*comment), comment
+            begin = self.begin_of(fitted.functions.get(CODE + 4 * number))
+            if comment or begin:
+                last = (self.origin(*comment), comment) if comment else begin
             origin = last and last[0]
             if last and (word := exits.word(number)):
                 ends[CODE + 4 * number] = word, origin, self.place(origin, *last[1], shown)
@@ -191,6 +252,13 @@ class Origins:
         mapped.add_sources()
         return mapped
 
+    def begin_of(self, name):
+        """The origin of the first instruction of a function, and its place in the assembly; None of none."""
+        for file in self.files if name else ():
+            if found := file.first.get(name):
+                return found, (os.path.basename(file.path), found.row)
+        return None
+
     def add_tests(self, mapped, notes, shown):
         """Adds the tests that notes tell of."""
         for name, line, why in NOTE.findall(notes):
@@ -203,20 +271,26 @@ class Origins:
         """What a word says that tells an exit word, by the line that ./fit tells of it: of a test that was noted, of a
         call through a pointer, or of what the meter and the stack have. Of another line the file isn't known. None
         where the program itself has the exit word."""
-        end, text = End(word >> 16, origin, place), self.row(origin)
-        is_there, is_own = True, CONSTANT.match(text) is not None
+        line = word & MOST_LINE
+        if origin is None:
+            return End(word, Origin(0, 0), Place(UNKNOWN, line))
+        end, text = End(word, origin, place), self.text(origin)
+        constant = CONSTANT.match(text)
+        is_there, is_own = True, constant is not None and int(constant[1]) >> 10 == word >> 10
         if end.kind == NO_FUNCTION:
             is_there = THROUGH.match(text) is not None
-            is_own = not is_there and place.line != word & MOST_LINE
+            is_own = not is_there and place.line != line
         elif end.kind <= NOTED:
             is_there = len(mapped.subjects_of(end)) > 0
         if is_own:
             return None
-        return end if is_there and end.word == word else End(end.kind, origin, Place(UNKNOWN, word & MOST_LINE))
+        # (the greatest line stands for another one)
+        is_there &= place.line > 0 and line in (place.line, MOST_LINE)
+        return end if is_there else End(word, origin, Place(UNKNOWN, line))
 
-    def row(self, origin):
+    def text(self, origin):
         """The line of assembly of an origin."""
-        return self.files[origin.assembly].lines[origin.row - 1] if origin else ""
+        return self.files[origin.assembly].lines[origin.row - 1]
 
     def call_origin(self, name, origin, following):
         """The origin of a call of a function, behind a word with an origin, and before one that may have a comment."""
