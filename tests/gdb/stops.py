@@ -28,6 +28,7 @@ def commands(work):
         walk_session(work, windows)
         chain_session(work, windows)
         till_session(work, windows)
+        tiles_session(work, windows)
     monitor_session(work)
 
 
@@ -103,6 +104,26 @@ def till_session(work, windows):
         asked(work, gdb, name, "info args", "^line = <optimized out>$")
         asked(work, gdb, name, "up", r"main \(\) at till\.c:10[01]")
         asked(work, gdb, name, "info locals", '^line = "1831 bread 410"')
+
+
+def tiles_session(work, windows):
+    """Callers through a function of the library that calls back: its variables, too, are told as they are or not at
+    all. From an index that leaves its object to why."""
+    name, image = f"tiles on {windows} windows", built_c(work, "tiles", "-Og")
+    with on_run(image, put(work.at("whole.in"), "..#..\n.##.#\n#####\n"), windows) as gdb:
+        asked(work, gdb, name, "break larger_first", "Breakpoint")
+        asked(work, gdb, name, "continue", "")
+        asked(work, gdb, name, "backtrace", r"^#0 .*larger_first .* at tiles\.c:33\n#1 .* sink .* at sort\.c:41",
+              r"^#2 .* qsort \(.*count=(2|<optimized out>), size=12, .*\n#3 .* show ",
+              r"^#4 .* main \(\) at tiles\.c:95\n$")
+        asked(work, gdb, name, "print *(struct field *)a", "x = 0, y = 0, tiles = 3")
+        asked(work, gdb, name, "finish", "= -3")
+        asked(work, gdb, name, "reverse-finish", "")
+        asked(work, gdb, name, "info line *$pc", "Line 33 of")
+    with on_run(image, f"{HERE}/programs/tiles.in", windows) as gdb:
+        asked(work, gdb, name, "continue", r"tiles\.c:19: the index into tiles \(120 bytes\) leaves it")
+        asked(work, gdb, name, "backtrace", r"^#0 .*is_free \(x=.*0, y=.*10\)", r"^#10 .* find_fields \(\)",
+              r"^#11 .* main \(\) at tiles\.c:94\n$")
 
 
 def monitor_session(work):

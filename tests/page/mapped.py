@@ -40,6 +40,9 @@ def c(pages):
     pages.check("the text of list.c", any(rows[at:at + len(whole)] == whole for at in range(len(rows))))
     for turn in random.Random(1).sample(range(1, len(turns) + 1), SEEN):
         seen_at(pages, turns, lines, turn)
+    pages.browser.look("goTo", len(turns))
+    said = pages.browser.js("document.querySelector('#say').textContent")
+    pages.check("list: the end", "EXIT: list.c:23: a pointer leaves the program's data" in said, said)
     bars(pages, turns, lines)
     changed(pages, source, given, next(int(it[0]) for it in turns if lines.get(it[2], "").startswith("list.c")))
     names(pages)
