@@ -21,7 +21,7 @@ class Runtime:
         self.compiler, self.request, self.work = compiler, compiler.request, work
         version = subprocess.run([compiler.path, "--version"], stdout=subprocess.PIPE, check=False).stdout
         settings = (version, compiler.target, compiler.kind, compiler.size_level, compiler.library_flags, HEADERS,
-                    PLUS, WORDS, self.request.arena, self.request.is_plus, compiler.telling)
+                    PLUS, WORDS, self.request.arena, self.request.is_plus)
         digest = hashlib.sha256(repr(settings).encode())
         for path in sorted(glob.glob(f"{TOP}/runtime/**/*", recursive=True)):
             if os.path.isfile(path):

@@ -10,7 +10,7 @@ from dwarf import standing_rules
 from elf import Elf, Names, own_debug, written
 from holding import Holding
 from joined import SHIFT, Joined
-from loaded import CODE
+from loaded import CODE, TOP
 from maps import Fitted
 from moved import Move, Moved
 
@@ -97,8 +97,9 @@ def early_objects(text, folder):
 class Linked:
     """A linked file beside the image that ./fit made of the same assembly."""
 
-    def __init__(self, linked, loaded, fitted, mapped, origins):
+    def __init__(self, linked, loaded, fitted, mapped, origins, work):
         self.linked, self.loaded, self.fitted, self.mapped, self.origins = linked, loaded, fitted, mapped, origins
+        self.work = work
         self.text = linked.sections[".text"]
         self.low = linked.addresses[".text"]
         self.functions = {}  # address to name
@@ -137,6 +138,15 @@ class Linked:
                 out.append((value, max(size, 1), self.objects[name][0]))
                 self.objects[name][1] = size or self.objects[name][1]
         return out
+
+    def is_library(self, name):
+        """Whether a function is one of the library's."""
+        for file in self.origins.files:
+            found = file.first.get(name)
+            place = found and file.assembly.place(found.row)
+            if place:
+                return os.path.realpath(os.path.join(self.work, place[0])).startswith(f"{TOP}/runtime/")
+        return True
 
     def frame_size(self, address):
         """The bytes of the frame that a function of the linked file takes; None of a leaf."""
@@ -211,6 +221,7 @@ class Linked:
         blocks = {(it - CODE) // 4 for it in self.loaded.blocks}
         holding = Holding(self.loaded.words, addresses, self.word, self.functions, blocks)
         move = Move(addresses, objects, frames, text, holding, self.joined.kept())
+        move.untracked = {address for address, name in self.functions.items() if self.is_library(name)}
         inner = next((it for it, name in self.functions.items() if name == INNER), None)
         self.inner = None if inner is None else move.code(inner)
         try:
@@ -252,7 +263,8 @@ def debug_file(loaded, source, mapped, origins, folder, program):
         if not next(it for it in origins.files if it.path == path).tell(told):
             raise Unreadable("the compiler makes other code where it tells of variables")
         objects = early_objects(told, folder)
-        linked = Linked(linked_of(origins, folder, objects), loaded, fitted, mapped, origins)
+        linked = Linked(linked_of(origins, folder, objects), loaded, fitted, mapped, origins,
+                        os.path.dirname(path))
         debug, why = linked.sections(os.path.realpath(folder)), None
         names.objects = [[address, name, size] for name, (address, size) in linked.objects.items()]
         if linked.inner and INNER not in fitted.functions.values():

@@ -31,10 +31,11 @@ class Move:
     """Where code and data went. `rows` is the linked address of each word's origin, None where it has none; `objects`
     are begins of data in the linked file with sizes and where they are now; `frames`, by the address of a function in
     the linked file, its frame; `holding` tells which registers hold at a word what they are said to, and `kept` which
-    one is in memory."""
+    one is in memory; `untracked` are the functions of which the compiler doesn't know how long a register holds what it
+    did at their begin: those of the library, which is compiled without variables."""
 
     def __init__(self, rows, objects, frames, text, holding, kept):
-        self.holding, self.kept = holding, kept
+        self.holding, self.kept, self.untracked = holding, kept, set()
         self.rows, self.objects, self.frames, (self.low, self.high) = rows, sorted(objects), frames, text
         self.there = {}
         for number, address in enumerate(rows):
@@ -199,7 +200,8 @@ class Moved(Items):
     def put_expression(self, tag, it):
         """Moves an expression; one that names registers becomes a list, or isn't told."""
         if it.place in self.wide:
-            places = ((*pair, it.value) for pair in self.extent)
+            is_known = self.function not in self.move.untracked
+            places = ((*pair, it.value) for pair in self.extent if is_known)
             self.wide[it.place] = struct.pack(">I", self.locations(places))
             return
         moved = self.expression(it.value, self.function)
