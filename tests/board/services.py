@@ -57,8 +57,9 @@ class Stepped:
         turns, mailbox = 0, self.mailbox()
         try:
             while True:
-                self.step()
+                # (the stub is gone at the halt, or as soon as the next word is sent)
                 turns += 1
+                self.step()
                 registers = self.registers()
                 if registers[PC] < SYSTEM:
                     return turns, registers, self.mailbox()
