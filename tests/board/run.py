@@ -13,6 +13,7 @@ have to be: exit word, output, window traps, and no other trap. Parts:
   verdicts   N of the stored runs (500), on their counts of windows
   services   each call of a service, step by step, beside the laws of leon_services
   calls      images called by C, a thousand times in a row each, from systems with their MMU off and on
+  suite      what tools/board-suite makes, with N / 4 of the stored runs, on 4, 8 and 32 windows; a wrong result is told
   refused    images that aren't accepted, other words, places that can't be, files that can't be written
   speed      turns a second beside board and engine
 
@@ -238,11 +239,11 @@ def host_made(out, *own):
 
 
 def called(host, image, windows, room):
-    """What a host puts out that calls an image."""
+    """What a host puts out over the UART, beside whose program that of an image lies."""
     words = [leon.PROGRAM, "-M", "leon3_generic", "-cpu", f"LEON3,nwindows={windows}", "-m", "64", "-kernel", host,
              *(["-device", f"loader,file={image}"] if image else []), "-display", "none", "-monitor", "none", "-serial",
              f"file:{room}/out"]
-    subprocess.run(words, stdin=subprocess.DEVNULL, stderr=subprocess.DEVNULL, timeout=120, check=False)
+    subprocess.run(words, stdin=subprocess.DEVNULL, stderr=subprocess.DEVNULL, timeout=600, check=False)
     return bytes_of(f"{room}/out")
 
 
@@ -276,6 +277,34 @@ def calls(tally, _asked):
         tally.same("an image for the UART", called(host, f"{room}/elf", 8, room), b"open: 00000005\n")
         made(f"{EXAMPLES}/hello/hello.img", f"{room}/elf", "--ram", hex(CALLED), "--windows", "7")
         tally.same("an image for seven windows", called(host, f"{room}/elf", 8, room), b"open: 00000006\n")
+
+
+def suite_told(elf, windows, room):
+    """What a program of tools/board-suite tells."""
+    return called(elf, None, windows, room).decode().splitlines()
+
+
+def suite(tally, asked):
+    if not has(GCC):
+        tally.skip("suite", GCC)
+        return
+    with tempfile.TemporaryDirectory() as room:
+        for windows in (4, 8, 32):
+            words = ["--windows", str(windows), "--runs", str(asked.runs // 4)]
+            ran = run([f"{TOP}/tools/board-suite", f"{room}/elf", *words], seconds=None)
+            counts = [int(it) for it in re.findall(r"(\d+) runs, (\d+) results", ran.said)[:1] for it in it]
+            if tally.check(f"a suite for {windows} windows", ran.status == 0 and counts, ran.said):
+                told = suite_told(f"{room}/elf", windows, room)
+                tally.same(f"the suite on {windows} windows", told, [f"{sum(counts)} passed, 0 failed"])
+        told = suite_told(f"{room}/elf", 8, room)
+        tally.same("the suite on another count of windows", told[-1:], [f"{counts[1]} passed, {counts[0]} failed"])
+        # the last result's value, whose words end the data
+        elf = bytes_of(f"{room}/elf")
+        last = bytes.fromhex("00000004FF3F8EB90060000000000004")
+        put(f"{room}/wrong", elf.replace(last, bytes.fromhex("00000004FF3F8EB80060000000000004")))
+        wanted = [f"value of result {counts[1] - 1}: wanted FF3F8EB8, came FF3F8EB9",
+                  f"{sum(counts) - 1} passed, 1 failed"]
+        tally.same("a wrong result", suite_told(f"{room}/wrong", 32, room), wanted)
 
 
 class Stub(Leon):
@@ -415,7 +444,8 @@ def speed(tally, _asked):
 
 
 PARTS = {"words": words, "loaded": loaded, "start": start, "examples": examples_run, "programs": programs,
-         "verdicts": verdicts, "services": services_run, "calls": calls, "refused": refused, "speed": speed}
+         "verdicts": verdicts, "services": services_run, "calls": calls, "suite": suite, "refused": refused,
+         "speed": speed}
 
 
 def main(asked_words):
