@@ -203,13 +203,18 @@ def try_budgets(to):
         source = put(f"{to.work}/many.s", calls_of_loops(calls))
         words = [source, "--turns", most]
         to.fitted(f"{calls} calls of a loop", words, made, f"{to.work}/many.img", [source])
-    for name in ("upper", "json", "csv", "sort"):
-        for turns in (1, 100, 10_000, 1_000_000, 10**9, 10**11, 10**12):
-            told = run_within([FIT, f"{STORED}/{name}.s", PLUG, "-o", made, "--turns", str(turns)])
+    stored = [f"{STORED}/{name}.s" for name in ("upper", "json", "csv", "sort", "crc32")]
+    found = [f"{HERE}/found/{name}.s" for name in ("told", "returns", "fuel", "needed_test")]
+    for path in stored + found:
+        name = os.path.basename(path)[:-2]
+        for turns in (1, 50, 100, 300, 10_000, 1_000_000, 10**9, 10**11, 10**12):
+            told = run_within([FIT, path, PLUG, "-o", made, "--turns", str(turns)])
             holds = told.status == 0 or told.status == 2 and b"refused: " in told.err
             to.tally.check(f"{name} of {turns} turns", holds, f"wanted a source or a reason, came {told}")
             if told.status == 0:
                 to.accepted(f"{name} of {turns} turns", made, f"{to.work}/turns.img")
+                budget = int(re.search(r"\.function main,[^,]*,[^,]*,[^,]*,(\d+)", text_of(made))[1])
+                to.tally.check(f"{name} of {turns} turns: the budget", budget <= turns, f"came {budget}")
 
 
 # What stored assembly puts out on an input, both in hex, and its status, as found by another tool; and its turns.

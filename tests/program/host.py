@@ -1,4 +1,4 @@
-"""The host: its status is of all images, and a budget of 5,000,000 turns is granted, and no turn more."""
+"""The host: its status is of all images, and a budget of 1,000,000,000 turns is granted, and no turn more."""
 import json
 import os
 
@@ -18,8 +18,8 @@ class Host:
     def __init__(self, calls):
         self.calls, self.tally, self.at = calls, calls.tally, calls.at
         self.one, self.little = calls.one, calls.little
-        self.granted = calls.changed("granted", 60, "00000000004C4B40")
-        self.denied = calls.changed("denied", 60, "00000000004C4B41")
+        self.granted = calls.changed("granted", 60, "000000003B9ACA00")
+        self.denied = calls.changed("denied", 60, "000000003B9ACA01")
 
     def expect(self, name, wanted, *words, given=b"", **how):
         """A call's status, output and lines on standard error."""
@@ -49,19 +49,19 @@ def try_images(host):
     host.hosted("a budget above it", 2, "", host.denied)
     told = "services: EXIT PUT; turns: 16; stack pages: 1\nexit word 0, 16 turns"
     host.expect("its lines", (0, "Hi", told), IMAGE)
-    host.expect("its line of a denial", (2, "", "denied: it asks for 5000001 turns"), host.denied)
+    host.expect("its line of a denial", (2, "", "denied: it asks for 1000000001 turns"), host.denied)
 
 
 def try_policy(host):
     """`host run`: a policy from the words."""
-    turns, denied = "denied: it asks for {} turns", f"host: {host.denied}: denied: it asks for 5000001 turns"
+    turns, denied = "denied: it asks for {} turns", f"host: {host.denied}: denied: it asks for 1000000001 turns"
     little = f"host: {host.little}: denied: {V14}"
     for name, wanted, *words in (
         ("run", (0, "Hi"), IMAGE),
         ("run: another exit word", (1, "Hi", f"host: {host.one}: exit word 1"), host.one),
         ("run: the usual grant", (0, "Hi"), host.granted),
         ("run: a turn more", (2, "", denied), host.denied),
-        ("run: a turn more is granted", (0, "Hi"), "--max-turns", "5000001", host.denied),
+        ("run: a turn more is granted", (0, "Hi"), "--max-turns", "1000000001", host.denied),
         ("run: all of its turns are granted", (0, "Hi"), "--max-turns", "16", IMAGE),
         ("run: a turn less", (2, "", f"host: {IMAGE}: {turns.format(16)}"), "--max-turns=15", IMAGE),
         ("run: no turn", (2, "", f"host: {IMAGE}: {turns.format(16)}"), "--max-turns", "0", IMAGE),
@@ -104,7 +104,7 @@ def try_streams(host):
 
 def try_engine(host):
     """The flat machine: the same outputs, and the same reports."""
-    denied = (2, "", f"host: {host.denied}: denied: it asks for 5000001 turns")
+    denied = (2, "", f"host: {host.denied}: denied: it asks for 1000000001 turns")
     stopped = (2, "abc", f"host: {ECHOING}: stopped: its output has more than 3 bytes")
     for name, wanted, given, *words in (
         ("an image", (0, "Hi"), b"", "--engine", IMAGE),
@@ -149,7 +149,7 @@ def try_reports(host):
         path = put(host.at("given"), given)
         told = {**echo, "turns": turns_on(path), "output": count, "input_left": len(given) > count}
         host.reports(name, (0, given[:count].decode(), [told]), ECHOING, given=path)
-    denied = {"image": host.denied, "denied": "it asks for 5000001 turns"}
+    denied = {"image": host.denied, "denied": "it asks for 1000000001 turns"}
     host.reports("a denied image", (2, "", [denied]), IMAGE, host.denied)
     stopped = {"image": ECHOING, "stopped": "output", "output": 2}
     host.reports("a stopped run", (2, "ab", [stopped]), "--max-output", "2", ECHOING, given=abcd)

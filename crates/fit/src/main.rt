@@ -58,10 +58,9 @@ fn attempt(
 /// Makes an annotated source of assembly: with the counters of its loops or, where these ask for more turns than there
 /// are to be, by the meter alone.
 fn make_source(alloc: Global, source: &Assembly, words: &Arguments<'_>) -> Result<Made, Refusal> {
-    let turns = words.turns.unwrap_or(TURNS);
     let made = attempt(alloc, source, words, true);
     let stands = match &made {
-        Ok(made) => made.budget <= turns.saturating_mul(2),
+        Ok(_) => true,
         // Told, and not answered by another source.
         Err(refusal) => matches!(refusal.fault.reason, Reason::Memory(_)),
     };

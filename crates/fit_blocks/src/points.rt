@@ -3,6 +3,7 @@
 mod fields;
 mod flow;
 mod layout;
+mod needed;
 
 use crate::plain::step_of;
 use crate::points::flow::flow_of;

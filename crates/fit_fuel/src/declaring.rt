@@ -94,11 +94,16 @@ fn find_total(
     }
     let constants = fuel.constants.as_slice();
     let blocks = fuel.blocks.as_mut_slice();
-    let mut most = 0;
+    let (mut most, mut lacks) = (0, false);
     for block in 0..blocks.len() {
-        let constant = constant_at(constants, block).unwrap_or(0);
+        let found = constant_at(constants, block);
+        lacks |= found.is_none() && task.ranges.reaches(task.number, block);
+        let constant = found.unwrap_or(0);
         blocks[block].fuel = constant;
         most = most.max(constant.unsigned_abs());
+    }
+    if lacks {
+        return Err(refused(function, function.line, TOO_MUCH));
     }
     let turns = constant_at(constants, 0).unwrap_or(0).max(0).unsigned_abs();
     if most >= BOUND {

@@ -91,19 +91,50 @@ pub fn counting_step(block: &Block) -> Option<(usize, Three)> {
     None
 }
 
-/// What each block of a function takes that is a place of the meter where no weight was set yet: it counts down, and
-/// control leaves where the count is below 0. 0 of the others.
+/// The number that steps before a place put into the register that holds a weight above the greatest immediate.
+fn scratch_before(meter: &Meter, steps: &[Step], place: usize) -> u32 {
+    let mut number: u32 = 0;
+    for (at, step) in steps.iter().enumerate() {
+        number = match step.instr {
+            Instr::Sethi(fields) if at < place && fields.rd == meter.scratch => {
+                fields.imm22.wrapping_mul(1024)
+            }
+            Instr::Or(
+                Three {
+                    rd,
+                    operand2: Operand::Immediate(low),
+                    ..
+                },
+            ) if at < place && rd == meter.scratch => number | low,
+            _ => number,
+        };
+    }
+    number
+}
+
+/// The weight that a block counts a meter down by, whose counting step stands at a place and has these fields.
+fn weight_at(meter: &Meter, block: &Block, place: usize, fields: &Three) -> u32 {
+    match fields.operand2 {
+        Operand::Immediate(weight) => weight,
+        Operand::Register(register) if register == meter.scratch => {
+            scratch_before(meter, block.steps.as_slice(), place)
+        }
+        Operand::Register(_) => 0,
+    }
+}
+
+/// What each block of a function takes that is a place of the meter: it counts down, and control leaves where the count
+/// is below 0. 0 of the others.
 pub fn places_of(memory: &mut Heap, meter: &Meter, function: &Function) -> Vec<u32> {
     let mut places = Vec::new(memory.alloc);
     for block in function.blocks.as_slice() {
         let mut taken = 0;
-        if let Some((_place, fields)) = counting_step(block)
-            && let Operand::Immediate(weight) = fields.operand2
+        if let Some((place, fields)) = counting_step(block)
             && (fields.rd == meter.register)
                 & (fields.rs1 == meter.register)
                 & (block.slot.is_some() | !meter.has_word())
         {
-            taken = weight;
+            taken = weight_at(meter, block, place, &fields);
         }
         memory.push(&mut places, taken);
     }

@@ -6,8 +6,8 @@ use fit_code::Naming;
 use std::mem;
 use v8_syntax::bytes_between;
 
-/// How many bytes all regions of an image have at most.
-const BYTES: usize = 262_144;
+/// How many bytes of data are read at most: more than an image may have, since what nothing names is left out of it.
+const BYTES: usize = 16_777_216;
 
 /// The greatest alignment, that of a page.
 const PAGE: u32 = 4_096;
@@ -42,7 +42,7 @@ impl Assembly {
         let at = start.saturating_add(length.saturating_add(mask) & !mask);
         let end = at.saturating_add(bytes.len()).saturating_add(count);
         if end > BYTES {
-            self.refuse("more than 262144 bytes of data");
+            self.refuse("more than 16777216 bytes of data");
         } else if self.start.is_some() {
             self.memory.take(self.bytes.resize(at, self.padding));
             self.memory.take(self.bytes.extend_from_slice(bytes));

@@ -522,7 +522,7 @@ pub fn program_of(
     entry: &str,
     plan: JoinPlan,
 ) -> Result<Legal, Fault> {
-    let mut layout = layout_of(source);
+    let mut layout = layout_of(source, entry);
     let mut stops = layout.stops;
     let taken = layout.taken.as_slice();
     let (order, before) = order_of_calls(&mut stops, source, &layout.linked, taken, entry);

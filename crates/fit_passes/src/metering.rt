@@ -2,6 +2,8 @@
 //! count it down.
 mod exits;
 mod inserting;
+mod lowering;
 mod registers;
 
 pub use inserting::insert_meter;
+pub use lowering::lower_count;

@@ -1,12 +1,12 @@
 //! All passes over a program, one after the other: from compiler-made code to an annotated source.
-use crate::metering::insert_meter;
+use crate::metering::{insert_meter, lower_count};
 use crate::placing::{fill, place};
 use fit_checks::{Test, TestOptions, add_tests};
 pub use fit_code::{Fault, Reason};
 use fit_code::{Block, Function, Heap, NO_LINE, Program, SourceLine};
 use fit_fuel::{LoopBounds, Meter, bounds_of, declare, is_of_blocks, refused};
 use fit_ranges::Ranges;
-use fit_text::source_of;
+use fit_text::{Annotations, source_of};
 use sbx_domain::State;
 use std::alloc::{AllocError, Global};
 use v8_formats::Reg;
@@ -23,6 +23,9 @@ const SHARE: u64 = 1_000;
 
 const LEAST: u64 = 10_000;
 
+/// Loops that a counter bounds, and what stands beside all loops, may take this part of a run's turns.
+const BOUNDED: u64 = 4;
+
 /// As often as blocks are placed: each time tests may have been added.
 const PLACINGS: u32 = 8;
 
@@ -32,6 +35,7 @@ const NO_REGISTER: &str = "no register is left to count its turns in";
 /// How a program is fitted.
 #[derive(Clone, Copy)]
 pub struct FitPlan {
+    /// The turns that a run may take in all.
     pub turns: u64,
     pub by_object: bool,
     /// Whether loops that a counter bounds go without the meter.
@@ -47,8 +51,6 @@ pub struct Made {
     pub program: Program,
     pub tests: Vec<Test>,
     pub text: String,
-    /// The most turns of a run.
-    pub budget: u64,
 }
 
 /// Lowers what the functions that a function calls may take to a share of its turns.
@@ -197,8 +199,85 @@ fn settle_places(
     ))
 }
 
+/// The budget of the first function, which is that of a run.
+fn budget_in(notes: &Annotations) -> u64 {
+    match notes.functions.first() {
+        Some(first) => first.budget,
+        None => 0,
+    }
+}
+
+/// Lowers what the first function's meter begins with by so many turns at least. Says whether it could.
+fn lower_first(program: &mut Program, meters: &mut [Option<Meter>], turns: u64) -> bool {
+    if let Some(Some(meter)) = meters.first_mut()
+        && let Some(function) = program.functions.first_mut()
+        && let Some(block) = function.blocks.first_mut()
+    {
+        return lower_count(block, meter, turns);
+    }
+    false
+}
+
+/// How many blocks of the first function control comes to.
+fn reached_blocks(program: &Program, ranges: &Ranges) -> usize {
+    let mut count: usize = 0;
+    if let Some(function) = program.functions.first() {
+        for block in 0..function.blocks.len() {
+            count = count.saturating_add(usize::from(ranges.reaches(0, block)));
+        }
+    }
+    count
+}
+
+/// That a run would take so many turns, and may take fewer.
+fn too_many_turns(program: &Program, count: u64, most: u64) -> Fault {
+    let line = program
+        .functions
+        .first()
+        .map_or(NO_LINE, |first| first.line);
+    let what = "the turns of a run";
+    Fault::new(line, Reason::TooGreat { what, count, most })
+}
+
+/// What a program declares that asks for as many turns as it may, and no more: what a run takes beside what its meter
+/// begins with is taken from that. It is a fault where that isn't enough, and some block couldn't be come to any more;
+/// or where loops that a counter bounds would take more than a share of all.
+fn declare_within(
+    alloc: Global,
+    program: &mut Program,
+    plan: FitPlan,
+    ranges: &mut Ranges,
+    meters: &mut [Option<Meter>],
+    state: &mut State,
+) -> Result<Annotations, Fault> {
+    let (turns, share) = (plan.turns, if plan.has_bounds { BOUNDED } else { 1 });
+    let mut notes = declare(alloc, program, &*ranges, &*meters, state)?;
+    let count = budget_in(&notes);
+    let excess = count.saturating_sub(turns);
+    if excess > 0 {
+        let reached = reached_blocks(&*program, &*ranges);
+        if excess > turns / share || !lower_first(program, meters, excess) {
+            return Err(too_many_turns(&*program, count, turns));
+        }
+        ranges.renew(program, &[(0, 0)], state)?;
+        if reached_blocks(&*program, &*ranges) < reached {
+            return Err(too_many_turns(&*program, count, turns));
+        }
+        ranges.store(program)?;
+        notes = declare(alloc, program, &*ranges, &*meters, state)?;
+        let count = budget_in(&notes);
+        if count > turns {
+            return Err(too_many_turns(&*program, count, turns));
+        }
+    }
+    if let (Some(Some(_)), Some(first)) = (meters.first(), notes.functions.first_mut()) {
+        first.budget = turns;
+    }
+    Ok(notes)
+}
+
 /// Puts tests and meters into a program, of which these are the ranges, and its blocks into their places, fills their
-/// slots, and gives its annotated source and budget. What a step leaves known in its place it leaves known in a slot,
+/// slots, and gives its annotated source. What a step leaves known in its place it leaves known in a slot,
 /// so that the ranges stay.
 fn write_source(
     alloc: Global,
@@ -208,7 +287,7 @@ fn write_source(
     ranges: &mut Ranges,
     meters: &mut Vec<Option<Meter>>,
     state: &mut State,
-) -> Result<(String, u64), Fault> {
+) -> Result<String, Fault> {
     let mut options = TestOptions {
         by_object: plan.by_object,
         drops: true,
@@ -220,15 +299,9 @@ fn write_source(
     let mut memory = Heap::new(alloc);
     fill(&mut memory, program, ranges);
     memory.told(()).and(ranges.store(program))?;
-    let notes = declare(alloc, program, ranges, meters.as_slice(), state)?;
-    let budget = match notes.functions.first() {
-        Some(first) => first.budget,
-        None => 0,
-    };
-    match source_of(alloc, program, &notes) {
-        Ok(text) => Ok((text, budget)),
-        Err(fault) => Err(fault),
-    }
+    let meters = meters.as_mut_slice();
+    let notes = declare_within(alloc, program, plan, ranges, meters, state)?;
+    source_of(alloc, program, &notes)
 }
 
 /// The same, from the program alone on.
@@ -237,7 +310,7 @@ fn fit(
     program: &mut Program,
     tests: &mut Vec<Test>,
     plan: FitPlan,
-) -> Result<(String, u64), Fault> {
+) -> Result<String, Fault> {
     let mut state = State::new(alloc)?;
     let mut ranges = Ranges::of(alloc, program, &mut state)?;
     let mut meters = Vec::new(alloc);
@@ -283,11 +356,10 @@ fn push_lines(memory: &mut Heap, function: &Function, lines: &mut Vec<SourceLine
 pub fn make(alloc: Global, mut program: Program, plan: FitPlan) -> Result<Made, Refusal> {
     let mut tests = Vec::new(alloc);
     match fit(alloc, &mut program, &mut tests, plan) {
-        Ok((text, budget)) => Ok(Made {
+        Ok(text) => Ok(Made {
             program,
             tests,
             text,
-            budget,
         }),
         Err(fault) => {
             let mut refusal = Refusal::of(alloc, fault);

@@ -16,10 +16,11 @@ pub struct Policy {
     pub turns: u64,
 }
 
-/// What is granted where nobody says otherwise: to read, to write and to end, and the turns of an eighth of a second.
+/// What is granted where nobody says otherwise: to read, to write and to end, and as many turns as an image of `cc` asks
+/// for.
 pub const POLICY: Policy = Policy {
     services: Services(7),
-    turns: 5_000_000,
+    turns: 1_000_000_000,
 };
 
 /// Why an image isn't run. Want of memory is told as I9 or V19.

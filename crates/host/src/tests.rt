@@ -70,7 +70,7 @@ fn usual_terms(rt: HostRuntime) {
             panic!(rt; "no words");
         };
         let Asked { terms, .. } = asked;
-        assert!(rt; are_terms(&terms, 5_000_000, Services(7), None) && !terms.engine);
+        assert!(rt; are_terms(&terms, 1_000_000_000, Services(7), None) && !terms.engine);
         let Terms { windows, .. } = terms;
         assert!(rt; windows.count() == 8);
     }

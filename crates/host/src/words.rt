@@ -21,7 +21,7 @@ run, and a line on standard error says which is denied, and why. Their outputs g
 turn. One image reads its input as it asks for it; several are run on the same input, which is read first.
 `host IMG ..` tells what each image asks for, and how its run ended; it takes no options.
 
-  --max-turns N       the most turns that an image may ask for (5000000)
+  --max-turns N       the most turns that an image may ask for (1000000000)
   --services LIST     what it may ask its host for, with commas between: exit, get, put (exit,get,put)
   --windows N         how many register windows the machine has, 4 to 32 (8)
   --engine            runs them on the fast flat machine: no board is made, and windows are counted

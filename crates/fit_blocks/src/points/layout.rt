@@ -1,4 +1,5 @@
 //! The layout of a program's objects in the data.
+use crate::points::needed::{Needed, needed_from};
 use crate::stops::{Obstacle, Stops};
 use fit_code::{Heap, NO_LINE, Naming, Object, Region, SourceLine};
 use fit_gas::{
@@ -40,7 +41,8 @@ pub struct Layout<'l> {
     pub objects: Vec<Object>,
     /// The regions that ended, by their addresses.
     pub regions: Vec<Region>,
-    /// Of each object of the source its number here.
+    needed: Needed,
+    /// Of each object of the source that is needed its number here.
     numbers: Vec<usize>,
     /// Functions of the source, each with the object of its arguments in memory.
     arguments: Vec<(usize, usize)>,
@@ -85,12 +87,13 @@ impl Layout<'_> {
         number
     }
 
-    /// Adds the objects of the source that are constants, or those that aren't, each for the line where its name stands
-    /// first.
+    /// Adds the objects of the source that are needed and are constants, or aren't, each for the line where its name
+    /// stands first.
     fn add_all(&mut self, readonly: bool) {
         let source = self.source;
         for (place, datum) in source.objects.iter().enumerate() {
             if datum.readonly == readonly
+                && self.needed.has_object(place)
                 && let Some(symbol) = source.symbols.get(datum.symbol)
             {
                 let name = owned(&mut self.stops.memory, symbol.name.as_str());
@@ -146,7 +149,7 @@ impl Layout<'_> {
         self.stops.memory.push(&mut self.regions, region);
     }
 
-    /// Adds all objects of the source, the constants first, which are a region of their own.
+    /// Adds the objects that are needed, the constants first, which are a region of their own.
     fn add_regions(&mut self) {
         self.add_all(true);
         if !self.objects.is_empty() {
@@ -207,11 +210,13 @@ impl Layout<'_> {
         }
     }
 
-    /// Takes those that instructions of all functions name.
+    /// Takes those that instructions of functions name that are needed.
     fn take_from_all(&mut self) {
         let source = self.source;
-        for code in source.codes.as_slice() {
-            self.take_all(code);
+        for (number, code) in source.codes.as_slice().iter().enumerate() {
+            if self.needed.has_function(number) {
+                self.take_all(code);
+            }
         }
     }
 
@@ -236,11 +241,13 @@ impl Layout<'_> {
         }
     }
 
-    /// Fills in all addresses that objects of the source hold.
+    /// Fills in all addresses that objects hold which are needed.
     fn fill_all(&mut self) {
         let source = self.source;
         for fix in source.fixes.as_slice() {
-            self.fill(fix);
+            if self.needed.has_object(fix.object) {
+                self.fill(fix);
+            }
         }
     }
 }
@@ -271,14 +278,15 @@ fn put_word(bytes: &mut [u8], at: usize, word: u32) {
     }
 }
 
-/// Lays out the objects of a source: the constants first, on pages that may be read alone. What stops it is noted in
-/// the layout: a global name that stands at two places; an address within a function, or of what stands nowhere; more
-/// bytes than an image may have.
-pub fn layout_of(source: &Assembly) -> Layout<'_> {
+/// Lays out the objects of a source that are needed from the global function `entry` on: the constants first, on pages
+/// that may be read alone. What stops it is noted in the layout: a global name that stands at two places; an address
+/// within a function, or of what stands nowhere; more bytes than an image may have.
+pub fn layout_of<'l>(source: &'l Assembly, entry: &str) -> Layout<'l> {
     let alloc = source.memory.alloc;
     let mut memory = Heap::new(alloc);
     let numbers = memory.repeat(0, source.objects.len());
     let (linked, second) = links_of(&mut memory, source);
+    let needed = needed_from(&mut memory, source, &linked, entry);
     let mut stops = Stops {
         memory,
         symbol: 0,
@@ -293,6 +301,7 @@ pub fn layout_of(source: &Assembly) -> Layout<'_> {
         linked,
         objects: Vec::new(alloc),
         regions: Vec::new(alloc),
+        needed,
         numbers,
         arguments: Vec::new(alloc),
         taken: Vec::new(alloc),
