@@ -137,7 +137,7 @@ def images(work):
     built("sandbox", "fit")
     access = re.search(r"^```c access.c\n(.*?)^```$", text_of(f"{TOP}/embed/nginx/README.md"), re.M | re.S)[1]
     for name, source in (("status", STATUSES), ("header", HEADERS), ("access", access)):
-        words = [CC, put(f"{work}/{name}.c", source), "-o", f"{work}/{name}.img", "--turns", "90000", "--arena", "0"]
+        words = [CC, put(f"{work}/{name}.c", source), "-o", f"{work}/{name}.img", "--turns", "90000"]
         ran = run(words, seconds=None)
         TALLY.check(f"{name}.c", ran.status == 0, ran.said[-1000:])
     return True

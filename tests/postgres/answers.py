@@ -113,7 +113,7 @@ int main(void) {
 def compiled(work, name, source):
     """The image of a program in C, or None."""
     image = work.at(f"{name}.img")
-    ran = run([CC, put(work.at(f"{name}.c"), source), "-o", image, "--turns", "20000", "--arena", "0"], seconds=None)
+    ran = run([CC, put(work.at(f"{name}.c"), source), "-o", image, "--turns", "20000"], seconds=None)
     return image if work.tally.check(f"{name}.c", ran.status == 0, ran.said[-1500:]) else None
 
 
