@@ -1,6 +1,6 @@
 //! The words of a command line.
 
-/// The turns that a program's loops may take where the words say nothing.
+/// The turns that a run may take where the words say nothing.
 pub const TURNS: u64 = 1_000_000_000;
 
 /// The bytes of the stack of functions that may be called again before they return, where the words say nothing.
@@ -21,7 +21,7 @@ Turns compiler-made SPARC assembly, the files as one program, into an annotated 
 that `sandbox asm` and `sandbox verify` accept. What isn't shown is tested at run time.
 
   -o OUT.s     where the source goes; - is standard output
-  --turns N    the turns that all loops may take (1000000000), up to 10^12
+  --turns N    the turns that a run may take in all (1000000000), up to 10^12: the image declares them
   --stack BYTES  the stack of functions that call each other in a round, or that are called
                through pointers (16384): a power of 2 from 1024 to 131072
   --strict     where a test would be added, no source is made
