@@ -60,9 +60,9 @@ def calls_of(names):
 
 
 def two_kinds(constants, data):
-    """So many bytes of constants, and of what may be written."""
+    """So many bytes of constants, and of what may be written, which main names."""
     parts = f'.section ".rodata"; .align 8; x:; .skip {constants}; .section ".data"; .align 8; y:; .skip {data}'
-    return HEAD + TAIL + code(parts)
+    return HEAD + code("sethi %hi(x),%g1; sethi %hi(y),%g1") + TAIL + code(parts)
 
 
 def kept_words(name, words, count, called=None):
@@ -117,7 +117,10 @@ FAULTS = {
     "label twice": (main_of(".L1:; .L1:"), "twice"),
     "no return": (HEAD, None),
     "label of no type": ("main:\n" + TAIL, ":2: refused: an instruction outside of a function: write .type NAME"),
-    "much data": (code('.section ".bss"; .global x; x:; .skip 400000'), ""),
+    "much data": (HEAD + code("sethi %hi(x),%g1") + TAIL + code('.section ".bss"; .global x; x:; .skip 400000'),
+                  "more than 262144 bytes of data"),
+    "much more data": (HEAD + TAIL + code('.section ".bss"; .global x; x:; .skip 16777217'),
+                       "more than 16777216 bytes of data"),
     "negative skip": (code('.section ".bss"; x:; .skip -4'), ""),
     "round of calls": (rounds_of_calls(3), "a run begins at"),
     "long round of calls": (rounds_of_calls(300), "a run begins at"),
