@@ -1,6 +1,6 @@
 //! All passes over a program, one after the other: from compiler-made code to an annotated source.
 use crate::metering::{insert_meter, lower_count};
-use crate::placing::{fill, place};
+use crate::placing::{end_unreached, fill, place};
 use fit_checks::{Test, TestOptions, add_tests};
 pub use fit_code::{Fault, Reason};
 use fit_code::{Block, Function, Heap, NO_LINE, Program, SourceLine};
@@ -218,17 +218,6 @@ fn lower_first(program: &mut Program, meters: &mut [Option<Meter>], turns: u64) 
     false
 }
 
-/// How many blocks of the first function control comes to.
-fn reached_blocks(program: &Program, ranges: &Ranges) -> usize {
-    let mut count: usize = 0;
-    if let Some(function) = program.functions.first() {
-        for block in 0..function.blocks.len() {
-            count = count.saturating_add(usize::from(ranges.reaches(0, block)));
-        }
-    }
-    count
-}
-
 /// That a run would take so many turns, and may take fewer.
 fn too_many_turns(program: &Program, count: u64, most: u64) -> Fault {
     let line = program
@@ -240,8 +229,8 @@ fn too_many_turns(program: &Program, count: u64, most: u64) -> Fault {
 }
 
 /// What a program declares that asks for as many turns as it may, and no more: what a run takes beside what its meter
-/// begins with is taken from that. It is a fault where that isn't enough, and some block couldn't be come to any more;
-/// or where loops that a counter bounds would take more than a share of all.
+/// begins with is taken from that. It is a fault where that isn't enough, or where loops that a counter bounds would
+/// take more than a share of all.
 fn declare_within(
     alloc: Global,
     program: &mut Program,
@@ -255,15 +244,13 @@ fn declare_within(
     let count = budget_in(&notes);
     let excess = count.saturating_sub(turns);
     if excess > 0 {
-        let reached = reached_blocks(&*program, &*ranges);
         if excess > turns / share || !lower_first(program, meters, excess) {
             return Err(too_many_turns(&*program, count, turns));
         }
         ranges.renew(program, &[(0, 0)], state)?;
-        if reached_blocks(&*program, &*ranges) < reached {
-            return Err(too_many_turns(&*program, count, turns));
-        }
-        ranges.store(program)?;
+        let mut memory = Heap::new(alloc);
+        end_unreached(&mut memory, program, &*ranges);
+        memory.told(()).and(ranges.store(program))?;
         notes = declare(alloc, program, &*ranges, &*meters, state)?;
         let count = budget_in(&notes);
         if count > turns {

@@ -3,7 +3,7 @@ mod filling;
 mod merging;
 
 use crate::placing::merging::merge;
-pub use filling::fill;
+pub use filling::{end_unreached, fill};
 use fit_checks::{insert_instr, push_block};
 use fit_code::{Block, End, Function, Heap, opposite};
 use fit_fuel::counting_step;

@@ -68,10 +68,19 @@ fn fill_calls(steps: &mut Vec<Step>) {
     }
 }
 
+/// Makes a block to which control doesn't come an end of the run, with the exit word of its line as where a test of an
+/// index fails: nothing is known where it begins, and the verifier refuses a block that reads what no cell names.
+fn end_block(memory: &mut Heap, block: &mut Block) {
+    let instrs = number_in(EXIT_WORD, TestKind::Index.exit_word(block.line));
+    block.steps.clear();
+    block.end = End::Exit;
+    block.slot = None;
+    push_instrs(memory, &mut block.steps, &instrs, block.line);
+}
+
 /// Fills slots: what stands before a branch, a jump or a call, and may as well stand behind it, goes to its slot.
 /// Blocks stand in their places then, and go on to the next one without a jump. Those to which control doesn't come,
-/// as behind a test that always fails, are ends of the run, with the exit word of their lines as where a test of an
-/// index fails: nothing is known where they begin, and the verifier refuses a block that reads what no cell names.
+/// as behind a test that always fails, are ends of the run.
 pub fn fill(memory: &mut Heap, program: &mut Program, ranges: &Ranges) {
     for (number, function) in program.functions.iter_mut().enumerate() {
         fill_function(memory, (number, function), ranges);
@@ -85,11 +94,18 @@ fn fill_function(memory: &mut Heap, (number, function): (usize, &mut Function), 
             fill_end(block, place.saturating_add(1));
             fill_calls(&mut block.steps);
         } else {
-            let instrs = number_in(EXIT_WORD, TestKind::Index.exit_word(block.line));
-            block.steps.clear();
-            block.end = End::Exit;
-            block.slot = None;
-            push_instrs(memory, &mut block.steps, &instrs, block.line);
+            end_block(memory, block);
+        }
+    }
+}
+
+/// Makes the blocks of the first function to which control doesn't come ends of the run.
+pub fn end_unreached(memory: &mut Heap, program: &mut Program, ranges: &Ranges) {
+    if let Some(function) = program.functions.first_mut() {
+        for (place, block) in function.blocks.iter_mut().enumerate() {
+            if !ranges.reaches(0, place) {
+                end_block(memory, block);
+            }
         }
     }
 }
