@@ -35,7 +35,10 @@ impl Heads {
 
 /// Of each label, whether a block of that label or a higher one goes to it, which each loop has one of, or a function
 /// returns to it.
-pub(crate) fn heads(alloc: Global, blocks: &[ProgramBlock]) -> Result<Vec<bool>, AllocError> {
+pub(crate) fn pause_points(
+    alloc: Global,
+    blocks: &[ProgramBlock],
+) -> Result<Vec<bool>, AllocError> {
     let mut marks = Vec::new(alloc);
     marks.resize(blocks.len(), false)?;
     let mut heads = Heads { marks };

@@ -1,5 +1,5 @@
 //! A whole program in C: what it was made of, its data, and its body twice, as a run and as a run by steps.
-use crate::points::heads;
+use crate::points::pause_points;
 use crate::statements::Body;
 use crate::text::ProgramText;
 use native_lang::{NativeProgram, ProgramBlock};
@@ -16,7 +16,7 @@ pub struct ImageNote<'a> {
 
 /// The body of all blocks.
 fn body_of(alloc: Global, blocks: &[ProgramBlock]) -> Result<Body, AllocError> {
-    let heads = heads(alloc, blocks)?;
+    let heads = pause_points(alloc, blocks)?;
     let mut body = Body::new(alloc);
     let mut label = 0u32;
     for (block, is_head) in blocks.iter().zip(heads.as_slice()) {
