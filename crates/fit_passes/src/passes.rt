@@ -229,22 +229,21 @@ fn too_many_turns(program: &Program, count: u64, most: u64) -> Fault {
 }
 
 /// What a program declares that asks for as many turns as it may, and no more: what a run takes beside what its meter
-/// begins with is taken from that. It is a fault where that isn't enough, or where loops that a counter bounds would
-/// take more than a share of all.
+/// begins with, a share of all at most, is taken from that. It is a fault where that isn't enough.
 fn declare_within(
     alloc: Global,
     program: &mut Program,
-    plan: FitPlan,
+    turns: u64,
+    share: u64,
     ranges: &mut Ranges,
     meters: &mut [Option<Meter>],
     state: &mut State,
 ) -> Result<Annotations, Fault> {
-    let (turns, share) = (plan.turns, if plan.has_bounds { BOUNDED } else { 1 });
     let mut notes = declare(alloc, program, &*ranges, &*meters, state)?;
     let count = budget_in(&notes);
     let excess = count.saturating_sub(turns);
     if excess > 0 {
-        if excess > turns / share || !lower_first(program, meters, excess) {
+        if excess > share || !lower_first(program, meters, excess) {
             return Err(too_many_turns(&*program, count, turns));
         }
         ranges.renew(program, &[(0, 0)], state)?;
@@ -279,6 +278,12 @@ fn write_source(
         by_object: plan.by_object,
         drops: true,
     };
+    let turns = plan.turns;
+    let share = if plan.has_bounds {
+        turns / BOUNDED
+    } else {
+        turns
+    };
     *tests = add_tests(alloc, options, program, ranges, state)?;
     insert_meters(alloc, program, plan, ranges, meters, state)?;
     options.drops = false;
@@ -287,7 +292,7 @@ fn write_source(
     fill(&mut memory, program, ranges);
     memory.told(()).and(ranges.store(program))?;
     let meters = meters.as_mut_slice();
-    let notes = declare_within(alloc, program, plan, ranges, meters, state)?;
+    let notes = declare_within(alloc, program, turns, share, ranges, meters, state)?;
     source_of(alloc, program, &notes)
 }
 

@@ -14,14 +14,14 @@ fn count_of(block: &Block, instr: &Instr) -> usize {
 }
 
 /// Puts an instruction in the place of another one among the steps of a block, and in the slot of its end.
-fn replace(block: &mut Block, old: &Instr, new: Instr) {
+fn replace(block: &mut Block, old: &Instr, new: &Instr) {
     let word = encode(old);
     if matches!(&block.slot, Some(slot) if encode(slot) == word) {
-        block.slot = Some(new);
+        block.slot = Some(*new);
     }
     for step in block.steps.as_mut_slice() {
         if encode(&step.instr) == word {
-            step.instr = new;
+            step.instr = *new;
         }
     }
 }
@@ -62,10 +62,10 @@ pub fn lower_count(block: &mut Block, meter: &mut Meter, turns: u64) -> bool {
     }
     if is_there {
         if let ([Some(old), _], [Some(new), _]) = (&old, &new) {
-            replace(block, old, *new);
+            replace(block, old, new);
         }
         if let ([_, Some(old)], [_, Some(new)]) = (&old, &new) {
-            replace(block, old, *new);
+            replace(block, old, new);
         }
         meter.count = count;
     }
