@@ -6,3 +6,4 @@ pub mod Steps
 pub mod Asked
 pub mod Called
 pub mod Served
+pub mod Alike
