@@ -1,4 +1,4 @@
-/* Runs of images by objects of native code, beside the same runs on the engine, for tests/run embed: natives MODE WORD ..
+/* Runs of images by objects of native code, beside the same runs on the engine; for tests/run embed: natives MODE WORD
    It has an allocator of its own, which counts its blocks and refuses the growths that it is told to. What is wrong is
    told on standard error, with status 1. */
 #include "geyserpan.h"
