@@ -11,7 +11,7 @@ PROGRAMS = ("rle", "wc", "base64", "crc32", "control", "packet", "sieve", "fir",
 OWN = ("till", "index", "list")
 STOPS = 60
 # So many values have to be compared at least.
-LEAST = {("-O0", "gcc"): 500, ("-Og", "gcc"): 200, ("-Og", "clang"): 50}
+LEAST = {("-O0", "gcc"): 800, ("-Og", "gcc"): 150, ("-Og", "clang"): 200}
 # What clang 14 asks for beside the wish for zeros.
 ZERO = ["-enable-trivial-auto-var-init-zero-knowing-it-will-be-removed-from-clang"]
 # Values that mean the same on both machines: numbers, characters and arrays of them.

@@ -57,6 +57,7 @@ class Holding:
         self.kills = [self.killed(it) for it in self.ways]
         self.later = self.find_later()
         self.holds = self.find_holds()
+        self.hide_moved()
 
     # ---- words and instructions
 
@@ -281,6 +282,18 @@ class Holding:
         if branch is not None and is_call(self.words[branch]):
             held &= ~written(self.words[number])
         return held if self.rows[number] is not None else 0
+
+    def hide_moved(self):
+        """What a slot writes isn't there yet at the words before it whose instructions stand behind the slot's one in
+        the compiler's code."""
+        for slot, branch in self.branches.items():
+            row, number = self.slot_row(branch, self.words[slot]), slot
+            while row is not None and number >= 0 and self.rows[number] is not None \
+                    and row < self.rows[number] < row + 4 * FAR:
+                self.holds[number] &= ~written(self.words[slot])
+                if number in self.blocks:
+                    break
+                number -= 1
 
     def has(self, number, registers):
         """Whether some registers hold at a word."""
