@@ -147,9 +147,19 @@ def same_images(work):
                 lines_of_ends(work, name, work.at("mapped.map"))
 
 
+def read_whole(work):
+    """gdb reads the file of a program on whose variables gdb 13 itself ends by a fault: it has lines alone then."""
+    elf, path = work.at("json.elf"), f"{TOP}/tests/cc/programs/json.c"
+    made = run([CC, "-Og", path, "--debug", "-o", work.at("json.img")], seconds=600)
+    if work.tally.check("json.c is made", made.status == 0, made.said) and has(GDB):
+        ran = run([GDB, "-q", "-nx", "-batch", "-ex", "maint expand-symtabs", "-ex", "info line main", elf], seconds=600)
+        work.tally.check("gdb reads json.elf", ran.status == 0 and "json.c\" starts at" in ran.said, ran.said[-300:])
+
+
 def images(work):
     """Looks whether what is asked for beside an image leaves its bytes as they are, and each word has an origin."""
     same_images(work)
+    read_whole(work)
     sources = sorted(glob.glob(f"{EXAMPLES}/c/*.c")) + sorted(glob.glob(f"{HERE}/programs/*.c"))
     for path in sources:
         name = os.path.basename(path)

@@ -1,6 +1,26 @@
 """What ./cc leaves beside an image: its map, and its ELF file for gdb."""
+import shutil
+import subprocess
+
 import linked
 from loaded import Loaded
+
+SECONDS = 120
+GDB_FAULT = "gdb itself ends by a fault on what the compiler tells of them"
+
+
+def is_read(path):
+    """Whether gdb reads an ELF file whole, where gdb is there: 13.1 itself ends by a fault on some."""
+    gdb = shutil.which("gdb-multiarch") or shutil.which("gdb")
+    if not gdb:
+        return True
+    words = [gdb, "-q", "-nx", "-batch", "-ex", "maint expand-symtabs", path]
+    try:
+        ran = subprocess.run(words, stdin=subprocess.DEVNULL, stdout=subprocess.PIPE, stderr=subprocess.STDOUT,
+                             timeout=SECONDS, check=False)
+    except subprocess.TimeoutExpired:
+        return True
+    return ran.returncode >= 0 and b"Fatal signal" not in ran.stdout
 
 
 def leave(build, map_path, elf_path):
@@ -13,7 +33,14 @@ def leave(build, map_path, elf_path):
         with open(build.source, encoding="utf-8", errors="surrogateescape") as file:
             source = file.read()
         told, folder = build.with_variables()
-        data, why = linked.debug_file(loaded, source, build.mapped, build.origins, folder, (build.program, told))
-        with open(elf_path, "wb") as file:
-            file.write(data)
+
+        def write(text):
+            data, why = linked.debug_file(loaded, source, build.mapped, build.origins, folder, (build.program, text))
+            with open(elf_path, "wb") as file:
+                file.write(data)
+            return why
+        why = write(told)
+        if not why and not is_read(elf_path):
+            write("")
+            why = GDB_FAULT
     return why
