@@ -148,7 +148,8 @@ def same_images(work):
 
 
 def read_whole(work):
-    """gdb reads the file of a program on whose variables gdb 13 itself ends by a fault: it has lines alone then."""
+    """gdb reads the file of a program on one of whose library's variables gdb 13 itself ends by a fault, which isn't
+    told then."""
     elf, path = work.at("json.elf"), f"{TOP}/tests/cc/programs/json.c"
     made = run([CC, "-Og", path, "--debug", "-o", work.at("json.img")], seconds=600)
     if work.tally.check("json.c is made", made.status == 0, made.said) and has(GDB):
