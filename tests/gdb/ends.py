@@ -153,7 +153,8 @@ def read_whole(work):
     elf, path = work.at("json.elf"), f"{TOP}/tests/cc/programs/json.c"
     made = run([CC, "-Og", path, "--debug", "-o", work.at("json.img")], seconds=600)
     if work.tally.check("json.c is made", made.status == 0, made.said) and has(GDB):
-        ran = run([GDB, "-q", "-nx", "-batch", "-ex", "maint expand-symtabs", "-ex", "info line main", elf], seconds=600)
+        asked = ["-ex", "maint expand-symtabs", "-ex", "info line main"]
+        ran = run([GDB, "-q", "-nx", "-batch", *asked, elf], seconds=600)
         work.tally.check("gdb reads json.elf", ran.status == 0 and "json.c\" starts at" in ran.said, ran.said[-300:])
 
 
