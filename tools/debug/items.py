@@ -46,9 +46,12 @@ class Abbreviations:
     def __init__(self, data, at):
         self.data, self.start = data, at
         self.entries, self.spans, self.wider, self.copies = {}, {}, {}, bytearray()
+        self.parents = set()  # the codes of items that have others within
         r = Reader(data, at)
         while code := r.uleb():
-            start, tag, _children, attributes, places = r.at, r.uleb(), r.number(1), [], {}
+            start, tag, has_children, attributes, places = r.at, r.uleb(), r.number(1), [], {}
+            if has_children:
+                self.parents.add(code)
             while True:
                 place = r.at
                 name, form = r.uleb(), r.uleb()
@@ -95,6 +98,7 @@ class Items:
         # by place what an attribute of another size holds; begins, ends, and what is there now, None of a list's place
         self.wide, self.edits = {}, []
         self.ends = self.sums = None
+        self.depth = 0
         self.unit, data, at = None, bytearray(abbreviations), 0
         while at < len(self.info):
             unit = Unit(self.info, at)
@@ -105,12 +109,14 @@ class Items:
 
     def items(self, unit):
         """Yields the items of a unit: where each is, its code, its tag and its attributes."""
-        r, entries, self.unit = Reader(self.info, unit.first), self.tables[unit.abbreviations].entries, unit
+        r, table, self.unit, depth = Reader(self.info, unit.first), self.tables[unit.abbreviations], unit, 0
         while r.at < unit.end:
             at, code = r.at, r.uleb()
             if code:
-                tag, attributes = entries[code]
+                tag, attributes = table.entries[code]
+                self.depth = depth  # in how many others it is
                 yield at, code, tag, [self.attribute_at(r, *it) for it in attributes]
+            depth += (code in table.parents) - (code == 0)
 
     def attribute_at(self, r, name, form, value, change):
         """Reads an attribute."""

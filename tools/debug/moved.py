@@ -207,7 +207,8 @@ class Moved(Items):
         moved = self.expression(it.value, self.function)
         if it.name == LOCATION and tag in (VARIABLE, PARAMETER) and named_in(it.value) - {14, 30}:
             moved = None
-        if it.name == LOCATION and self.function in self.move.untracked and it.value[0] == ADDRESS:
+        is_inner = self.depth > 1 and self.function in self.move.untracked
+        if it.name == LOCATION and is_inner and it.value[0] == ADDRESS:
             moved = None  # (gdb 13 ends by a fault on some, and an author asks for none of them)
         # (what can't be told any more has an operation that gdb has no value of)
         self.info[it.end - len(it.value):it.end] = moved or b"\x96" * (len(it.value) - 1) + b"\x30"
