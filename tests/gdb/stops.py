@@ -53,7 +53,7 @@ def list_session(work, windows):
         asked(work, gdb, name, "backtrace", r"#0 .* take \(it=.*<items\+12>\) at list\.c:13",
               r"#1 .* main \(\) at list\.c:20")
         asked(work, gdb, name, "print n", "= 10")
-        asked(work, gdb, name, "print $turn", "= 362")
+        asked(work, gdb, name, "print $turn", "= 334")
         asked(work, gdb, name, "delete", "")
         asked(work, gdb, name, "continue", r"list\.c:23: a pointer leaves")
         asked(work, gdb, name, "continue", "")
