@@ -62,8 +62,8 @@ static REFUSED: [(&str, &str); 19] = [
         "t.s:5: refused: the address of the function f is taken: name it, by a switch",
     ),
     (
-        " retl\n nop\nf:\n retl\n nop\n.section \".rodata\"\n.align 4\ntable:\n .long f+4",
-        "t.s:13: refused: the address of the function f is taken: name it, by a switch",
+        " sethi %hi(table),%o0\n retl\n nop\nf:\n retl\n nop\n.section \".rodata\"\n.align 4\ntable:\n .long f+4",
+        "t.s:14: refused: the address of the function f is taken: name it, by a switch",
     ),
     // Floating point, `alloca`, and what inline assembly may hold.
     (
@@ -84,8 +84,9 @@ static REFUSED: [(&str, &str); 19] = [
     ),
     // As many bytes as an image's data may have, without room around them.
     (
-        " retl\n nop\n.section \".bss\"\n.align 8\nsmall:\n .skip 8\nlarge:\n .skip 262136",
-        "t.s:11: refused: more than 262144 bytes of data",
+        " sethi %hi(small),%o0\n sethi %hi(large),%o0\n retl\n nop\n.section \".bss\"\n.align 8\nsmall:\n .skip 8\n\
+         large:\n .skip 262136",
+        "t.s:6: refused: more than 262144 bytes of data",
     ),
 ];
 
