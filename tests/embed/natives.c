@@ -109,9 +109,11 @@ static outcome in_pieces(geyserpan_engine *engine, bytes input, uint8_t *room, p
     uint64_t allowed = 0;
     do {
         size_t next = input.length - read < by.piece ? input.length - read : by.piece;
-        uint8_t *to = room + out.length, guard = to[most];
+        const uint8_t guard = 0xA5;
+        uint8_t *to = room + out.length;
         const uint8_t *from = next ? input.at + read : &nothing;
         uint64_t before = out.done.turns;
+        to[most] = guard;
         out.status = geyserpan_engine_step(engine, by.turns, from, next, read + next == input.length, to, most,
                                            &out.done);
         /* turns that were allowed and not made are no longer allowed, but for those that are put by */
