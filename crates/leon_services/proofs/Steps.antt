@@ -141,7 +141,8 @@ module _ (n : ℕ) (c : Control) (w : ℕ) (x : Inside) where
   }
 
   -- inc %l4
-  pub adds_one : (p : ℕ) → slice_index x.row 12 ≡ p → p + 1 < 2 ^ 32 → w < length x.rows → Next (Compute ops.Add (fields 20 20 (Immediate 1))) (record x { row = slice_set x.row 12 (p + 1) })
+  pub adds_one : (p : ℕ) → slice_index x.row 12 ≡ p → p + 1 < 2 ^ 32 → w < length x.rows →
+      Next (Compute ops.Add (fields 20 20 (Immediate 1))) (record x { row = slice_set x.row 12 (p + 1) })
   unfolding outcome
   adds_one p is small there =
       let sum : (p + 1 + from_flag false) % 2 ^ 32 ≡ p + 1 = omega arith in
@@ -261,7 +262,8 @@ module _ (n : ℕ) (c : Control) (w : ℕ) (x : Inside) where
       is = local_written n c w x rd (slice_index cells j) there low high;
     }
 
-    pub loads_pair : (rd j p q : ℕ) (o : Operand) → j + 1 < 12 → j % 2 ≡ 0 → 16 ≤ rd → rd < 24 → rd % 2 ≡ 0 → slice_index cells j ≡ p → slice_index cells (j + 1) ≡ q → q < 2 ^ 32 →
+    pub loads_pair : (rd j p q : ℕ) (o : Operand) → j + 1 < 12 → j % 2 ≡ 0 → 16 ≤ rd → rd < 24 → rd % 2 ≡ 0 →
+        slice_index cells j ≡ p → slice_index cells (j + 1) ≡ q → q < 2 ^ 32 →
         address_of n here 19 o ≡ 0xF0010000 + 4 * j →
         Reaches n b mmu y root running old old c w x cells (Load loadings.Double) rd 19 o (goes (record x { row = slice_set (slice_set x.row (rd - 8) p) (rd - 7) q })) cells
     unfolding taken advanced
