@@ -16,8 +16,8 @@ pub struct Policy {
     pub turns: u64,
 }
 
-/// What is granted where nobody says otherwise: to read, to write and to end, and as many turns as an image of `cc` asks
-/// for.
+/// What is granted where nobody says otherwise: to read, to write and to end, and as many turns as an image of `cc`
+/// asks for.
 pub const POLICY: Policy = Policy {
     services: Services(7),
     turns: 1_000_000_000,
