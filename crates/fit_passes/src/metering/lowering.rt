@@ -3,25 +3,35 @@ use fit_code::Block;
 use fit_fuel::{Meter, number_in};
 use v8_formats::{Instr, Operand, Three, Upper, encode};
 
-/// How often an instruction stands among the steps of a block, or in the slot of its end.
+/// Whether an instruction of a word stands in a slot.
+fn is_in(slot: &Option<Instr>, word: u32) -> bool {
+    matches!(slot, Some(instr) if encode(instr) == word)
+}
+
+/// How often an instruction stands among the steps of a block, or in the slots of its calls and of its end.
 fn count_of(block: &Block, instr: &Instr) -> usize {
     let word = encode(instr);
-    let mut count = usize::from(matches!(&block.slot, Some(slot) if encode(slot) == word));
+    let mut count = usize::from(is_in(&block.slot, word));
     for step in block.steps.as_slice() {
         count = count.saturating_add(usize::from(encode(&step.instr) == word));
+        count = count.saturating_add(usize::from(is_in(&step.slot, word)));
     }
     count
 }
 
-/// Puts an instruction in the place of another one among the steps of a block, and in the slot of its end.
+/// Puts an instruction in the place of another one among the steps of a block, and in the slots of its calls and of its
+/// end.
 fn replace(block: &mut Block, old: &Instr, new: &Instr) {
     let word = encode(old);
-    if matches!(&block.slot, Some(slot) if encode(slot) == word) {
+    if is_in(&block.slot, word) {
         block.slot = Some(*new);
     }
     for step in block.steps.as_mut_slice() {
         if encode(&step.instr) == word {
             step.instr = *new;
+        }
+        if is_in(&step.slot, word) {
+            step.slot = Some(*new);
         }
     }
 }
