@@ -9,7 +9,7 @@ from run import EXAMPLES, FIT, SANDBOX, TOP, Ran, has, put, run_within
 HERE = os.path.dirname(os.path.abspath(__file__))
 SPARC = "sparc64-linux-gnu-gcc"
 # So many seconds may a native program or an image run.
-SECONDS = 20
+SECONDS = 60
 # The compiler's assembly that is stored beside the programs of examples/c.
 STORED = f"{EXAMPLES}/c/gcc"
 
@@ -63,8 +63,9 @@ def inputs_like(stored, count, chance):
             yield bytes([chance.randrange(10, 60), *wide])
 
 
-# So many turns may a run by the model take, and so many of a program's inputs are run on the board as well.
-MOST_TURNS, ON_BOARD = 2 * 10**8, 3
+# So many seconds may a run under qemu take, so that what is compared isn't long for others either; so many turns a run
+# by the model; and so many of a program's inputs are run on the board as well.
+BRIEF, MOST_TURNS, ON_BOARD = 1, 2 * 10**9, 3
 
 
 def framed(inputs):
@@ -83,7 +84,7 @@ def outputs_in(told):
 
 def runs_under_qemu(program, inputs):
     """What a program of `under_qemu` comes to on each input: its status and its output; none where it has no end."""
-    ran = run_within(program, framed(inputs), SECONDS)
+    ran = run_within(program, framed(inputs), BRIEF)
     return [None if word == 2 else Ran(word, out, b"") for word, out in outputs_in(ran.out)]
 
 
