@@ -60,6 +60,9 @@ def try_words(author):
     image = author.at("x.img")
     author.called(3, USAGE)
     author.called(0, USAGE, "--help")
+    for tool in CC, PLUS:
+        author.called(0, "compiler sparc64-linux-gnu-gcc", "--version", tool=tool)
+    author.called(0, "compiler none", "--version", env={**os.environ, "CC_SPARC": "nothing"})
     author.called(3, USAGE, UPPER)
     author.called(3, USAGE, "-o", image)
     author.called(3, USAGE, UPPER, "-o", image, "--frobnicate")

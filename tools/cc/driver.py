@@ -8,7 +8,7 @@ import sys
 import tempfile
 
 from assembly import LAST, Assembly, started, where, without_traps
-from compilers import TOP, compiler_of, limited
+from compilers import TOP, compiler_of, found_compiler, limited
 from fault import Fault
 from request import ending_of, request_of
 from runtime import Runtime
@@ -263,11 +263,25 @@ def usage_of(name):
         if name == "c++" else text
 
 
+def version():
+    """What this checkout is, and the compiler that it calls; none where none is there."""
+    told = subprocess.run([f"{TOP}/tools/release/version"], stdout=subprocess.PIPE, text=True, check=False).stdout
+    try:
+        path = os.environ.get("CC_SPARC") or found_compiler()
+        ran = subprocess.run([path, "--version"], stdout=subprocess.PIPE, text=True, errors="replace", check=False)
+        return f"{told}compiler {ran.stdout.partition(chr(10))[0]}"
+    except (Fault, OSError):
+        return f"{told}compiler none"
+
+
 def main(name, words):
     """Does what the words ask for; returns the status."""
     try:
         if "--help" in words or "-h" in words:
             print(usage_of(name), end="")
+            return 0
+        if "--version" in words:
+            print(version())
             return 0
         return perform(request_of(name, words))
     except Fault as fault:
