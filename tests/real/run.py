@@ -16,6 +16,7 @@ import subprocess
 import sys
 import tarfile
 import tempfile
+import threading
 
 sys.dont_write_bytecode = True
 HERE = os.path.dirname(os.path.abspath(__file__))
@@ -64,6 +65,7 @@ class Sources:
         own = (f"Etc::sourcelist={folder}/apt/sources.list", "Etc::sourceparts=/dev/null",
                f"State::lists={folder}/apt/lists")
         self.options = [word for it in own for word in ("-o", f"Dir::{it}")]
+        self.turn = threading.Lock()  # (units are tried side by side, and apt-get takes one call at a time)
 
     def apt(self, *words):
         """Calls apt-get with the package list of this folder."""
@@ -79,6 +81,11 @@ class Sources:
 
     def of(self, package):
         """The folder of a package's sources; None where they can't be had."""
+        with self.turn:
+            return self.fetched(package)
+
+    def fetched(self, package):
+        """The same, for one caller at a time."""
         place = f"{self.folder}/{package}"
         if not os.path.isdir(place):
             self.prepare()
