@@ -22,13 +22,13 @@ _Static_assert((GEYSERPAN_ARENA) % UNIT == 0 && (GEYSERPAN_ARENA) >= 4 * UNIT,
 _Static_assert(sizeof(unsigned) == 4, "heads are words of 4 bytes");
 
 /* (a block holds any type, and its head lies among them) */
-typedef unsigned __attribute__((__may_alias__)) word;
+typedef unsigned __attribute__((__may_alias__)) __word;
 
-static word arena[GEYSERPAN_ARENA / sizeof(word)] __attribute__((__aligned__(UNIT)));
+static __word arena[GEYSERPAN_ARENA / sizeof(__word)] __attribute__((__aligned__(UNIT)));
 static unsigned next, is_begun;
 
 /* The head of the block that begins at a unit. */
-static word *head_at(unsigned unit) { return &arena[unit * 2 + 1]; }
+static __word *head_at(unsigned unit) { return &arena[unit * 2 + 1]; }
 static unsigned size_at(unsigned unit) { return *head_at(unit) >> 1; }
 static int is_used(unsigned unit) { return *head_at(unit) & USED; }
 static void set(unsigned unit, unsigned size, unsigned used) { *head_at(unit) = size << 1 | used; }

@@ -3,11 +3,11 @@
 #include <stdlib.h>
 
 /* (elements of any type are exchanged as words, where they lie at multiples of 4) */
-typedef unsigned __attribute__((__may_alias__)) word;
+typedef unsigned __attribute__((__may_alias__)) __word;
 
 static void exchange_words(char *a, char *b, size_t size) {
-    for (size_t at = 0; at < size; at += sizeof(word)) {
-        word *one = (word *)(a + at), *other = (word *)(b + at), kept = *one;
+    for (size_t at = 0; at < size; at += sizeof(__word)) {
+        __word *one = (__word *)(a + at), *other = (__word *)(b + at), kept = *one;
         *one = *other;
         *other = kept;
     }
@@ -46,7 +46,7 @@ static void sink(const struct heap *heap, size_t root, size_t end) {
 }
 
 void qsort(void *array, size_t count, size_t size, int (*compare)(const void *, const void *)) {
-    struct heap heap = {array, size, ((uintptr_t)array | size) % sizeof(word) == 0, compare};
+    struct heap heap = {array, size, ((uintptr_t)array | size) % sizeof(__word) == 0, compare};
     if (count < 2 || size == 0) return;
     for (size_t root = count / 2; root-- > 0;) sink(&heap, root * size, count * size);
     for (size_t end = (count - 1) * size; end > 0; end -= size) {

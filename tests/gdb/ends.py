@@ -1,5 +1,6 @@
 """Exit words of tests in words, and what ./cc leaves beside an image."""
 import glob
+import json
 import os
 import re
 
@@ -18,6 +19,10 @@ ENDS = {
     "f7": ("put(ways[", "a call through a pointer that is no function's",
            "a call through a pointer that is no function's"),
 }
+# In what readelf tells: an item, a function that is called, and the items of places that are called from.
+ITEM = re.compile(r" *<\w+><(\w+)>: Abbrev Number: \d+ \((\w+)\)")
+CALLED = re.compile(r"DW_AT_(?:call|abstract)_origin *: <0x(\w+)>")
+CALLS = ("DW_TAG_call_site", "DW_TAG_GNU_call_site")
 SIGNALS = {"i9": "SIGSEGV", "p9": "SIGSEGV", "d0": "SIGFPE", "l1": "SIGXCPU", "s9": "SIGSEGV", "f7": "SIGSEGV"}
 
 
@@ -46,6 +51,7 @@ def ends(work):
         wanted = f"{place}: {why}", f"line {line_of(text)}: "
         by_program(work, "host", ["--max-turns", "1000000000000", image], given, wanted)
         by_program(work, "native", [image], given, wanted)
+        by_report(work, image, given, wanted[0])
     deep(work)
     against = put(work.at("against.in"), "i9")
     told = run([CC, KINDS, "--turns", "100000", "--against", against]).said
@@ -112,6 +118,20 @@ def by_program(work, name, words, given, wanted):
                          f"wanted {it}, came {ran.said}")
 
 
+def by_report(work, image, given, wanted):
+    """What a report of ./host's tells of an end, with the map: beside what it tells without."""
+    if not os.path.exists(program("host")):
+        work.tally.skip(f"host's report on {given}", "the program host")
+        return
+    words = [f"{TOP}/host", "run", "--report", "json", "--max-turns", "1000000000000"]
+    mapped, plain = (run([*words, *more, image], given.encode()) for more in (["--map", map_of(image)], []))
+    told, own = json.loads(mapped.err), json.loads(plain.err)
+    work.tally.check(f"host run --report json --map on {given}", wanted in told.pop("why", "nothing"), mapped.said)
+    for it in told, own:  # (what is left of a pipe, without a map, isn't always known)
+        del it["input_left"]
+    work.tally.same(f"host's report without a map on {given}", (told, mapped.status), (own, plain.status))
+
+
 def by_page(work, image, given, wanted):
     """What a page's data tell of an end, in hexadecimal."""
     words = [INSPECT, "page", "--limit", "1000000", "--map", map_of(image), image]
@@ -147,15 +167,35 @@ def same_images(work):
                 lines_of_ends(work, name, work.at("mapped.map"))
 
 
+def called_in_pieces(told):
+    """How many places of calls, in what readelf tells of items, refer to a function's item that has ranges: gdb 13
+    gives these too little room, and may end by a fault."""
+    ranged, called, item = set(), [], None
+    for line in told.splitlines():
+        if found := ITEM.match(line):
+            item = found
+        elif item and "DW_AT_ranges" in line:
+            ranged.add(item[1])
+        elif item and item[2] in CALLS and (found := CALLED.search(line)):
+            called.append(found[1])
+    return sum(it in ranged for it in called)
+
+
 def read_whole(work):
-    """gdb reads the file of a program on one of whose library's variables gdb 13 itself ends by a fault, which isn't
-    told then."""
-    elf, path = work.at("json.elf"), f"{TOP}/tests/cc/programs/json.c"
-    made = run([CC, "-Og", path, "--debug", "-o", work.at("json.img")], seconds=600)
-    if work.tally.check("json.c is made", made.status == 0, made.said) and has(GDB):
-        asked = ["-ex", "maint expand-symtabs", "-ex", "info line main"]
-        ran = run([GDB, "-q", "-nx", "-batch", *asked, elf], seconds=600)
-        work.tally.check("gdb reads json.elf", ran.status == 0 and "json.c\" starts at" in ran.said, ran.said[-300:])
+    """gdb reads whole what is told of a function in many pieces that is called from many places, and of a program with
+    much of the library; a variable of the library's is told as it is."""
+    for path, level, asked, wanted in (
+            (f"{HERE}/programs/calls.c", "-O2", "print sizeof sums", "$1 = 64"),
+            (f"{TOP}/tests/cc/programs/json.c", "-Og", "print short_number::powers[3]", "$1 = 1000")):
+        name, elf = os.path.basename(path), work.at("whole.elf")
+        made = run([CC, level, path, "--debug", "-o", work.at("whole.img")], seconds=600)
+        if not work.tally.check(f"{name} {level} is made", made.status == 0, made.said):
+            continue
+        work.tally.check(f"{name} {level}: variables", "no variables" not in made.said, made.said)
+        if has(GDB):
+            ran = run([GDB, "-q", "-nx", "-batch", "-ex", "maint expand-symtabs", "-ex", asked, elf], seconds=600)
+            work.tally.check(f"gdb reads whole what is told of {name}", ran.status == 0 and wanted in ran.said,
+                             ran.said[-300:])
 
 
 def images(work):
@@ -180,6 +220,8 @@ def images(work):
         lines_of_ends(work, name, work.at("mapped.map"))
         if has("sparc64-linux-gnu-readelf"):
             shown = "--debug-dump=info,line,loc,Ranges,frames"
-            told = run(["sparc64-linux-gnu-readelf", shown, work.at("debugged.elf")]).err.decode()
-            bad = [it for it in told.splitlines() if "rror" in it]
+            ran = run(["sparc64-linux-gnu-readelf", shown, work.at("debugged.elf")], seconds=300)
+            bad = [it for it in ran.err.decode().splitlines() if "rror" in it]
             work.tally.check(f"{name}: the ELF file is read", not bad, "; ".join(bad[:3]))
+            count = called_in_pieces(ran.out.decode("utf-8", "replace"))
+            work.tally.same(f"{name}: calls of functions in pieces", count, 0)

@@ -45,11 +45,11 @@ class Abbreviations:
 
     def __init__(self, data, at):
         self.data, self.start = data, at
-        self.entries, self.spans, self.wider, self.copies = {}, {}, {}, bytearray()
+        self.entries, self.spans, self.others, self.copies = {}, {}, {}, bytearray()
         self.parents = set()  # the codes of items that have others within
         r = Reader(data, at)
         while code := r.uleb():
-            start, tag, has_children, attributes, places = r.at, r.uleb(), r.number(1), [], {}
+            start, tag, has_children, attributes, places, ends = r.at, r.uleb(), r.number(1), [], {}, {}
             if has_children:
                 self.parents.add(code)
             while True:
@@ -58,10 +58,10 @@ class Abbreviations:
                 value = r.sleb() if form == CONSTANT else None
                 if not name:
                     break
-                places[name] = place
+                places[name], ends[name] = place, r.at
                 attributes.append([name, form, value, None])
             self.spread(tag, attributes, places)
-            self.entries[code], self.spans[code] = (tag, attributes), (start, r.at, places.get(LOCATION))
+            self.entries[code], self.spans[code] = (tag, attributes), (start, r.at, places, ends)
         self.end = r.at
 
     def spread(self, tag, attributes, places):
@@ -75,15 +75,15 @@ class Abbreviations:
             self.data[places[LOW]] = 0x06  # no attribute has this number
             self.data[places[HIGH]], self.data[places[HIGH] + 1] = RANGES, OFFSET_FORM
 
-    def wide(self, code):
-        """The code of an abbreviation that is another one, but for a list of places in the place of one."""
-        if code not in self.wider:
-            start, end, location = self.spans[code]
-            entry = bytearray(self.data[start:end])
-            entry[location + 1 - start] = OFFSET_FORM
-            self.wider[code] = max(self.entries) + len(self.wider) + 1
-            self.copies += uleb(self.wider[code]) + entry
-        return self.wider[code]
+    def other(self, code, name, form):
+        """The code of an abbreviation that is another one, but for an attribute: `form` is its name and form there. Of
+        each one attribute is another at the most."""
+        if code not in self.others:
+            start, end, places, ends = self.spans[code]
+            self.others[code] = max(self.entries) + len(self.others) + 1
+            self.copies += uleb(self.others[code]) + self.data[start:places[name]] + form
+            self.copies += self.data[ends[name]:end]
+        return self.others[code]
 
     def written(self):
         """The table as it is now."""
@@ -150,10 +150,15 @@ class Items:
     # ---- other sizes
 
     def widen(self, unit, at, code, attribute):
-        """Gives room for a word to an attribute of an item, and the item another abbreviation."""
-        wider = self.tables[unit.abbreviations].wide(code)
-        self.edits += [(at, at + len(uleb(code)), uleb(wider)), (attribute.place, attribute.end, None)]
+        """Gives a place's attribute room for a list of places."""
+        self.replace(unit, at, code, attribute, bytes([LOCATION, OFFSET_FORM]), None)
         self.wide[attribute.place] = bytes(4)
+
+    def replace(self, unit, at, code, attribute, form, value):
+        """Puts another attribute, of a name and a form, in the place of an item's, and gives the item another
+        abbreviation."""
+        other = self.tables[unit.abbreviations].other(code, attribute.name, form)
+        self.edits += [(at, at + len(uleb(code)), uleb(other)), (attribute.place, attribute.end, value)]
 
     def give_room(self, attribute, expression):
         """Puts an expression of another size in an attribute's place."""

@@ -10,7 +10,7 @@ GDB_FAULT = "gdb itself ends by a fault on what the compiler tells of them"
 
 
 def is_read(path):
-    """Whether gdb reads an ELF file whole, where gdb is there: 13.1 itself ends by a fault on some."""
+    """Whether gdb reads an ELF file whole, where gdb is there, and doesn't itself end by a fault."""
     gdb = shutil.which("gdb-multiarch") or shutil.which("gdb")
     if not gdb:
         return True

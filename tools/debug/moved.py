@@ -2,19 +2,25 @@
 addresses. What lies together in the compiler's code need not in the image, so ranges, lists of places and lines are
 written anew; what moved where is known of each word (origins.py)."""
 import bisect
+import collections
 import os
 import struct
 
 from dwarf import END_SEQUENCE, Reader, set_address, sized, sleb, uleb
-from items import (ADDRESS_FORM, EXPRESSION, HIGH, LINE_STRING, LOCATION, LOW, OFFSET_FORM, RANGES, STRING, UNIT, INDEX,
-                   Items)
+from items import (ADDRESS_FORM, EXPRESSION, FULL_REFERENCE, INDEX, LINE_STRING, LOCATION, LOW, OFFSET_FORM, RANGES,
+                   REFERENCE, STRING, UNIT, Items)
 from lists import Lists, OldLists
-from loaded import CODE
+from loaded import CODE, TOP
 
 # Attributes and tags that are looked at.
 FRAME_BASE, DATA_LOCATION, FOLDER, LINES, ENTRY = 0x40, 0x46, 0x1B, 0x10, 0x52
 RETURN, CALL_PC, CALL_VALUE = 0x7D, 0x81, 0x7E
+NAME, COLUMN, SOURCE, EXTERNAL, ORIGIN, IN_STRINGS = 0x03, 0x39, 0x3A, 0x3F, 0x31, 0x0E
 FUNCTION, VARIABLE, PARAMETER = 0x2E, 0x34, 0x05
+# The function that is called at a place, by the items of such places; and where it begins, as an expression.
+CALLED = {0x48: 0x7F, 0x4109: ORIGIN}
+CALL_TARGET = uleb(0x83) + bytes([EXPRESSION])
+LIBRARY = f"{TOP}/runtime/"
 # What stands behind an operation of an expression: bytes, u and s numbers, b and B blocks; and items that are referred
 # to: r in all of them, c in a unit, and t a type in a unit, as a number.
 OPERANDS = {0x03: "4", 0x08: "1", 0x09: "1", 0x0A: "2", 0x0B: "2", 0x0C: "4", 0x0D: "4", 0x0E: "8", 0x0F: "8",
@@ -115,17 +121,22 @@ class Moved(Items):
         self.lists = self.of_version[5]
         self.programs, self.written = bytearray(), {}
         self.low, self.function, self.extent = 0, 0, []
-        for do in (self.find_wide, self.move_items):
+        self.names, self.paths = bytearray(linked.sections.get(".debug_str", b"")), []
+        # of each function's item where the function begins now; of a variable's whose place another item tells, that
+        self.begins, self.placed = {}, {}
+        # names of variables; the items of those at the outside of a unit that others tell the rest of
+        self.named, self.outer, self.is_unclear = {}, [], False
+        for do in (self.find_begins, self.find_wide, self.move_items):
             for unit in self.units:
                 self.lists, self.low, self.function, self.extent = self.of_version[unit.version], 0, 0, []
                 do(unit)
 
     def sections(self):
         """The sections with what they hold."""
-        other, (info, abbreviations) = self.linked.sections, self.assembled()
+        info, abbreviations = self.assembled()
         return [(".debug_info", info), (".debug_abbrev", abbreviations), (".debug_line", bytes(self.programs)),
                 *(section for it in self.of_version.values() for section in it.written()),
-                (".debug_str", other.get(".debug_str", b"")), (".debug_line_str", bytes(self.strings))]
+                (".debug_str", bytes(self.names)), (".debug_line_str", bytes(self.strings))]
 
     # ---- items
 
@@ -135,19 +146,101 @@ class Moved(Items):
         variables lie in memory, and a register isn't told."""
         found, has_lists = [], False
         for at, code, tag, attributes in self.items(unit):
+            if tag == VARIABLE:
+                self.find_static(unit, at, code, attributes)
             for it in attributes:
                 self.find_function(tag, it)
+                if it.name == LINES:
+                    self.paths = self.paths_of(it.value)
                 if it.name == FRAME_BASE and it.value in BY_FP_ITSELF:
                     self.give_room(it, self.move.frame(self.function).base)
                 has_lists |= it.name == LOCATION and it.form == OFFSET_FORM
+                if it.name == CALLED.get(tag) and it.form in (REFERENCE, FULL_REFERENCE):
+                    self.name_target(unit, at, code, it)
                 if it.name == LOCATION and it.form == EXPRESSION and tag in (VARIABLE, PARAMETER):
                     found += [(at, code, it)] * bool(named_in(it.value) - {14, 30})
         for at, code, it in found if has_lists else ():
             self.widen(unit, at, code, it)
 
+    def find_begins(self, unit):
+        """Notes where the functions of a unit begin now, which is where the first one of their ranges does, and places
+        of variables that other items tell the rest of."""
+        for at, _, tag, attributes in self.items(unit):
+            low, by_name = 0, {it.name: it for it in attributes}
+            for it in attributes:
+                self.find_function(tag, it)
+                low = it.value if it.name == LOW and it.form == ADDRESS_FORM else low
+                if tag == FUNCTION and it.change == "ranges":
+                    self.begins[at] = self.begin([(low, low + it.value)])
+                elif tag == FUNCTION and it.name == RANGES and it.form == OFFSET_FORM:
+                    self.begins[at] = self.begin(self.lists.ranges(it.value, self.low))
+            if tag == VARIABLE:
+                self.find_place(unit, at, by_name)
+
+    def find_place(self, unit, at, by_name):
+        """Notes a variable's name, or its place in the data where another item tells the rest of it."""
+        place, origin, name = (by_name.get(it) for it in (LOCATION, ORIGIN, NAME))
+        if name:
+            self.named[at] = self.text(name)
+        elif place and origin and place.form == EXPRESSION and len(place.value) == 5 and place.value[0] == ADDRESS:
+            target = self.target(unit, origin)
+            self.placed[target] = self.expression(place.value, self.function)
+            self.outer += [(unit.at, at, target)] * (self.depth == 1)
+
+    def unclear(self):
+        """The items of variables of one unit that share their name, of two files: gdb would find any of them."""
+        named = {(unit, target): (unit, self.named.get(target)) for unit, _, target in self.outer}
+        counts = collections.Counter(named.values())
+        return {at for unit, at, target in self.outer if counts[named[unit, target]] > 1}
+
+    def begin(self, ranges):
+        """Where the first one of some ranges is now; 0 where none is there."""
+        return next((now[0] for was in ranges for now in self.move.ranges(*was)), 0)
+
+    @staticmethod
+    def target(unit, it):
+        """The place of the item that an attribute refers to."""
+        return it.value + (unit.at if it.form == REFERENCE else 0)
+
+    def name_target(self, unit, at, code, it):
+        """Has a place of a call name the address that is called, in the place of the function's item: gdb 13 gives the
+        ranges of such a function too little room, and may end by a fault."""
+        begin = self.begins.get(self.target(unit, it))
+        if begin is not None:
+            self.replace(unit, at, code, it, CALL_TARGET, block(bytes([ADDRESS]) + struct.pack(">I", begin)))
+
+    def find_static(self, unit, at, code, attributes):
+        """gcc tells the places of all files' static variables in one unit, where gdb finds one by its name alone. So a
+        variable's own file tells its place, too, where its column was told; and those of the library get names that
+        authors don't use."""
+        by_name = {it.name: it for it in attributes}
+        name, source = by_name.get(NAME), by_name.get(SOURCE)
+        if self.placed.get(at) and COLUMN in by_name and LOCATION not in by_name:
+            place = bytes([LOCATION, EXPRESSION])
+            self.replace(unit, at, code, by_name[COLUMN], place, block(self.placed[at]))
+        path = self.paths[source.value:source.value + 1] if source else []
+        if self.depth == 1 and name and LOCATION in by_name and EXTERNAL not in by_name and path and \
+                path[0].startswith(LIBRARY):
+            self.rename(name)
+
+    def text(self, it):
+        """The text of an attribute."""
+        return it.value if it.form == STRING else Reader(self.names, it.value).string()
+
+    def rename(self, it):
+        """Gives an item the name that it has with two low lines before it."""
+        name = b"__" + os.fsencode(self.text(it)) + b"\0"
+        if it.form == STRING:
+            self.edits.append((it.place, it.end, name))
+        else:
+            self.put(it.place, len(self.names))
+            self.names += name
+
     def move_items(self, unit):
         """Moves the items of a unit."""
+        unclear = self.unclear()
         for item in self.items(unit):
+            self.is_unclear = item[0] in unclear
             self.item(*item)
 
     def find_function(self, tag, it):
@@ -207,9 +300,8 @@ class Moved(Items):
         moved = self.expression(it.value, self.function)
         if it.name == LOCATION and tag in (VARIABLE, PARAMETER) and named_in(it.value) - {14, 30}:
             moved = None
-        is_inner = self.depth > 1 and self.function in self.move.untracked
-        if it.name == LOCATION and is_inner and it.value[0] == ADDRESS:
-            moved = None  # (gdb 13 ends by a fault on some, and an author asks for none of them)
+        if it.name == LOCATION and self.is_unclear:
+            moved = None
         # (what can't be told any more has an operation that gdb has no value of)
         self.info[it.end - len(it.value):it.end] = moved or b"\x96" * (len(it.value) - 1) + b"\x30"
 
@@ -284,6 +376,11 @@ class Moved(Items):
 
     # ---- lines
 
+    def paths_of(self, offset):
+        """The paths of the files that a line program names, by their numbers."""
+        table = lines_of(self.linked.sections[".debug_line"], offset, self.linked.sections)[1]
+        return [os.path.realpath(os.path.join(self.work, it)) for it in table.paths(self.work)]
+
     def lines(self, offset):
         """Moves a line program, by the head that it has, so that its numbers of files hold; returns where it is."""
         if offset in self.written:
@@ -308,6 +405,11 @@ class Moved(Items):
         self.written[offset] = at = len(self.programs)
         self.programs += sized(head + bytes(out))
         return at
+
+
+def block(expression):
+    """An expression with its size before it."""
+    return uleb(len(expression)) + expression
 
 
 def named_in(expression):
