@@ -20,7 +20,7 @@ from run import built, has, put, text_of
 from tally import Tally, Words
 
 # The seconds that a command may take, above all one that waits for a keystroke.
-PATIENCE = 60
+PATIENCE = 300
 # What a session needs, by Debian's packages.
 NEEDED = {"gdb-multiarch": "gdb-multiarch", "sparc64-linux-gnu-gcc": "gcc-sparc64-linux-gnu"}
 PROMPT = "(gdb) "

@@ -1,4 +1,5 @@
 """gdb by its machine interface, on a run or on a program for this machine."""
+import glob
 import os
 import re
 import select
@@ -68,6 +69,20 @@ class Gdb:
     def value(self, expression):
         """The value of an expression, as gdb prints it."""
         return self.told(f"output {expression}").strip()
+
+    def spent(self):
+        """The seconds of processor that gdb has taken, and all that it started."""
+        times, below = {}, {self.process.pid}
+        for path in glob.glob("/proc/[0-9]*/stat"):
+            try:
+                with open(path, encoding="utf-8", errors="replace") as file:
+                    told = file.read().rpartition(")")[2].split()
+            except OSError:  # (it has ended)
+                continue
+            times[int(path.split("/")[2])] = int(told[1]), sum(map(int, told[11:15]))
+        for _ in range(4):  # (gdb, a shell, the server, and what that starts)
+            below |= {it for it, (parent, _) in times.items() if parent in below}
+        return sum(times[it][1] for it in below if it in times) / os.sysconf("SC_CLK_TCK")
 
     def close(self):
         """Ends gdb."""

@@ -13,7 +13,8 @@ all where none is named (tests/run docs plays the sessions of the pages):
   values     values of variables beside those of the same program for this machine
   packets    20,000 random packets: answers, no crash, no hang
   refused    files that aren't there, or another image's: a line each
-  speed      runs of 100,000 and 1,000,000 turns; with --long of 10,000,000: each step takes less than a second
+  speed      runs of 100,000 and 1,000,000 turns; with --long of 10,000,000: each step takes less than a second of
+             processor
 
 Without gdb-multiarch, or a compiler for SPARC, what needs it is skipped."""
 import os
