@@ -81,5 +81,7 @@ def refused(work):
         work.tally.check(f"inspect gdb {name}", ran.status == status and is_told,
                          f"wanted {status} {told}, came {ran.status} {ran.said}")
     ran = run([INSPECT, "gdb", "--limit", "3", hello], asked + framed(b"c") + framed(b"c") + framed(b"D"))
-    work.tally.check("a limit that is met", b"replaylog:end" in ran.out and ran.status == 0, ran.said)
+    told = b"the limit: the run would go on behind turn 3".hex().encode()
+    is_told = b"replaylog:end" in ran.out and told in ran.out
+    work.tally.check("a limit that is met", is_told and ran.status == 0, ran.said)
     work.tally.check("hello.img stands", bytes_of(hello)[:4] == b"SBX8")
