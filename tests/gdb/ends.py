@@ -206,15 +206,15 @@ def images(work):
     for path in sources:
         name = os.path.basename(path)
         plain, mapped, debugged = (work.at(f"{it}.img") for it in ("plain", "mapped", "debugged"))
-        made = [run([CC, path, *words, "-o", out]) for out, words in ((plain, ()), (mapped, ("--map",)),
-                                                                      (debugged, ("--debug",)))]
+        made = [run([CC, path, *words, "-o", out], seconds=600)
+                for out, words in ((plain, ["--notes"]), (mapped, ["--map"]), (debugged, ["--debug"]))]
         if not work.tally.check(f"{name} is made", all(it.status == 0 for it in made), made[-1].said):
             continue
         work.tally.same(f"{name} with --map", bytes_of(mapped), bytes_of(plain))
         work.tally.same(f"{name} with --debug", bytes_of(debugged), bytes_of(plain))
         work.tally.check(f"{name}: variables", "no variables" not in made[-1].said, made[-1].said)
-        said = run([CC, path, "--notes", "-o", plain]).said.splitlines()
-        notes = sorted(it.partition(": note: ")[0] for it in said if ": note: " in it and "main is" not in it)
+        said = [it for it in made[0].said.splitlines() if ": note: " in it and "main is" not in it]
+        notes = sorted(it.partition(": note: ")[0] for it in said)
         told = re.findall(r"^test \d+ \d+ (.*?:\d+) ", text_of(work.at("mapped.map")), re.M)
         work.tally.same(f"{name}: tests in the map", sorted(told), notes)
         lines_of_ends(work, name, work.at("mapped.map"))
