@@ -144,7 +144,7 @@ class Moved(Items):
         """Gives lists of places to the variables of a unit that have one place, a register: it holds them no longer
         at all words. Where the compiler made no lists gdb trusts no list either at a function's begin: such a unit's
         variables lie in memory, and a register isn't told."""
-        found, has_lists = [], False
+        found, has_lists, self.paths = [], False, []
         for at, code, tag, attributes in self.items(unit):
             if tag == VARIABLE:
                 self.find_static(unit, at, code, attributes)
