@@ -10,7 +10,7 @@ import tempfile
 import time
 
 # The seconds that a page may take until it says that it is ready, and a browser until it answers at all.
-PATIENCE = 60
+PATIENCE = 300
 SHIFT = 8
 QUIET = {"stdin": subprocess.DEVNULL, "stdout": subprocess.DEVNULL, "stderr": subprocess.DEVNULL}
 READY = "document.body && document.body.dataset.ready || ''"
