@@ -218,7 +218,7 @@ def main(words):
     reader = Words(__doc__)
     reader.add_argument("files", nargs="*")
     pages = [os.path.abspath(it) for it in reader.parse_args(words).files]
-    built("sandbox", "inspect", "host", "fit")
+    built("sandbox", "inspect", "host", "fit", "board")
     tally = Tally("docs")
     for page in pages or [f"{TOP}/README.md", *sorted(glob.glob(f"{TOP}/docs/*.md"))]:
         try_page(tally, page)

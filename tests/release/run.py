@@ -20,11 +20,12 @@ VERSION = text_of(f"{TOP}/VERSION").strip()
 NAME = f"geyserpan-{VERSION}-x86_64-linux"
 LIBRARY = f"{TOP}/crates/geyserpan/out/libgeyserpan.a"
 # What stands built, and is taken along.
-BUILT = [f"crates/{it}/out/{it}{end}" for it in ("sbx_tool", "inspect", "host", "fit") for end in ("", ".made")]
+BUILT = [f"crates/{it}/out/{it}{end}" for it in ("sbx_tool", "inspect", "host", "fit", "board")
+         for end in ("", ".made")]
 BUILT += [f"crates/geyserpan/out/libgeyserpan.a{end}" for end in ("", ".made")]
 MAKE = "tools/release/make"
 VECTORS = ("words-and-results.txt", "verdicts-and-runs.txt", "turns-and-walks.txt", "traces/deep.4", "README.md")
-PAGES = "sandbox.1 inspect.1 host.1 fit.1 geyserpan-cc.1 geyserpan-image.5 geyserpan-source.5".split()
+PAGES = "sandbox.1 inspect.1 host.1 fit.1 board.1 geyserpan-cc.1 geyserpan-image.5 geyserpan-source.5".split()
 HI = '#include "plug.h"\nint main(void) { put(72); put(105); return 0; }\n'
 
 
@@ -103,7 +104,9 @@ def try_programs(place, tally):
     tally.check("inspect page hello", ran.status == 0 and b"\nvaccepted\n" in ran.out,
                 f"wanted a page, came {ran.said[:300]}")
     tally.same("host hello", place.apart("host", f"{hello}.img").out, b"Hi")
-    for name in ("inspect", "host", "fit", "geyserpan-cc"):
+    ran = place.apart("board", f"{hello}.img", "hello.elf")
+    tally.same("board hello", (ran.status, bytes_of(f"{place.work}/elsewhere/hello.elf")[:4]), (0, b"\x7fELF"))
+    for name in ("inspect", "host", "fit", "board", "geyserpan-cc"):
         tally.same(f"{name} --version", place.apart(name, "--version").out.split(b"\n")[0],
                    f"version {VERSION}".encode())
     if has("sparc64-linux-gnu-gcc") or has("clang"):
@@ -126,6 +129,7 @@ def try_files(place, tally):
 
 def try_contents(place, tally):
     """The library, vectors, pages and sums of the installed release, and hosts that are built against it."""
+    place.has(*(f"share/geyserpan/embed/leon/{it}" for it in ("geyserpan_leon.h", "geyserpan_leon.c", "enter.s")))
     place.has("include/geyserpan.h", "lib/libgeyserpan.a", "lib/libgeyserpan.so.1")
     place.has(*(f"share/geyserpan/vectors/{it}" for it in VECTORS))
     place.has(*(f"share/man/man{it[-1]}/{it}" for it in PAGES))
@@ -154,7 +158,7 @@ def main(words):
     if not os.path.isfile(f"{LIBRARY}.made"):
         print("the library for C has to be built first: tools/release/library PREFIX", file=sys.stderr)
         return NOT_BUILT
-    built("sandbox", "inspect", "host", "fit")
+    built("sandbox", "inspect", "host", "fit", "board")
     tally = Tally("release")
     with tempfile.TemporaryDirectory() as work:
         place = Place(tally, work)
