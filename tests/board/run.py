@@ -8,12 +8,15 @@ have to be: exit word, output, window traps, and no other trap. Parts:
   loaded     each word of RAM beside the sandbox machine's, as tools/vectors/v8_board.py has it, moved to where RAM
              begins, but for the words that are a LEON's own
   start      the state in which an image begins, and RAM there, read back by QEMU's gdb stub
-  examples   the examples on 4, 8 and 32 windows, by RAM and over the UART, with caches and without
+  examples   the examples on 4, 8 and 32 windows, by RAM and over the UART, with caches and without, and on four more
+             inputs
   programs   the programs of examples/c on five inputs each
   verdicts   N of the stored runs (500), on their counts of windows
+  states     the state before each turn of user code, of the first 3,000 turns of each example on 4, 8 and 32 windows
+             and of each program of examples/c, beside `inspect states`
   services   each call of a service, step by step, beside the laws of leon_services
   calls      images called by C, a thousand times in a row each, from systems with their MMU off and on
-  suite      what tools/board-suite makes, with N / 4 of the stored runs, on 4, 8 and 32 windows; a wrong result is told
+  suite      what tools/board-suite makes, with N / 4 of the stored runs, on 4, 8 and 32 windows; what is wrong is told
   refused    images that aren't accepted, other words, places that can't be, files that can't be written
   speed      turns a second beside board and engine
 
@@ -32,6 +35,7 @@ sys.path[:0] = [f"{os.path.dirname(HERE)}/lib", HERE]
 sys.path.append(f"{os.path.dirname(os.path.dirname(HERE))}/tools/vectors")
 import leon
 import services
+import states
 import v8_board
 from qemu import Leon
 from run import (EXAMPLES, FIT, HOST, INSPECT, SANDBOX, TOP, built, bytes_of, has, least_kib, program, put, run,
@@ -51,6 +55,10 @@ SECTIONS = {".text": leon.RAM + 0x4000, ".services": 0xF0000800, ".other": 0xF00
 # Where they lie in RAM, and how a trap type's vector is told from the others.
 SERVICES, ROUTINES, STUB = 0x800, 0x1100, 0x4000
 OWN_VECTORS = (0x05, 0x06, 0x80, 0x81, 0x82)
+# The inputs of embed/leon/example.
+INPUTS = (b"", b"a", b"Hello, LEON\n", b"the quick brown fox jumps over the lazy dog")
+# How many turns of a run are followed state by state.
+TURNS = 3000
 
 
 def made(image, out, *more):
@@ -172,12 +180,15 @@ def examples_run(tally, _asked):
     for name, image, given in examples():
         for windows in (4, 8, 32):
             compare(tally, name, image, given, windows)
+        for number, other in enumerate(INPUTS):
+            compare(tally, f"{name}, input {number}", image, other)
         compare(tally, f"{name}, cached", image, given, 8, ["--cached"])
         compare_by_uart(tally, name, image, given)
 
 
-def programs(tally, _asked):
-    built("sandbox", "inspect", "fit")
+def c_images(tally):
+    """Name, image and five inputs of each program of examples/c: its own, none, and three of others."""
+    built("sandbox", "fit")
     inputs = [bytes_of(f"{EXAMPLES}/c/in/{it}") for it in sorted(os.listdir(f"{EXAMPLES}/c/in"))]
     plug = f"{EXAMPLES}/c/gcc/plug.s"
     with tempfile.TemporaryDirectory() as room:
@@ -187,8 +198,14 @@ def programs(tally, _asked):
             ran = run([SANDBOX, "asm", source, image])
             if tally.check(f"an image of {name}", ran.status == 0, ran.said[:300]):
                 own = bytes_of(f"{EXAMPLES}/c/in/{name}")
-                for number, given in enumerate([own, b"", *[it for it in inputs if it != own][:3]]):
-                    compare(tally, f"{name}, input {number}", image, given)
+                yield name, image, [own, b"", *[it for it in inputs if it != own][:3]]
+
+
+def programs(tally, _asked):
+    built("inspect")
+    for name, image, inputs in c_images(tally):
+        for number, given in enumerate(inputs):
+            compare(tally, f"{name}, input {number}", image, given)
 
 
 def stored(limit):
@@ -222,8 +239,7 @@ def verdicts(tally, asked):
                 tally.same(f"run {number}", leon.run_in_ram(f"{room}/elf", int(windows), True), wanted)
 
 
-# The inputs of embed/leon/example, and how many calls it makes behind the first ones.
-INPUTS = (b"", b"a", b"Hello, LEON\n", b"the quick brown fox jumps over the lazy dog")
+# How many calls embed/leon/example makes behind the first ones.
 MORE_CALLS = 1000 - len(INPUTS)
 
 
@@ -279,6 +295,18 @@ def calls(tally, _asked):
         tally.same("an image for seven windows", called(host, f"{room}/elf", 8, room), b"open: 00000006\n")
 
 
+SUITE_COUNTS = re.compile(r"(\d+) runs, (\d+) results, (\d+) turns")
+# What stands in the data of a suite for 32 windows, what is put in its place, and what the suite tells then.
+WRONG = (
+    ("a wrong result", "00000004FF3F8EB90060000000000004", "00000004FF3F8EB80060000000000004",
+     "value of result 1529: wanted FF3F8EB8, came FF3F8EB9"),
+    ("a wrong register", "00000114214BFC00", "00000114214BFC01",
+     "register behind turn 5440: wanted 214BFC01, came 214BFC00"),
+    ("a wrong Y", "0020008F00000008000000FF", "0020008F00000008000000FE",
+     "Y behind turn 5440: wanted 000000FE, came 000000FF"),
+)
+
+
 def suite_told(elf, windows, room):
     """What a program of tools/board-suite tells."""
     return called(elf, None, windows, room).decode().splitlines()
@@ -292,31 +320,32 @@ def suite(tally, asked):
         for windows in (4, 8, 32):
             words = ["--windows", str(windows), "--runs", str(asked.runs // 4)]
             ran = run([f"{TOP}/tools/board-suite", f"{room}/elf", *words], seconds=None)
-            counts = [int(it) for it in re.findall(r"(\d+) runs, (\d+) results", ran.said)[:1] for it in it]
+            counts = [int(it) for row in SUITE_COUNTS.findall(ran.said)[-1:] for it in row]
             if tally.check(f"a suite for {windows} windows", ran.status == 0 and counts, ran.said):
                 told = suite_told(f"{room}/elf", windows, room)
                 tally.same(f"the suite on {windows} windows", told, [f"{sum(counts)} passed, 0 failed"])
         told = suite_told(f"{room}/elf", 8, room)
-        tally.same("the suite on another count of windows", told[-1:], [f"{counts[1]} passed, {counts[0]} failed"])
-        # the last result's value, whose words end the data
-        elf = bytes_of(f"{room}/elf")
-        last = bytes.fromhex("00000004FF3F8EB90060000000000004")
-        put(f"{room}/wrong", elf.replace(last, bytes.fromhex("00000004FF3F8EB80060000000000004")))
-        wanted = [f"value of result {counts[1] - 1}: wanted FF3F8EB8, came FF3F8EB9",
-                  f"{sum(counts) - 1} passed, 1 failed"]
-        tally.same("a wrong result", suite_told(f"{room}/wrong", 32, room), wanted)
+        wanted = f"{counts[1]} passed, {counts[0] + counts[2]} failed"
+        tally.same("the suite on another count of windows", told[-1:], [wanted])
+        for name, right, wrong, difference in WRONG:
+            elf = bytes_of(f"{room}/elf")
+            tally.same(f"{name}: where its words stand", elf.count(bytes.fromhex(right)), 1)
+            put(f"{room}/wrong", elf.replace(bytes.fromhex(right), bytes.fromhex(wrong)))
+            wanted = [difference, f"{sum(counts) - 1} passed, 1 failed"]
+            tally.same(name, suite_told(f"{room}/wrong", 32, room), wanted)
 
 
 class Stub(Leon):
     """A LEON3 with a program, which runs up to the first instruction of the image."""
 
-    def __init__(self, elf):
+    def __init__(self, elf, windows=8):
         self.elf = elf
-        super().__init__(8)
+        super().__init__(windows)
 
     def words(self, windows, bios, path):
-        return [leon.PROGRAM, "-M", "leon3_generic", "-m", "4", "-kernel", self.elf, "-display", "none", "-serial",
-                "none", "-monitor", "none", "-S", "-gdb", f"unix:{path},server=on,wait=off"]
+        return [leon.PROGRAM, "-M", "leon3_generic", "-cpu", f"LEON3,nwindows={windows}", "-m", "4", "-kernel",
+                self.elf, "-display", "none", "-serial", "none", "-monitor", "none", "-S", "-gdb",
+                f"unix:{path},server=on,wait=off"]
 
 
 def state_at_start(elf):
@@ -354,6 +383,33 @@ def start(tally, _asked):
             tally.same(f"{name}: the tables but for R and M", others, [])
             others = [at for at in range(0x10000, 0xA0000, 4) if leon.word_of(ram, at) != leon.word_of(loaded, at)]
             tally.same(f"{name}: code, data and stack", others, [])
+
+
+def to_the_image(elf, windows):
+    """A LEON3 that stands at the first instruction of an image."""
+    stub = Stub(elf, windows)
+    for packet in ("Qqemu.PhyMemMode:0", "Z1,40000,4", "c", "z1,40000,4"):
+        stub.ask(packet)
+    return stub
+
+
+def compare_states(tally, name, image, given, windows):
+    """The first TURNS turns of a run, beside `inspect states`."""
+    with tempfile.TemporaryDirectory() as room:
+        put(f"{room}/in", given)
+        made(image, f"{room}/elf", "--windows", str(windows), "--input", f"{room}/in")
+        words = ["states", "--windows", str(windows), "--limit", str(TURNS), image]
+        lines = run([INSPECT, *words], given).out.decode().splitlines()
+        states.follow(tally, f"{name} on {windows} windows", to_the_image(f"{room}/elf", windows), lines, windows)
+
+
+def states_run(tally, _asked):
+    built("inspect")
+    for name, image, given in examples():
+        for windows in (4, 8, 32):
+            compare_states(tally, name, image, given, windows)
+    for name, image, inputs in c_images(tally):
+        compare_states(tally, name, image, inputs[0], 8)
 
 
 def services_run(tally, _asked):
@@ -395,7 +451,8 @@ def refused(tally, _asked):
         tally.check("it stays", os.path.exists("/dev/full"))
         want_of_memory(tally, hello, room)
         tally.same("no words", run([BOARD]).status, 3)
-        tally.same("--help", run([BOARD, "--help"]).status, 0)
+        ran = run([BOARD, "--help"])
+        tally.same("--help", (ran.status, ran.out), (0, bytes_of(f"{TOP}/tools/release/usage/board")))
         records_load(tally, hello, room)
 
 
@@ -444,8 +501,8 @@ def speed(tally, _asked):
 
 
 PARTS = {"words": words, "loaded": loaded, "start": start, "examples": examples_run, "programs": programs,
-         "verdicts": verdicts, "services": services_run, "calls": calls, "suite": suite, "refused": refused,
-         "speed": speed}
+         "verdicts": verdicts, "states": states_run, "services": services_run, "calls": calls, "suite": suite,
+         "refused": refused, "speed": speed}
 
 
 def main(asked_words):
