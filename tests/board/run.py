@@ -483,21 +483,66 @@ def records_load(tally, image, room):
     tally.same("S-records: where it begins", last[:12], f"S705{base + STUB:08X}".encode())
 
 
+# A loop in a loop, 4,000 rounds each: TURNS_OF_LOOP turns, none of them a call of a service but the last.
+TURNS_OF_LOOP = 112_020_006
+LOOP = f""".services exit
+.function main,leaf,0,0,{TURNS_OF_LOOP}
+.fuel {TURNS_OF_LOOP}
+    mov 0,%o2
+    mov 1,%o0
+.block outer
+.cell %o0,1,4000,0
+.cell %o2,-2147483648,2147483647,0
+.fuel {TURNS_OF_LOOP + 28_003}
+.term %o0,-28005
+    mov 1,%o1
+.block inner
+.cell %o0,1,4000,0
+.cell %o1,1,4000,0
+.cell %o2,-2147483648,2147483647,0
+.fuel {TURNS_OF_LOOP + 28_009}
+.term %o0,-28005
+.term %o1,-7
+    add %o2,%o0,%o2
+    sll %o2,3,%o3
+    xor %o2,%o3,%o2
+    inc %o1
+    cmp %o1,4000
+    ble inner
+    nop
+.block next
+.cell %o0,1,4000,0
+.cell %o2,-2147483648,2147483647,0
+.fuel {TURNS_OF_LOOP + 2}
+.term %o0,-28005
+    inc %o0
+    cmp %o0,4000
+    ble outer
+    nop
+.block done
+.fuel 4
+    mov 0,%o0
+    ta 0
+"""
+
+
 def speed(tally, _asked):
-    """Tells seconds, start and all, of one run of each; nothing is held to a bound, since machines are shared."""
+    """Tells turns a second of processor, start and all, of one run each; nothing is held to a bound."""
     built("sandbox", "host")
-    image = f"{TOP}/crates/sbx_bench/data/arithmetic.img"
-    if not os.path.exists(image):
-        image = f"{EXAMPLES}/sieve/sieve.img"
     with tempfile.TemporaryDirectory() as room:
+        image = f"{room}/img"
+        put(f"{room}/s", LOOP)
+        run([SANDBOX, "asm", f"{room}/s", image])
         made(image, f"{room}/elf")
-        ways = {"QEMU's LEON3": lambda: leon.run_in_ram(f"{room}/elf"), "board": lambda: run([SANDBOX, "run", image]),
-                "engine": lambda: run([HOST, "run", "--engine", "--max-turns", "1099511627776", image])}
+        ways = {"QEMU's LEON3": lambda: leon.run_in_ram(f"{room}/elf").end == "exit 00000000",
+                "board": lambda: run([SANDBOX, "run", image]).status == 0,
+                "engine": lambda: run([HOST, "run", "--engine", "--max-turns", str(TURNS_OF_LOOP), image]).status == 0}
         for name, way in ways.items():
-            begun = time.monotonic()
-            way()
-            print(f"{name}: {time.monotonic() - begun:.2f} seconds for {os.path.basename(image)}")
-    tally.passes(1)
+            begun = os.times()
+            tally.check(f"{name}: a loop of {TURNS_OF_LOOP} turns", way(), "wanted the exit word 0")
+            ended = os.times()
+            seconds = ended.children_user + ended.children_system - begun.children_user - begun.children_system
+            print(f"{name}: {TURNS_OF_LOOP / seconds / 1e6:.0f} million turns a second")
 
 
 PARTS = {"words": words, "loaded": loaded, "start": start, "examples": examples_run, "programs": programs,

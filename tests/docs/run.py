@@ -23,6 +23,8 @@ from tally import Tally, Words
 PATIENCE = 300
 # What a session needs, by Debian's packages.
 NEEDED = {"gdb-multiarch": "gdb-multiarch", "sparc64-linux-gnu-gcc": "gcc-sparc64-linux-gnu"}
+# What a session needs besides where a command names it.
+NAMED = {"qemu-system-sparc": "qemu-system-sparc"}
 PROMPT = "(gdb) "
 
 FENCE = re.compile(r"^(\s*)```(.*)$")
@@ -107,7 +109,9 @@ def play_session(tally, page, folder, steps):
     """Runs a block of commands that need a compiler, or gdb, which gets the lines behind its prompt: what is shown is
     printed in this order, among other lines, and `..` in a line stands for any text. Where these aren't there it is
     skipped."""
-    for tool, package in NEEDED.items():
+    steps = list(steps)
+    named = {it: package for it, package in NAMED.items() if any(it in command for _, command, _ in steps)}
+    for tool, package in {**NEEDED, **named}.items():
         if not has(tool):
             tally.skip(f"a session of {os.path.relpath(page, TOP)}", f"Debian's package {package}")
             return
