@@ -6,7 +6,7 @@ have to be: exit word, output, window traps, and no other trap. Parts:
 
   words      the sources in embed/leon, assembled anew, beside the words that `./board` writes
   loaded     each word of RAM beside the sandbox machine's, as tools/vectors/v8_board.py has it, moved to where RAM
-             begins, but for the words that are a LEON's own
+             begins, but for the words that are a LEON's own; with a device that is the stub alone
   start      the state in which an image begins, and RAM there, read back by QEMU's gdb stub
   examples   the examples on 4, 8 and 32 windows, by RAM and over the UART, with caches and without, and on four more
              inputs
@@ -117,13 +117,15 @@ def examples():
             yield name, image, bytes_of(given) if os.path.exists(given) else b""
 
 
-def own_places(base):
-    """The words that are a LEON's own: vectors but those of the window traps, routines, entries of the device's page,
-    of that behind it and of the buffers, the stub with its tables, the mailbox."""
+def own_places(base, device):
+    """The words that are a LEON's own: the stub with its tables, and the entry of the device's page; where there is no
+    device also vectors but those of the window traps, routines, entries of the page behind and of the buffers, and the
+    mailbox."""
+    stub = {0x2D40, 0x3000, 0x3400 + (base >> 24) * 4, 0x37C0, *range(STUB, STUB + 4 * 62, 4)}
+    if device is not None:
+        return stub
     vectors = [at for at in range(0, 0x1000, 4) if at // 16 not in (0x05, 0x06)]
-    tables = [0x2904, 0x2D40, 0x2D44, 0x3000, 0x3400 + (base >> 24) * 4, 0x37C0]
-    return {*vectors, *range(ROUTINES, 0x2000, 4), *tables, *range(STUB, STUB + 4 * 62, 4),
-            *range(leon.MAIL, leon.MAIL + 32, 4)}
+    return {*stub, *vectors, *range(ROUTINES, 0x2000, 4), 0x2904, 0x2D44, *range(leon.MAIL, leon.MAIL + 32, 4)}
 
 
 def moved(place, word, base, cached):
@@ -133,18 +135,27 @@ def moved(place, word, base, cached):
     return word + (base >> 4) + (0x80 if cached and word & 3 == 2 else 0)
 
 
+def compare_loaded(tally, name, image, windows, base, *more, device=None):
+    """Whether RAM is the sandbox machine's, moved, but for the words that are a LEON's own."""
+    way = [] if device is None else ["--device", hex(device)]
+    with tempfile.TemporaryDirectory() as room:
+        made(image, f"{room}/elf", "--windows", str(windows), "--ram", hex(base), *more, *way)
+        ram, at = leon.bytes_at(f"{room}/elf")
+    board = v8_board.Board(windows, v8_board.Image(bytes_of(image)), b"")
+    own = own_places(base, device)
+    wanted = {it: moved(it, board.word(it), base, bool(more)) for it in range(0, leon.SIZE, 4) if it not in own}
+    if device is not None:
+        wanted[0x2D40] = device >> 4 | 0x1E
+    others = [hex(it) for it, word in wanted.items() if leon.word_of(ram, it) != word]
+    tally.same(f"{name} on {windows} windows, RAM at {base:#x} {' '.join(way)}", (at, others[:9]), (base, []))
+
+
 def loaded(tally, _asked):
     for name, image, _ in examples():
-        for windows, base, more in ((4, leon.RAM, []), (8, 0, []), (32, 0xEF000000, ["--cached"])):
-            with tempfile.TemporaryDirectory() as room:
-                made(image, f"{room}/elf", "--windows", str(windows), "--ram", hex(base), *more)
-                ram, at = leon.bytes_at(f"{room}/elf")
-            board = v8_board.Board(windows, v8_board.Image(bytes_of(image)), b"")
-            own = own_places(base)
-            wanted = {it: moved(it, board.word(it), base, bool(more))
-                      for it in range(0, leon.SIZE, 4) if it not in own}
-            others = [hex(it) for it, word in wanted.items() if leon.word_of(ram, it) != word]
-            tally.same(f"{name} on {windows} windows, RAM at {base:#x}", (at, others[:9]), (base, []))
+        compare_loaded(tally, name, image, 4, leon.RAM)
+        compare_loaded(tally, name, image, 8, 0)
+        compare_loaded(tally, name, image, 32, 0xEF000000, "--cached")
+        compare_loaded(tally, name, image, 8, leon.RAM, device=0x80001000)
 
 
 def board_run(image, given, windows):
