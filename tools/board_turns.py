@@ -160,9 +160,10 @@ class Turn:
         before = self.windows.registers(self.before)
         changed = {name: word for name, word in self.after.items() if self.before.get(name, 0) != word}
         after = self.windows.registers(changed)
-        for window, found, state in ((below, before, self.before), (self.trap_window(), after, vars(self))):
-            for register, name in ((LOCALS + 1, "pc"), (LOCALS + 2, "npc")):
-                found[self.windows.number(window, register)] = state[name]
+        for found, window, places in ((before, below, (self.before["pc"], self.before["npc"])),
+                                      (after, self.trap_window(), (self.pc, self.npc))):
+            first = self.windows.number(window, LOCALS + 1)
+            found.update({first: places[0], first + 1: places[1]})
         return before, after
 
     def memory(self, base):
