@@ -10,7 +10,8 @@ from run import EXAMPLES, FIT, INSPECT, SANDBOX, TOP, bytes_of, put, run, text_o
 EXAMPLE = f"{TOP}/vectors/cycles/example.table"
 # Each row by a number of its own, so that a row in another's place changes a bound.
 ROWS = {"plain": 10, "multiply": 41, "divide": 373, "branch": 23, "jump": 29, "load": 67, "store": 71,
-        "exchange": 83, "save": 1999, "restore": 2003, "exit": 449, "get": 787, "put": 797}
+        "exchange": 83, "save": 1999, "restore": 2003, "exit": 449, "get": 787, "put": 797, "trap": 13, "fetch": 17,
+        "walk": 37}
 NAME = "begins with no name of a row"
 AGAIN = "gives a row that a line above has given"
 COUNT = "a row is its name and one number"
@@ -32,6 +33,9 @@ MEMORY = {**dict.fromkeys((0, 1, 2, 3, 9, 10), "load"), **dict.fromkeys((4, 5, 6
 ARITHMETIC = {**dict.fromkeys((0x0A, 0x0B, 0x1A, 0x1B), "multiply"), **dict.fromkeys((0x0E, 0x0F, 0x1E, 0x1F), "divide"),
               0x38: "jump", 0x3C: "save", 0x3D: "restore"}
 SERVICES = {0: "exit", 1: "get", 2: "put"}
+# What a step takes beside its row, its fetch and the walk for that.
+MORE = {**dict.fromkeys(("load", "store", "exchange"), "walk"),
+        **dict.fromkeys(("save", "restore", "exit", "get", "put"), "trap")}
 # What a step counts, where that isn't one turn (docs/rules.md).
 WEIGHTS = {"save": 25, "restore": 25, "exit": 3, "get": 5, "put": 5}
 
@@ -65,11 +69,16 @@ def parts_of(image):
     return words, budget
 
 
+def cycles_of(name, rows):
+    """What a step of a row takes."""
+    return rows["fetch"] + rows["walk"] + rows[name] + rows.get(MORE.get(name), 0)
+
+
 def bound_of(image, rows):
     """Budget, dearest instruction by the turn, and bound."""
     words, budget = parts_of(image)
     named = {"plain", *map(row_of, words)}
-    dearest = max(-(-rows[it] // WEIGHTS.get(it, 1)) for it in named)
+    dearest = max(-(-cycles_of(it, rows) // WEIGHTS.get(it, 1)) for it in named)
     return budget, dearest, budget * dearest
 
 

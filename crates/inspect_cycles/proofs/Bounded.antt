@@ -8,14 +8,14 @@ use Rattle.sbx_image.specs.Rules.{code_start}
 use Rattle.sbx_flat.specs.declared.path.Place.{Place}
 use Rattle.sbx_flat.specs.Runs.{FlatSafe, budget, weight, weight_at, weight_of, weight_of_word}
 use Rattle.sbx_flat.specs.Turns.{asked, word_at}
-use Rattle.inspect_cycles.specs.Cycles.{AreMost, cycles, cycles_at, cycles_of, cycles_of_word}
+use Rattle.inspect_cycles.specs.Cycles.{AreMost, cycles, cycles_at, cycles_of, cycles_of_word, slot_cycles}
 use Rattle.inspect_cycles.specs.declared.table.CycleTable.{CycleTable}
 
 -- the first words, so many, take at most r cycles for each turn that they count
 abbrev pub AreWithin : CycleTable → List ℕ → ℕ → ℕ → Type 0
 AreWithin t words n r = (k : ℕ) → k < n → cycles_of t (asked (slice_index words k)) ≤ r * weight_of (asked (slice_index words k))
 
-module _ (t : CycleTable) (parts : Parts) (r : ℕ) (plain : t.plain ≤ r) (all : AreWithin t parts.words (length parts.words) r) where
+module _ (t : CycleTable) (parts : Parts) (r : ℕ) (plain : slot_cycles t ≤ r) (all : AreWithin t parts.words (length parts.words) r) where
   found : (k : ℕ) (o : Option ℕ) → slice_get parts.words k ≡ o → cycles_of_word t o ≤ r * weight_of_word o
   found k None is = omega arith
   found k (Some word) is =
@@ -32,7 +32,7 @@ module _ (t : CycleTable) (parts : Parts) (r : ℕ) (plain : t.plain ≤ r) (all
   word_within address = found_or (nat_le code_start address && (address % 4 == 0)) ((address - code_start) / 4)
 
   step_within : (b : Bool) (o : Option ℕ) → cycles_of_word t o ≤ r * weight_of_word o →
-      (if b then t.plain else cycles_of_word t o) ≤ r * (if b then 1 else weight_of_word o)
+      (if b then slot_cycles t else cycles_of_word t o) ≤ r * (if b then 1 else weight_of_word o)
   step_within true o h = omega (arith, plain)
   step_within false o h = h
 

@@ -14,6 +14,8 @@ use Rattle.sbx_flat.specs.States.{State}
 use Rattle.sbx_flat.specs.Turns.{asked, word_at}
 use Rattle.inspect_cycles.specs.declared.table.CycleTable.{CycleTable}
 
+-- ---- what an operation takes beside its fetch, the walks of page tables, and the trap
+
 abbrev pub cycles_of_result : CycleTable → Op → ℕ
 cycles_of_result t Umul = t.multiply
 cycles_of_result t UmulCc = t.multiply
@@ -33,18 +35,38 @@ cycles_of_service t (Some zero) = t.exit
 cycles_of_service t (Some (suc zero)) = t.get
 cycles_of_service t (Some (suc (suc n))) = t.put
 
--- what a step of an operation takes at most
-abbrev pub cycles_of : CycleTable → Operation → ℕ
-cycles_of t (Compute op f) = cycles_of_result t op
-cycles_of t (Divide d f) = t.divide
-cycles_of t (Moves m f) = cycles_of_transfer t m
-cycles_of t (Save f) = t.save
-cycles_of t (Restore f) = t.restore
-cycles_of t (Call d) = t.branch
-cycles_of t (BranchOnCondition b) = t.branch
-cycles_of t (JumpAndLink f) = t.jump
-cycles_of t (TrapOnCondition trap) = cycles_of_service t (service_of trap)
-cycles_of t _ = t.plain
+abbrev pub own_cycles : CycleTable → Operation → ℕ
+own_cycles t (Compute op f) = cycles_of_result t op
+own_cycles t (Divide d f) = t.divide
+own_cycles t (Moves m f) = cycles_of_transfer t m
+own_cycles t (Save f) = t.save
+own_cycles t (Restore f) = t.restore
+own_cycles t (Call d) = t.branch
+own_cycles t (BranchOnCondition b) = t.branch
+own_cycles t (JumpAndLink f) = t.jump
+own_cycles t (TrapOnCondition trap) = cycles_of_service t (service_of trap)
+own_cycles t _ = t.plain
+
+-- ---- steps
+
+-- the walk for an access to data
+abbrev pub data_cycles : CycleTable → Operation → ℕ
+data_cycles t (Moves m f) = t.walk
+data_cycles t _ = 0
+
+abbrev pub trap_cycles : CycleTable → Operation → ℕ
+trap_cycles t (Save f) = t.trap
+trap_cycles t (Restore f) = t.trap
+trap_cycles t (TrapOnCondition trap) = t.trap
+trap_cycles t _ = 0
+
+-- what a step of an operation takes at most: its fetch with a walk, itself, its data's walk, its trap
+unfoldable pub cycles_of : CycleTable → Operation → ℕ
+cycles_of t o = t.fetch + t.walk + (own_cycles t o + data_cycles t o) + trap_cycles t o
+
+-- what an instruction that is annulled takes
+unfoldable pub slot_cycles : CycleTable → ℕ
+slot_cycles t = t.fetch + t.walk + t.plain
 
 -- the same of a word; no step is of none
 abbrev pub cycles_of_word : CycleTable → Option ℕ → ℕ
@@ -53,7 +75,7 @@ cycles_of_word t (Some word) = cycles_of t (asked word)
 
 -- what the step at a place takes
 abbrev pub cycles_at : CycleTable → Parts → Place → ℕ
-cycles_at t parts place = if place.annulled then t.plain else cycles_of_word t (word_at parts.words place.pc)
+cycles_at t parts place = if place.annulled then slot_cycles t else cycles_of_word t (word_at parts.words place.pc)
 
 -- what a path takes
 abbrev pub cycles : CycleTable → Parts → List Place → ℕ

@@ -3,7 +3,7 @@ ghost use Rattle.std.specs.Prelude.{◌≡◌, ◌≤◌, ◌<◌, ◌*◌, ◌^
 ghost use Rattle.sbx_flat.specs.Runs.{budget, weight_of};
 ghost use Rattle.inspect_cycles.specs.Cycles.{AreMost, cycles_of};
 
-use crate::table::{CycleTable, cycles_of};
+use crate::table::{CycleTable, cycles_of, slot_cycles};
 use sbx_flat::{asked, weight_of};
 use sbx_verify::{Accepted, budget};
 use v8_meaning::Operation;
@@ -23,9 +23,9 @@ pub struct CycleBound {
 #[tactic(auto, using(sbx_flat::proofs::Turns::operation_weighs))]
 fn cycles_a_turn(table: &CycleTable, operation: &Operation) -> u64
     ensures most { cycles_of table.now operation.now ≤ result * weight_of operation.now }
-    ensures few { result < 2 ^ 32 }
+    ensures few { result < 2 ^ 35 }
 {
-    u64::from(cycles_of(table, operation)).div_ceil(weight_of(operation))
+    cycles_of(table, operation).div_ceil(weight_of(operation))
 }
 
 /// How many cycles a run of an accepted image takes at most, by a table of a processor's worst cases: its budget, times
@@ -36,7 +36,7 @@ pub fn most_cycles(table: &CycleTable, accepted: &Accepted) -> CycleBound
     ensures product { result.most ≡ result.dearest * result.budget }
 {
     let image = accepted.image();
-    let mut dearest = u64::from(table.plain);
+    let mut dearest = slot_cycles(table);
     for word in image.words() {
         dearest = dearest.max(cycles_a_turn(table, &asked(*word)));
     }

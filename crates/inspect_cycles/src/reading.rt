@@ -35,7 +35,7 @@ pub enum TableFault {
 /// The rows that were read, by their names.
 #[derive(Clone, Copy)]
 struct TableRows {
-    rows: [(&'static str, Option<u32>); 13],
+    rows: [(&'static str, Option<u32>); 16],
 }
 
 impl TableRows {
@@ -56,6 +56,9 @@ impl TableRows {
                 ("exit", None),
                 ("get", None),
                 ("put", None),
+                ("trap", None),
+                ("fetch", None),
+                ("walk", None),
             ],
         }
     }
@@ -117,6 +120,9 @@ impl TableRows {
             exit: self.cycles("exit")?,
             get: self.cycles("get")?,
             put: self.cycles("put")?,
+            trap: self.cycles("trap")?,
+            fetch: self.cycles("fetch")?,
+            walk: self.cycles("walk")?,
         })
     }
 }

@@ -4,8 +4,8 @@ use std::test::Fail;
 
 /// Each row, in another order than the fields', with comments, blanks, a line end of two bytes, and none at the end.
 static WHOLE: &[u8] =
-    b"# a part \xFF\r\nput 13\r\n\n\tget  12 # a byte\nexit 11\nrestore 10\nsave 9\nexchange 8\n\
-    store 7\nload 6\njump 5\nbranch 4\ndivide 3\nmultiply 0\nplain 4294967295";
+    b"# a part \xFF\r\nwalk 16\nfetch 15\ntrap 14\nput 13\r\n\n\tget  12 # a byte\nexit 11\nrestore 10\n\
+    save 9\nexchange 8\nstore 7\nload 6\njump 5\nbranch 4\ndivide 3\nmultiply 0\nplain 4294967295";
 
 #[test]
 fn each_row_is_read(rt: HostRuntime) -> Result<(), Fail> {
@@ -23,6 +23,9 @@ fn each_row_is_read(rt: HostRuntime) -> Result<(), Fail> {
         exit,
         get,
         put,
+        trap,
+        fetch,
+        walk,
     } = read_table(WHOLE).ok().ok_or("no table")?;
     assert_eq!(rt;
         [plain, multiply, divide, branch, jump],
@@ -30,6 +33,7 @@ fn each_row_is_read(rt: HostRuntime) -> Result<(), Fail> {
     );
     assert_eq!(rt; [load, store, exchange, save], [6, 7, 8, 9]);
     assert_eq!(rt; [restore, exit, get, put], [10, 11, 12, 13]);
+    assert_eq!(rt; [trap, fetch, walk], [14, 15, 16]);
     Ok(())
 }
 
@@ -68,5 +72,5 @@ fn a_row_that_lacks_is_named(rt: HostRuntime) {
     let fault = read_table(&WHOLE[..WHOLE.len() - 17]).err();
     assert!(rt; fault == Some(TableFault::Lacks("plain")));
     let fault = read_table(&WHOLE[20..]).err();
-    assert!(rt; fault == Some(TableFault::Lacks("put")));
+    assert!(rt; fault == Some(TableFault::Lacks("walk")));
 }
