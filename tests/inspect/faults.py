@@ -13,9 +13,10 @@ def try_words(asked):
     """Words that ask for nothing, and files that are none of theirs."""
     none, missing = put(asked.at("none.img"), "no image"), asked.at("missing.img")
     for status, words in (
-        (2, ("image", none)), (2, ("why", none)), (2, ("states", none)), (2, ("run", none)), (4, ("why", missing)),
-        (4, ("run", missing)), (4, ("check", asked.at("missing.s"))), (3, ("why",)), (3, ("check",)), (3, ("map",)),
-        (3, ("tell", none)), (3, ("states", "--json", none)), (3, ("image", "--limit", "1", none)),
+        (2, ("image", none)), (2, ("why", none)), (2, ("states", none)), (2, ("run", none)), (2, ("data", none)),
+        (4, ("why", missing)), (4, ("run", missing)), (4, ("check", asked.at("missing.s"))), (3, ("why",)),
+        (3, ("check",)), (3, ("map",)), (3, ("tell", none)), (3, ("states", "--json", none)),
+        (3, ("data", "--json", none)), (3, ("image", "--limit", "1", none)),
         (3, ("run", "--windows", "3", none)), (3, ("run", "--limit", "10000000000", none)),
         (3, ("run", none, "--limit")),
         (3, ("run", none, none)), (3, ("run", "--limit", "1", "--limit", "2", none)),
@@ -38,7 +39,7 @@ def try_words(asked):
 def try_files(asked):
     """Files that aren't there, are directories, are locked, can't be read, or are another image's."""
     image, source, work = asked.at("missing.img"), asked.at("missing.s"), asked.work
-    for path, words in ((image, ("image", "run", "trace", "states", "why")), (source, ("check", "map"))):
+    for path, words in ((image, ("image", "run", "trace", "states", "data", "why")), (source, ("check", "map"))):
         for word in words:
             asked.says(4, f"inspect: {path}: no such file", word, path)
             asked.says(4, f"inspect: {work}: is a directory", word, work)
@@ -46,6 +47,7 @@ def try_files(asked):
     for word in ("image", "trace", "why"):
         for names in (SOURCE, asked.at("hello.map")):
             asked.says(2, f"inspect: {names}: the source is another image's", word, "--source", names, ECHO)
+    asked.says(2, f"inspect: {SOURCE}: the source is another image's", "data", "--source", SOURCE, ECHO)
     text = text_of(asked.at("hello.map")) + "00040018 26 body loop\n"
     broken, lines = put(asked.at("broken.map"), text), text.count("\n")
     asked.says(2, f"inspect: {broken}: line {lines} is none of a map", "why", "--source", broken, HELLO)
@@ -66,14 +68,14 @@ def try_streams(asked):
         asked.says(4, long, "trace", HELLO, given=endless)
     with opened(asked.work) as folder:
         asked.says(4, "input", "run", ECHO, given=folder)
-    for word, path in (("run", ECHO), ("trace", HELLO), ("states", HELLO)):
+    for word, path in (("run", ECHO), ("trace", HELLO), ("states", HELLO), ("data", HELLO)):
         asked.says(4, "input", word, path, given=0, preexec_fn=closed(0))
     ran = run([INSPECT, "image", HELLO], 0, preexec_fn=closed(0))
     asked.same_text("image, whose input is closed", ran, bytes_of(f"{HELLO[:-4]}.told"))
     for word in ("image", "run"):
         ran = run([INSPECT, word, HELLO], preexec_fn=closed(1))
         asked.tally.same(f"{word}, whose output is closed", ran, OUTPUT)
-    rows = [(word, HELLO) for word in ("image", "run", "trace", "states", "why")]
+    rows = [(word, HELLO) for word in ("image", "run", "trace", "states", "data", "why")]
     rows += [("check", ACCEPTED), ("map", ACCEPTED), ("machine", f"{TOP}/vectors/ten.machine")]
     with opened("/dev/full", os.O_WRONLY) as full:
         for word, path in rows:

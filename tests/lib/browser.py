@@ -134,7 +134,7 @@ class Chromium(Browser):
     def key(self, key, shift=False):
         """Presses a key."""
         code = {"ArrowLeft": 37, "ArrowRight": 39, "Home": 36, "End": 35, "Enter": 13,
-                "Tab": 9}.get(key) or ord(key.upper())
+                "Tab": 9, "Escape": 27}.get(key) or ord(key.upper())
         for kind in ("keyDown", "keyUp"):
             text = {"text": key} if len(key) == 1 and kind == "keyDown" else {}
             self.call("Input.dispatchKeyEvent", type=kind, key=key, windowsVirtualKeyCode=code,
@@ -178,7 +178,7 @@ class Firefox(Browser):
 
     name = "firefox-esr"
     KEYS = {"ArrowLeft": "\ue012", "ArrowRight": "\ue014", "Home": "\ue011", "End": "\ue010", "Enter": "\ue007",
-            "Tab": "\ue004"}
+            "Tab": "\ue004", "Escape": "\ue00c"}
 
     def __init__(self, program, width=1280, height=800):
         self.folder = tempfile.mkdtemp()

@@ -140,7 +140,7 @@
 
   // Whether markup of the image's bytes became elements, or did anything.
   becameMarkup() {
-    return document.images.length > 0 || document.scripts.length !== 3 || !document.title.startsWith('Geyserpan: ');
+    return document.images.length > 0 || document.scripts.length !== 4 || !document.title.startsWith('Geyserpan: ');
   },
 
   scrolls() {

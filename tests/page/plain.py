@@ -66,7 +66,8 @@ def words(pages):
     gives(pages, 2, "image I2\n", none)
     gives(pages, 2, "image I2\n", "--beside-image", none, image)
     gives(pages, 2, "line 1: S1\n", "--source", other, image)
-    gives(pages, 2, "the source is another image's\n", "--source", pages.programs["fault"].source, image)
+    source = pages.programs["fault"].source
+    gives(pages, 2, f"inspect: {source}: the source is another image's\n", "--source", source, image)
     for line in (
         (f"{pages.folder}/missing",),
         ("--source", f"{pages.folder}/missing", image),

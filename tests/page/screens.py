@@ -58,7 +58,7 @@ def strangers(pages):
     """Markup of a stranger's output, data and source is text; nothing runs and nothing is asked for."""
     hostile = hostile_program(pages.folder)
     page = hostile.page("--source", hostile.source)
-    pages.same("elements in the file", [page.count(it) for it in ("<script", "</script>", "<img")], [3, 3, 0])
+    pages.same("elements in the file", [page.count(it) for it in ("<script", "</script>", "<img")], [4, 4, 0])
     path = pages.written("hostile", page)
     pages.browser.open(path, "#turn=999999")
     pages.check("hostile output became markup", not pages.browser.look("becameMarkup"))

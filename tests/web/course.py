@@ -74,3 +74,4 @@ def exercise(page, name, solved):
     page.look("pressExercise", "check my program")
     found = page.look("found")
     page.check(f"{name}: solved", found and "Done" in found[-1], found)
+    page.check(f"{name}: said against a solution: {page.verdict()}", re.match("\u2713|for stepping", page.verdict()))

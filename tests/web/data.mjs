@@ -1,4 +1,4 @@
-// usage: node data.mjs PAGE FOLDER: the data of a run of each of FOLDER/cases.json, as the script makes them, its
+// usage: node data.mjs PAGE FOLDER: the data of a run of each of FOLDER/cases.json, as the module makes them, its
 // states, and the map of its source, into FOLDER
 import fs from 'node:fs';
 import {pageOf} from './page.mjs';
@@ -9,15 +9,10 @@ for (const {name, source, windows, limit, input: given} of JSON.parse(fs.readFil
   const text = fs.readFileSync(source, 'utf8'), input = new Uint8Array(Buffer.from(given, 'hex'));
   const image = play.tell('play_assemble', [page.utf8(text)]).bytes;
   const tell = (call, ...more) => play.text(call, [image, ...more]);
-  const why = tell('play_why'), [head] = why.split('\n', 1);
-  const map = play.text('play_map', [page.utf8(text)]);
-  const texts = {declared: tell('play_image'), listing: tell('play_list'), why, map,
-    trace: tell('play_trace', windows, BigInt(limit + 2), input),
-    verdict: head.startsWith('accepted') ? 'accepted' : head};
-  fs.writeFileSync(`${folder}/${name}.data`,
-    page.runData(texts, image, {windows, limit, source: text, handlers: page.handlers}));
+  const told = tell('play_page', windows, BigInt(limit), input, page.utf8(text));
+  fs.writeFileSync(`${folder}/${name}.data`, told);
   const states = tell('play_states', windows, BigInt(limit), input);
   fs.writeFileSync(`${folder}/${name}.states`, states, 'latin1');
-  fs.writeFileSync(`${folder}/${name}.map`, map, 'latin1');
+  fs.writeFileSync(`${folder}/${name}.map`, play.text('play_map', [page.utf8(text)]), 'latin1');
 }
 console.log('done');

@@ -18,6 +18,12 @@
     const numbers = [...document.querySelectorAll('.gutter .number.fault')];
     return numbers.map(it => Number(it.textContent));
   },
+  // What is told of a line that is pointed at, of those that are seen.
+  hint(line) {
+    const area = document.querySelector('#source'), {left, top} = area.getBoundingClientRect();
+    area.dispatchEvent(new MouseEvent('mousemove', {clientX: left + 20, clientY: top + 21 * line - 10}));
+    return area.title;
+  },
   // The line of the turn, and its text.
   now() {
     const number = document.querySelector('.gutter .number.now'), row = document.querySelector('.rows .row.now');
@@ -59,6 +65,14 @@
       const box = document.querySelector(it).getBoundingClientRect();
       return box.width < 20 || box.height < 10;
     });
+  },
+  // Parts that lie one over the other, in pairs.
+  overlapping(selectors) {
+    const boxes = selectors.map(it => [it, document.querySelector(it).getBoundingClientRect()]);
+    return boxes.flatMap(([name, it], at) => boxes.slice(at + 1)
+      .filter(([, other]) => Math.min(it.right, other.right) - Math.max(it.left, other.left) > 1 &&
+        Math.min(it.bottom, other.bottom) - Math.max(it.top, other.top) > 1)
+      .map(([other]) => `${name} and ${other}`));
   },
   // Texts that their button or label cuts off.
   cut() {

@@ -7,7 +7,8 @@ from seen import loop
 
 SIZES = ((412, 915), (1024, 768), (1280, 800), (1920, 1080))
 PARTS = ("header", "#editor", "#verdict", ".right", ".io", "#ending", "footer")
-MACHINE = ("#windows-pane .circle", "#windows-pane .regs", "#windows-pane .state", ".steps", "#windows-pane .say")
+MACHINE = ("#windows-pane .circle", "#windows-pane .frames", "#windows-pane .regs", "#windows-pane .state", ".steps",
+           "#windows-pane .say")
 TEXTS = ("#verdict", "#ended", ".row span", ".number", "header button", "#lesson-text p", "#lesson-text td", "footer",
          ".found li", "#problems button", "label")
 # The least contrast of letters, by the guidelines for accessible pages; those that can't be used are left out.
@@ -26,6 +27,7 @@ def fits(page):
             at = f"{width} by {height}, {name}"
             page.check(f"{at}: it scrolls across", not page.look("scrollsAcross"))
             page.same(f"{at}: parts outside of the window", page.look("tooWide", [*PARTS, *MACHINE]), [])
+            page.same(f"{at}: parts that lie one over the other", page.look("overlapping", MACHINE), [])
             page.same(f"{at}: parts without room", page.look("flat", [*PARTS, *MACHINE]), [])
             page.same(f"{at}: buttons that are cut off", page.look("cut"), [])
             contrasts(page, at)

@@ -4,9 +4,9 @@ import fs from 'node:fs';
 import vm from 'node:vm';
 import zlib from 'node:zlib';
 
-const NAMES = ['Blocks', 'Module', 'Session', 'Exercise', 'Run', 'runData', 'readTrace', 'selfTest', 'textOfBytes',
+const NAMES = ['Blocks', 'Module', 'Session', 'Exercise', 'Run', 'selfTest', 'textOfBytes',
   'bytesOfText', 'utf8', 'packedText', 'textOfPacked', 'programOfLink', 'OK', 'ENDED', 'WANTS', 'FULL', 'PAUSED',
-  'ON_BOARD', 'ON_ENGINE', 'ROOM', 'SOURCE', 'NO_IMAGE', 'MEMORY'];
+  'ON_BOARD', 'ON_ENGINE', 'ROOM', 'SOURCE', 'NO_IMAGE', 'NO_PROGRAM', 'MEMORY'];
 
 const elementOf = (page, id) => page.match(new RegExp(`<script type="text/plain" id="${id}">([^<]*)</script>`))[1];
 const unpacked = text => zlib.gunzipSync(Buffer.from(text, 'base64'));
@@ -19,7 +19,7 @@ export function pageOf(path) {
   const found = vm.runInContext(`${parts}\n;({${NAMES.join(', ')}})`, context);
   const kept = JSON.parse(unpacked(elementOf(page, 'kept')).toString());
   const module = name => found.Module.of(unpacked(elementOf(page, `module-${name}`)));
-  return {...found, page, kept, module, handlers: new Map(kept.handlers)};
+  return {...found, page, kept, module};
 }
 
 // Counts checks, and tells those that don't hold, a line each; the last line has the counts.

@@ -17,6 +17,18 @@ WRITES = """.services exit
     mov 0,%o0
     ta 0
 """
+# A loop of three rounds without annotations.
+COUNTED = """.services exit
+.function main,leaf,0,0,0
+    mov 3,%o1
+.block loop
+    deccc %o1
+    bne loop
+    nop
+.block done
+    mov 0,%o0
+    ta 0
+"""
 # Keeps what the page would save: the names, and the bytes.
 KEEPS = """(() => {
   window.saved = {names: [], bytes: []};
@@ -41,19 +53,22 @@ def begins(page):
     for name, change in (("turns", "0 00 u"), ("why", "accepted"), ("echo", page.kept["stored"]["hello"])):
         kept = json.loads(json.dumps(page.kept))
         kept["stored"][name] = change
-        refuses(page, page.with_kept(kept), f"another {name}")
+        refuses(page, page.with_kept(kept), f"another {name}", "the self-test")
+    for name in ("WebAssembly", "DecompressionStream"):
+        without = page.with_script(f"globalThis.{name},", "undefined,")
+        refuses(page, without, f"without {name}", f"this browser lacks {name}")
     page.open()
 
 
-def refuses(page, path, name):
-    """A page doesn't go on, and says so."""
+def refuses(page, path, name, why):
+    """A page doesn't go on, and says why."""
     patience, browser.PATIENCE = browser.PATIENCE, REFUSAL
     try:
         page.browser.open(path)
         page.check(f"{name}: it goes on", False)
     except browser.Failed:
         said = page.verdict()
-        page.check(f"{name}: {said}", "doesn\u2019t go on: the self-test" in said)
+        page.check(f"{name}: {said}", f"doesn\u2019t go on: {why}" in said)
         page.check(f"{name}: a button can be pressed",
                    page.js("[...document.querySelectorAll('button')].every(it => it.disabled)"))
     browser.PATIENCE = patience
@@ -155,6 +170,8 @@ def buttons(page):
     page.check("lessons", page.look("shown", "lessons") and page.look("lessonButtons"))
     page.press("b-lessons")
     page.check("lessons are gone", not page.look("shown", "lessons"))
+    hints(page)
+    annotates(page)
     writers(page)
     talks(page)
     stops(page)
@@ -177,6 +194,43 @@ def steps(page):
     page.look("set", "slide", 7)
     page.check("the slider", page.look("text", "turn").startswith("turn 7 of"))
     page.check("the turn's line is marked", page.look("now"))
+
+
+def hints(page):
+    """A line that goes on behind the edge is told whole where it is pointed at, and one with a fault by that."""
+    line = f"! {'words and more ' * 30}end"
+    page.write(f"! short\n{line}\n    no instruction\n")
+    page.same("a short line that is pointed at", page.look("hint", 1), "")
+    page.same("a long one", page.look("hint", 2), line)
+    page.check("one with a fault", re.match(r"[A-Z]\d+: ", page.look("hint", 3)), page.look("hint", 3))
+
+
+def annotates(page):
+    """A source without annotations gets them, is accepted then, and is what it was once that is undone; what isn't
+    shown is told at its line."""
+    page.write(COUNTED)
+    page.check("it isn't accepted", page.verdict().startswith("\u2717 refused"), page.verdict())
+    page.press("b-annotate")
+    page.check("it is accepted with annotations", page.verdict().startswith("\u2713"), page.verdict())
+    made = page.js("document.querySelector('#source').value")
+    page.same("its lines are those that it had", without_annotations(made), without_annotations(COUNTED))
+    page.press("b-annotate")
+    page.same("nothing more is added", page.js("document.querySelector('#source').value"), made)
+    page.js("[document.querySelector('#source').focus(), document.execCommand('undo')].length")
+    page.same("what it was", page.js("document.querySelector('#source').value"), COUNTED)
+    page.write(COUNTED.replace("    mov 0,%o0\n", ""))
+    page.press("b-annotate")
+    line = made.split("\n").index("    ta 0")
+    page.check("what isn't shown is told at its line", f"{line} note" in page.look("text", "problems"),
+               page.look("text", "problems"))
+    page.write("    no instruction\n")
+    page.check("a source with a fault isn't annotated", page.js("document.querySelector('#b-annotate').disabled"))
+
+
+def without_annotations(source):
+    """The lines of a source that are none, and of a function's its name."""
+    lines = [it.strip() for it in source.split("\n")]
+    return [it.partition(",")[0] for it in lines if not re.match(r"\.(cell|fuel|term|param|result|depth)\b", it)]
 
 
 def writers(page):
@@ -298,7 +352,7 @@ def keys(page):
     page.same("Tab behind Escape writes nothing",
               page.js("document.querySelector('#source').value.length") - before, 4)
     page.press("b-check")
-    for name in ("Enter", "k", "j"):
+    for name in ("Enter", "k", "i", "j"):
         page.check(f"Ctrl+{name} is bound", page.js(
             f"!document.body.dispatchEvent(new KeyboardEvent('keydown', {{key: '{name}', ctrlKey: true, "
             "bubbles: true, cancelable: true}))"))

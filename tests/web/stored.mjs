@@ -58,6 +58,18 @@ function refusals() {
   }
 }
 
+// A loop that has to be annotated, and a word that has no place in a program.
+const COUNTED = page.utf8(`.services exit
+.function main,leaf,0,0,0
+    mov 3,%o1
+.block loop
+    deccc %o1
+    bne loop
+    nop
+.block done
+    ta 0
+`), UNPLACED = page.utf8('.function main,leaf,0,0,0\n    rd %psr,%o0\n');
+
 // What isn't an image, a source or a count of windows is denied by its status.
 function denials() {
   const nothing = new Uint8Array(), junk = page.bytesOfText('SBX8 and so on');
@@ -67,7 +79,11 @@ function denials() {
     for (const given of [nothing, junk]) tally.same(name, play.tell(name, [given]).status, page.NO_IMAGE);
   for (const windows of [0, 3, 33, 4294967295])
     tally.same(`${windows} windows`, told('play_run', image, windows, 10n, nothing), 'status 4');
-  for (const name of ['play_assemble', 'play_map'])
+  for (const windows of [3, 33])
+    tally.same(`a page on ${windows} windows`, told('play_page', image, windows, 10n, nothing, nothing), 'status 4');
+  tally.same('a word that no program has', play.tell('play_annotate', [UNPLACED]).status, page.NO_PROGRAM);
+  tally.same('why it is none', told('play_notes', UNPLACED).split(' ', 2).join(' '), '2 an');
+  for (const name of ['play_assemble', 'play_map', 'play_annotate'])
     tally.same(name, play.tell(name, [page.utf8('no such thing\n')]).status, page.SOURCE);
   for (const [name, given] of [['play_image', [image]], ['play_check', [hello]]]) {
     const whole = play.tell(name, given), cut = play.tell(name, given, 1);
@@ -99,7 +115,8 @@ function growths() {
   const hello = page.utf8(page.kept.stored.hello), nothing = new Uint8Array();
   const image = play.tell('play_assemble', [hello]).bytes, run = [image, 8, 100n, nothing];
   const calls = {play_check: [hello], play_assemble: [hello], play_map: [hello], play_image: [image], play_why: [image],
-    play_list: [image], play_run: run, play_trace: run, play_states: run};
+    play_list: [image], play_run: run, play_trace: run, play_states: run, play_page: [...run, hello],
+    play_annotate: [COUNTED], play_notes: [COUNTED]};
   for (const [name, given] of Object.entries(calls)) {
     const whole = told(name, ...given);
     let number = 0;

@@ -1,6 +1,7 @@
 """The page that is tried: what stands in it, and what one does with it in the browser that is driven."""
 import base64
 import gzip
+import hashlib
 import json
 import re
 import time
@@ -38,6 +39,13 @@ class Page:
         """The page with other data."""
         changed = packed(json.dumps(kept, ensure_ascii=False).encode())
         return put(f"{self.folder}/other.html", self.text.replace(self.element("kept"), changed))
+
+    def with_script(self, old, new):
+        """The page whose script has another text in a place, with the script's digest in the policy."""
+        script = re.search(r"<script>(.*?)</script>", self.text, re.S)[1]
+        changed = script.replace(old, new)
+        digest, other = (base64.b64encode(hashlib.sha256(it.encode()).digest()).decode() for it in (script, changed))
+        return put(f"{self.folder}/other.html", self.text.replace(script, changed).replace(digest, other))
 
     def named(self, name):
         """A check's name, with the browser's and the part's."""

@@ -88,8 +88,7 @@ class Loaded:
         tables = table_words(len(self.words), self.declared.regions, self.declared.stack)
         for place, word in tables.items():
             ram[place:place + 4] = word.to_bytes(4, "big")
-        profile = bytes_of(f"{TOP}/docs/profile.md").decode()
-        for address, (word, *_) in Handlers(profile, windows).words.items():
+        for address, word in Handlers(windows).words.items():
             self.put(ram, address, word.to_bytes(4, "big"))
         self.put(ram, CODE, self.code)
         for address, data, _ in self.regions:

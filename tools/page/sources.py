@@ -1,27 +1,16 @@
-"""The lines of a page's data that tell names of a source, and the lines of C that words come from."""
-import itertools
+"""The lines of a page's data that tell the lines of C that words come from, by a map."""
 import os
-import re
 import sys
 
-from declared import hexadecimal
+from listed import hexadecimal
 
 sys.path.append(f"{os.path.dirname(os.path.dirname(os.path.abspath(__file__)))}/debug")
 from ends import Ending
 from loaded import Fault
 from maps import read, sum_of
+from tape import Turn
 
-__all__ = ["Fault", "c_lines", "end_lines", "name_lines", "read"]
-
-NAMED = re.compile(r"([0-9A-F]{8}) \d+ (?:function|block) (\S+)")
-
-
-def name_lines(told):
-    """Yields a line for each function and block that `inspect map` names: its address and its name."""
-    for line in told.splitlines():
-        found = NAMED.fullmatch(line)
-        if found:
-            yield f"i{int(found[1], 16):X} {hexadecimal(found[2])}"
+__all__ = ["Fault", "c_lines", "end_lines", "read"]
 
 
 def c_lines(mapped, folder):
@@ -40,14 +29,15 @@ def c_lines(mapped, folder):
         last = place
 
 
-def end_lines(turns, mapped, words):
-    """Yields a line that tells which test turns ended in, where they ended in one; `words` has those of the code by
-    their addresses."""
-    end = turns[-1].end if turns else None
-    ending = Ending(int(end[5:], 16) if end and end.startswith("exit ") else None, mapped)
+def end_lines(states, mapped):
+    """Yields a line that tells which test turns ended in, where they ended in one: by the states that `inspect states`
+    tells."""
+    turns = [Turn(it) for it in states.splitlines()[1:-1]]
+    end = turns[-1].event if turns else ""
+    ending = Ending(int(end[5:], 16) if end.startswith("exit:") else None, mapped)
     if ending.is_test:
-        own = (it.pc for it in reversed(turns) if it.user and it.fetched)
-        ending.look([(pc, words.get(pc)) for pc in itertools.islice(own, ending.behind)])
+        own = [it for it in reversed(turns) if it.word is not None and not (it.is_annulled or it.is_supervisor)]
+        ending.look([(it.pc, it.word) for it in own[: ending.behind]])
         if told := ending.told():
             yield f"z{hexadecimal(told)}"
 

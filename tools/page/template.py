@@ -3,6 +3,8 @@ import base64
 import hashlib
 import os
 
+from listed import comment_lines
+
 HERE = os.path.dirname(os.path.abspath(__file__))
 # The script's parts, in the order in which each needs those before it.
 SCRIPT = ("elements", "run", "story", "bound", "code", "windows", "memory", "traps", "fuel", "stops", "beside",
@@ -32,7 +34,7 @@ def joined(first, second):
     style = lean(part("page.css"))
     script = "'use strict';\n" + lean("".join(part(f"script/{it}.js") for it in SCRIPT))
     page = part("page.html").replace("@STYLE-DIGEST@", digest(style)).replace("@SCRIPT-DIGEST@", digest(script))
-    page = page.replace("@STYLE@", style).replace("@SCRIPT@", script)
+    page = page.replace("@STYLE@", style).replace("@SCRIPT@", script).replace("@COMMENTS@", comment_lines())
     before, _, rest = page.partition("@DATA@")
     between, _, after = rest.partition("@BESIDE@")
     return before.encode() + first + between.encode() + second + after.encode()

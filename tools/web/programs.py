@@ -78,11 +78,3 @@ def stored():
     return {"hello": source_of(f"{EXAMPLES}/hello/hello.s"), "turns": text_of(f"{EXAMPLES}/hello/hello.turns"),
             "refused": source_of(f"{EXAMPLES}/refused/V14.s"), "why": text_of(f"{EXAMPLES}/refused/V14.told"),
             "echo": source_of(f"{EXAMPLES}/echo/echo.s"), "input": text_of(f"{EXAMPLES}/echo/echo.in")}
-
-
-def handlers():
-    """The words of vectors and handlers, with text and comment: the listing of docs/profile.md."""
-    part = source_of(f"{TOP}/docs/profile.md").partition("## Vectors and handlers")[2].partition("\n## ")[0]
-    listed = re.findall(r"^([0-9A-F]{8}) ([0-9A-F]{8})  (\S+(?: [^!\n]*[^!\s])?) *(?:! (.*))?$", part, re.M)
-    return [[int(address, 16), [int(word, 16), "sethi 0,%g0" if text == "nop" else text, comment]]
-            for address, word, text, comment in listed]

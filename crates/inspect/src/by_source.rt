@@ -80,7 +80,7 @@ fn job_alone(words: &[String]) -> Option<Alone<'_>> {
 fn has_names(job: &InspectJob<'_>) -> bool {
     match *job {
         InspectJob::Image { form, .. } | InspectJob::Why { form, .. } => form == Form::Text,
-        InspectJob::Trace { .. } => true,
+        InspectJob::Trace { .. } | InspectJob::Data { .. } => true,
         InspectJob::Run { .. } | InspectJob::States { .. } | InspectJob::Machine { .. } => false,
     }
 }

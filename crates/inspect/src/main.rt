@@ -5,6 +5,7 @@
 mod by_source;
 mod commands;
 mod cycles;
+mod data;
 mod faults;
 mod machine;
 mod naming;
@@ -17,6 +18,7 @@ mod words;
 use cmd_command::{CommandStop, Full, MOST};
 use cmd_files::{Counted, FileFault, command_words, hold_streams, open_file};
 use commands::{explain_image, run_image, show_image, trace_image};
+use data::data_image;
 use faults::InspectFault;
 use inspect_run::Progress;
 use machine::run_machine;
@@ -65,6 +67,9 @@ fn tell<F: Read, I: Read, O: Write, P: Progress>(
         InspectJob::States { windows, limit, .. } => {
             state_image(alloc, windows, limit, file, input, out)
         }
+        InspectJob::Data { windows, limit, .. } => {
+            data_image(alloc, windows, limit, file, input, out)
+        }
         InspectJob::Why { form, .. } => {
             explain_image(alloc, form, file, out)?;
             Ok(())
@@ -109,6 +114,7 @@ fn path_of<'a>(job: &InspectJob<'a>) -> &'a str {
     | InspectJob::Run { image: path, .. }
     | InspectJob::Trace { image: path, .. }
     | InspectJob::States { image: path, .. }
+    | InspectJob::Data { image: path, .. }
     | InspectJob::Machine { file: path, .. }
     | InspectJob::Why { image: path, .. }) = *job;
     path

@@ -1,5 +1,6 @@
 //! What is told of an image by the names and the lines of its source.
 use crate::commands::put_out;
+use crate::data::tell_data;
 use crate::sources::digest_of;
 use crate::words::InspectJob;
 use cmd_command::{CommandStop, Windows, image_in, input_of};
@@ -108,8 +109,22 @@ fn tell_named<I: Read, O: Write, P: Progress>(
         InspectJob::Image { .. }
         | InspectJob::Run { .. }
         | InspectJob::States { .. }
+        | InspectJob::Data { .. }
         | InspectJob::Machine { .. } => { show(alloc, names, &image, out) }
     }
+}
+
+/// Whether two images are the same.
+fn is_same(alloc: Global, image: &Image, other: &Image) -> Result<bool, CommandStop> {
+    let digest = digest_of(alloc, image)?;
+    let others = digest_of(alloc, other)?;
+    Ok(digest.as_bytes() == others.as_bytes())
+}
+
+/// Whether an image is the one that a source means.
+fn is_source(alloc: Global, text: &[u8], image: &Image) -> Result<bool, CommandStop> {
+    let meant = assemble(alloc, text)?;
+    is_same(alloc, &meant, image)
 }
 
 /// The names of a text that is no map, which is the image's source or not.
@@ -118,8 +133,7 @@ fn names_of_source<'s>(
     text: &'s [u8],
     image: &Image,
 ) -> Result<Result<Names<'s>, Known>, CommandStop> {
-    let meant = assemble(alloc, text)?;
-    if digest_of(alloc, &meant)?.as_bytes() != digest_of(alloc, image)?.as_bytes() {
+    if !is_source(alloc, text, image)? {
         return Ok(Err(Known::Foreign));
     }
     Ok(Ok(stopped(names_in(alloc, text))?))
@@ -144,8 +158,44 @@ fn names_for<'s>(
     }
 }
 
-/// Does a job on the image of a file with the names and the lines of a source, or of a map that was made of it, if it
-/// is that image's.
+/// Tells the data of the page of an image's run with the lines of its source.
+fn data_by_source<I: Read, O: Write>(
+    alloc: Global,
+    text: &[u8],
+    windows: Windows,
+    limit: u64,
+    image: Image,
+    input: &mut I,
+    out: &mut O,
+) -> Result<Known, CommandStop> {
+    if !is_source(alloc, text, &image)? {
+        return Ok(Known::Foreign);
+    }
+    tell_data(alloc, windows, limit, image, Some(text), input, out)?;
+    Ok(Known::Own)
+}
+
+/// Does a job on an image with the names of a source or of its map, if the image is that one's.
+fn tell_by_names<I: Read, O: Write, P: Progress>(
+    alloc: Global,
+    text: &[u8],
+    job: &InspectJob<'_>,
+    image: Image,
+    input: &mut I,
+    out: &mut O,
+    progress: &mut P,
+) -> Result<Known, CommandStop> {
+    match names_for(alloc, text, &image)? {
+        Ok(names) => {
+            tell_named(alloc, &names, job, image, input, out, progress)?;
+            Ok(Known::Own)
+        }
+        Err(known) => Ok(known),
+    }
+}
+
+/// Does a job on the image of a file with the names and the lines of a source, or with the names of a map that was made
+/// of it, if it is that image's.
 pub fn tell_by_source<F: Read, I: Read, O: Write, P: Progress>(
     alloc: Global,
     text: &[u8],
@@ -156,11 +206,15 @@ pub fn tell_by_source<F: Read, I: Read, O: Write, P: Progress>(
     progress: &mut P,
 ) -> Result<Known, CommandStop> {
     let image = image_in(alloc, file)?;
-    match names_for(alloc, text, &image)? {
-        Ok(names) => {
-            tell_named(alloc, &names, job, image, input, out, progress)?;
-            Ok(Known::Own)
+    match *job {
+        InspectJob::Data { windows, limit, .. } => {
+            data_by_source(alloc, text, windows, limit, image, input, out)
         }
-        Err(known) => Ok(known),
+        InspectJob::Image { .. }
+        | InspectJob::Run { .. }
+        | InspectJob::Trace { .. }
+        | InspectJob::States { .. }
+        | InspectJob::Machine { .. }
+        | InspectJob::Why { .. } => tell_by_names(alloc, text, job, image, input, out, progress),
     }
 }

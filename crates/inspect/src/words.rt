@@ -44,6 +44,12 @@ pub enum InspectJob<'a> {
         windows: Windows,
         limit: u64,
     },
+    /// The data of the page of its run on so many register windows, up to a limit of turns.
+    Data {
+        image: &'a str,
+        windows: Windows,
+        limit: u64,
+    },
     /// The states of a machine of one's own, which the lines of a file set.
     Machine {
         file: &'a str,
@@ -67,6 +73,8 @@ pub const USAGE: &str =
                and what it changed
   states IMG   runs any image on standard input and tells the processor's state a turn, for
                programs: registers, word, event, and what changed
+  data IMG     runs any image on standard input and tells the data of its page, which
+               `inspect page` makes of them
   machine FILE runs words in RAM from any state, as FILE says, with no board, and tells its
                states, and the words of RAM that changed
   why IMG      tells why an image is refused: the rule, the word, and what is known there
@@ -77,12 +85,13 @@ pub const USAGE: &str =
                a processor's worst cases
   --version    of the script ./inspect: the version, the commit of the sources, and the kit
 
-run, trace, states, machine: --windows N is the count of register windows, 4 to 32 (8);
-                             --limit T the most turns, 0 to 9999999999 (100000).
+run, trace, states, data, machine: --windows N is the count of register windows, 4 to 32 (8);
+                                   --limit T the most turns, 0 to 9999999999 (100000).
 machine: --binary BIN puts the bytes of BIN into RAM, from --at ADDRESS on (0).
 image, run, why, check: --json tells all of it in one line, a JSON object.
 image, trace, why: --source SRC tells it by the names and the lines of its source, or of the
                    map that `inspect map` made of it.
+data: --source SRC tells the lines of its source too, and its names.
 cycles: --table FILE is the table, --max-cycles N what the bound may be at most, in decimal.
 Status 0: told. 1: the bound of cycles is greater. 2: no image. 3: other words. 4: a file,
 the input or the output fails. 5: memory.
@@ -205,6 +214,11 @@ fn numbered<'a>(command: &str, image: &'a str, options: &Options<'a>) -> Option<
             limit,
         }),
         ("states", Form::Text) => Some(InspectJob::States {
+            image,
+            windows,
+            limit,
+        }),
+        ("data", Form::Text) => Some(InspectJob::Data {
             image,
             windows,
             limit,

@@ -4,4 +4,5 @@
 mod loaded;
 mod run;
 
+pub use loaded::{machine_of, memory_of, regs};
 pub use run::{run_fault, state_windows};

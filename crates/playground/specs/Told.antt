@@ -1,5 +1,5 @@
 -- What the calls tell of a source, of the image that bytes spell, and of a run of it.
-use Rattle.std.specs.Prelude.{ℕ, ◌≡◌, List, [], Ok, Err, Option, None, IfSome}
+use Rattle.std.specs.Prelude.{ℕ, ◌≡◌, List, [], Ok, Err, Option, None, IfSome, IsOk}
 use Rattle.sbx_image.specs.Parts.{Parts}
 use Rattle.sbx_image.specs.ImageFault.{ImageFault}
 use Rattle.sbx_image.specs.Reading.{reading}
@@ -7,9 +7,11 @@ use Rattle.sbx_image.specs.Spelling.{spelling}
 use Rattle.v8_map.specs.declared.TheConstants.{CODE_START}
 use Rattle.sbx_asm.specs.declared.fault.AsmFault.{AsmFault}
 use Rattle.sbx_asm.specs.Images.{source_image}
+use Rattle.sbx_asm.specs.Items.{lines_of}
 use Rattle.sbx_rules.specs.declared.cause.Refusal.{Refusal}
 use Rattle.sbx_rules.specs.Verdicts.{Checked, IsFirst}
 use Rattle.cmd_listing.specs.Listing.{listing}
+use Rattle.fit_kept.specs.Lines.{IsAnnotated, without}
 use Rattle.inspect_image.specs.Images.{image_text}
 use Rattle.inspect_image_states.specs.Told.{IsStated}
 use Rattle.inspect_json.specs.Findings.{check_json}
@@ -18,6 +20,7 @@ use Rattle.inspect_json.specs.Runs.{run_json}
 use Rattle.inspect_names.specs.declared.checking.Verdict.{Verdict}
 use Rattle.inspect_names.specs.declared.findings.Finding.{Finding}
 use Rattle.inspect_names.specs.Findings.{IsCheck}
+use Rattle.inspect_page.specs.Alphabet.{IsPlainText}
 use Rattle.inspect_refusal.specs.Refusals.{Tells}
 use Rattle.inspect_run.specs.declared.run.Run.{Run}
 use Rattle.inspect_run.specs.Runs.{IsRun}
@@ -37,6 +40,11 @@ IsImageOf source bytes = (parts : Parts) × (source_image source ≡ Ok parts) �
 -- it means an image; what its map says isn't said here
 abbrev pub IsMapOf : List ℕ → List ℕ → Type 0
 IsMapOf source text = (parts : Parts) × (source_image source ≡ Ok parts)
+
+-- without its annotations it is the source without its own, line by line, and it means an image
+abbrev pub IsAnnotatedOf : List ℕ → List ℕ → Type 0
+IsAnnotatedOf source text = IsAnnotated (lines_of source) (lines_of text)
+    × (without (lines_of text) ≡ without (lines_of source)) × IsOk (source_image text)
 
 -- it means no image
 abbrev pub MeansNone : List ℕ → Type 0
@@ -72,3 +80,9 @@ IsTraceText bytes windows limit input text =
 abbrev pub IsStatesText : List ℕ → ℕ → ℕ → List ℕ → List ℕ → Type 0
 IsStatesText bytes windows limit input text =
     (parts : Parts) × (reading bytes ≡ Ok parts) × IsStated windows parts input limit text
+
+-- ---- of the page of a run of it
+
+-- it has no byte that could be markup; what its lines tell isn't said here
+abbrev pub IsPageText : List ℕ → List ℕ → Type 0
+IsPageText bytes text = (parts : Parts) × (reading bytes ≡ Ok parts) × IsPlainText text

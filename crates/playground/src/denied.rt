@@ -18,6 +18,8 @@ pub const WINDOWS: u32 = 4;
 pub const ROOM: u32 = 7;
 /// The source means no image.
 pub const SOURCE: u32 = 13;
+/// The image that the source means is no program, or its annotations would be too many.
+pub const NO_PROGRAM: u32 = 16;
 
 /// Why there is no text.
 #[derive(Clone, Copy)]

@@ -2,8 +2,12 @@
 //! of the caller's, and tells how long it is. A call holds nothing when it ends.
 #![tactic(auto)]
 
+mod annotations;
 mod denied;
 mod images;
+mod pages;
 mod room;
 mod runs;
 mod sources;
+#[cfg(test)]
+mod tests;

@@ -22,7 +22,7 @@ impl Progress for Untold {
 }
 
 /// Why a run has no text, whose input is a slice, and whose text is written to a vector.
-fn denied_by(fault: RunFault) -> Denied
+pub fn denied_by(fault: RunFault) -> Denied
     ensures { (bytes : List ℕ) → IsOfImage bytes result }
 {
     match fault {
@@ -32,7 +32,7 @@ fn denied_by(fault: RunFault) -> Denied
 }
 
 /// Whether there is a machine of so many windows.
-fn is_count(windows: u32) -> bool
+pub fn is_count(windows: u32) -> bool
     ensures yes { result ≡ true → (4 ≤ windows) × (windows ≤ 32) }
     ensures no { result ≡ false → 4 ≤ windows → 32 < windows }
 {

@@ -35,7 +35,7 @@ fn denied_by(fault: AsmFault) -> Denied
 
 /// The bytes of the image that a source means.
 #[tactic(auto, using(crate::proofs::Denials::fault_denied))]
-fn image_of(alloc: Global, source: &[u8]) -> Result<Vec<u8>, Denied>
+pub fn image_of(alloc: Global, source: &[u8]) -> Result<Vec<u8>, Denied>
     ensures image { IfOk result (λ bytes. IsImageOf source.now bytes.items) }
     ensures none { IfErr result (IsOfSource source.now) }
 {

@@ -57,8 +57,20 @@ function historyIn(map, key) {
   return history;
 }
 
+// What the listing of the machine's own code says of its words, by address, in the page's element.
+function listedComments() {
+  const comments = new Map();
+  for (const line of byId('comments').textContent.split('\n')) {
+    const space = line.indexOf(' ');
+    if (space > 0) comments.set(fromHex(line.slice(0, space)), textOf(line.slice(space + 1)));
+  }
+  return comments;
+}
+
 class Run {
-  constructor(text) {
+  // `comments` are those of the machine's own code.
+  constructor(text, comments = new Map()) {
+    this.comments = comments;
     const lines = text.split('\n');
     this.code = new Map();
     this.functions = [];
@@ -97,7 +109,6 @@ class Run {
       case 'f': this.readFunction(fields); break;
       case 'b': this.readBlock(fields); break;
       case 'w': this.readWord(fields); break;
-      case 'c': this.code.get(fromHex(fields[0])).comment = textOf(fields[1]); break;
       case 'k': this.trapNames.set(fromHex(fields[0]), textOf(fields[1])); break;
       case 'q': this.faultTexts.set(fromHex(fields[0]), fields.slice(1).join(' ')); break;
       case 's':
@@ -159,8 +170,16 @@ class Run {
   }
 
   readWord(fields) {
-    const address = fromHex(fields[0]);
-    this.code.set(address, {address, word: fromHex(fields[1]), text: fields.slice(2).join(' '), comment: '', runs: 0});
+    const address = fromHex(fields[0]), text = fields.slice(2).join(' ');
+    this.code.set(address, {address, word: fromHex(fields[1]), text, comment: this.commentAt(address), runs: 0});
+  }
+
+  // What is said of a word of the machine's own code. A vector that isn't listed is as the one that is listed for all
+  // others.
+  commentAt(address) {
+    const listed = this.comments.get(address);
+    if (listed !== undefined || address >>> 12 !== TRAP_TABLE_PAGE) return listed || '';
+    return this.comments.get(OTHER_VECTOR + (address & 15)) || '';
   }
 
   readTurns(lines, first) {
@@ -306,6 +325,7 @@ class Run {
 }
 
 const USER_CODE_END = 0x80000, TRAP_TABLE_PAGE = 0xF0000, HANDLERS_PAGE = 0xF0001, UNDERFLOW = 0xF0001080;
+const OTHER_VECTOR = 0xF0000020;
 const functionName = (run, of) => run.names.get(of.address) || run.partAt(of.address) || 'f' + of.number;
 const blockName = (run, block) => run.names.get(block.address) ||
   (block.number ? 'f' + block.function.number + '_b' + block.number : functionName(run, block.function));

@@ -5,10 +5,10 @@
 const REST = 200, PLAY = 600;
 const NO_RUN = /^\s*$/;
 
-function sideOf(id) {
+function sideOf(id, comments) {
   const text = byId(id).textContent;
   if (NO_RUN.test(text)) return null;
-  const run = new Run(text), story = new Story(run);
+  const run = new Run(text, comments), story = new Story(run);
   return {run, story, bound: run.accepted ? boundOf(run) : null};
 }
 
@@ -143,7 +143,8 @@ function changeTheme() {
   byId('b-theme').textContent = now;
 }
 
-const page = new Page(sideOf('data'), sideOf('beside'));
+const comments = listedComments();
+const page = new Page(sideOf('data', comments), sideOf('beside', comments));
 const find = () => {
   byId('wanted').focus();
   byId('wanted').select();

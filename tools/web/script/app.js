@@ -13,7 +13,7 @@ const breath = () => new Promise(done => setTimeout(done));
 class App {
   constructor(play, engine, kept) {
     Object.assign(this, {play, engine, kept, turn: 0, told: null, limit: MOST_SHOWN_TURNS});
-    this.handlers = new Map(kept.handlers);
+    this.comments = listedComments();
     this.editor = new Editor(byId('editor'), () => this.edited());
     this.lessons = new LessonPane(byId('lessons'), kept.lessons, {
       go: (block, turn) => this.goInLesson(block, turn),
@@ -30,6 +30,7 @@ class App {
   bindActions() {
     const on = (id, act) => byId(id).addEventListener('click', act);
     on('b-check', () => this.check());
+    on('b-annotate', () => this.annotate());
     on('b-run', () => this.run());
     on('b-step', () => this.record());
     on('b-stop', () => this.stop());
@@ -77,7 +78,7 @@ class App {
   }
 
   key(event) {
-    const acts = {Enter: () => this.run(), k: () => this.check(), j: () => this.record()};
+    const acts = {Enter: () => this.run(), k: () => this.check(), i: () => this.annotate(), j: () => this.record()};
     if ((event.ctrlKey || event.metaKey) && acts[event.key]) {
       event.preventDefault();
       acts[event.key]();
@@ -251,14 +252,45 @@ class App {
     byId('b-run').title =
       judged.accepted ? 'runs it (Ctrl+Enter)' : 'it isn\u2019t accepted: step shows what it would do';
     byId('b-step').disabled = byId('b-image').disabled = !judged.accepted && !judged.rule;
+    byId('b-annotate').disabled = !this.subject.isWritten || !judged.accepted && !judged.rule;
     byId('b-link').disabled = byId('b-source').disabled = !this.subject.isWritten;
     return judged.accepted;
   }
 
+  // Writes the annotations that the source hasn't got, and tells what isn't shown of it. It can be undone.
+  annotate() {
+    this.check();
+    if (byId('b-annotate').disabled) return;
+    const before = this.editor.text, made = this.guarded(() => this.subject.annotated());
+    if (!made) return;
+    if (made.text !== null && made.text !== before) this.editor.replace(made.text);
+    this.edited();
+    this.check();
+    this.tellNotes(made.notes, movedLines(before, this.editor.text));
+    if (made.text === null) this.say('no', '\u2717 it can\u2019t be annotated: the note says why');
+    else this.end('', made.text === before ? 'There is nothing to add.' : 'Annotated, and not run yet.');
+  }
+
+  // Notes stand below the faults, each a button that goes to its line.
+  tellNotes(notes, lines) {
+    const list = byId('problems'), box = list.querySelector('details');
+    for (const {line, sentence} of notes) {
+      const row = element('button'), at = lines[line - 1] ?? 1;
+      row.append(element('b', '', `${at} note`), sentence);
+      row.addEventListener('click', () => this.editor.goTo(at, 1));
+      list.insertBefore(row, box);
+    }
+    if (notes.length) list.hidden = false;
+  }
+
+  // Whether it is there to be stepped through, though the verifier may refuse it: a lesson's program, and what is
+  // written for an exercise that doesn't ask for more.
+  get isForSteps() { return this.program?.lesson !== undefined || Boolean(this.program?.isForSteps); }
+
   tellVerdict({accepted, faults, rule}) {
     const count = faults.length, line = count ? faults[0].line : 0;
     if (accepted) this.say('ok', '\u2713 accepted: no rule is broken');
-    else if (rule && this.program?.lesson !== undefined)
+    else if (rule && this.isForSteps)
       this.say('quiet', `for stepping through, not for a host: rule ${rule} is broken at line ${line}`);
     else if (rule) this.say('no', `\u2717 refused by rule ${rule}, at line ${line}`);
     else this.say('no', `\u2717 ${plural(count, 'fault')}`);
@@ -275,7 +307,7 @@ class App {
       return row;
     }));
     if (!rule || !why) return;
-    box.open = this.program?.lesson === undefined;
+    box.open = !this.isForSteps;
     box.append(element('summary', '', 'what is known there'), element('pre', '', why));
     list.append(box);
   }
@@ -374,10 +406,10 @@ class App {
   record() {
     this.stop();
     this.check();
-    const {windows, input, limit, handlers} = this;
+    const {windows, input, limit, comments} = this;
     if (!this.subject.image) return false;
     const began = performance.now();
-    const made = this.guarded(() => recorded(this.subject, {windows, limit, input, handlers}));
+    const made = this.guarded(() => recorded(this.subject, {windows, limit, input, comments}));
     if (!made) return false;
     this.data = made.data;
     this.lineAt = made.lineAt;
@@ -444,9 +476,9 @@ class App {
     byId('machine').scrollIntoView({block: 'nearest'});
   }
 
-  beginExercise({name, start}) {
+  beginExercise({name, start, checks}) {
     byId('menu').selectedIndex = -1;
-    this.choose({title: name, name, source: start, input: ''});
+    this.choose({title: name, name, source: start, input: '', isForSteps: !checks.some(it => it.accepted)});
     this.editor.area.focus();
   }
 
@@ -541,14 +573,14 @@ class App {
 // What a browser lacks, in words, or an empty text.
 function lacking() {
   const needs = {'WebAssembly': globalThis.WebAssembly, 'DecompressionStream': globalThis.DecompressionStream,
-    'findLast of arrays': Array.prototype.findLast, 'BigInt in memory': DataView.prototype.setBigUint64};
+    'BigInt in memory': DataView.prototype.setBigUint64};
   return Object.keys(needs).filter(it => !needs[it]).join(', ');
 }
 
 async function start() {
   const verdict = byId('verdict'), lacks = lacking();
   try {
-    if (lacks) throw new Error(`this browser lacks ${lacks}; Chromium 113, Firefox 113 and Safari 16.4 have it`);
+    if (lacks) throw new Error(`this browser lacks ${lacks}; a newer one may have it`);
     const [play, engine] = await Promise.all(['module-play', 'module-engine']
       .map(async id => Module.of(await unpacked(held(id)))));
     const kept = JSON.parse(new TextDecoder().decode(await unpacked(held('kept'))));

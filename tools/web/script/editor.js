@@ -53,6 +53,16 @@ class Editor {
     this.show();
   }
 
+  // Writes another text in the place of this one, as if it were typed, so that it can be undone.
+  replace(text) {
+    const {scrollTop} = this.area;
+    this.area.focus({preventScroll: true});
+    this.area.select();
+    if (!document.execCommand('insertText', false, text) || this.text !== text) this.text = text;
+    this.area.setSelectionRange(0, 0);
+    this.area.scrollTop = scrollTop;
+  }
+
   set readOnly(is) { this.area.readOnly = is; }
 
   // Tab writes blanks; Escape and then Tab leaves the editor.
@@ -105,10 +115,18 @@ class Editor {
     this.draw();
   }
 
-  // The sentences of the line that is pointed at.
+  // What is told of the line that is pointed at: its faults, else all of it where it goes on behind the edge.
   hint(event) {
     const line = Math.floor((event.offsetY + this.area.scrollTop) / ROW) + 1;
-    this.area.title = this.faults.get(line) ?? '';
+    this.area.title = this.faults.get(line) ?? (this.isCut(line) ? this.lines[line - 1].trim() : '');
+  }
+
+  // Whether a line that is seen goes on behind the right edge.
+  isCut(line) {
+    const row = this.rows.children[line - 1 - Math.floor(this.area.scrollTop / ROW)], range = document.createRange();
+    if (!row) return false;
+    range.selectNodeContents(row);
+    return range.getBoundingClientRect().right > this.area.getBoundingClientRect().right;
   }
 
   // The line of the turn that is shown, 0 for none.

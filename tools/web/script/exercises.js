@@ -3,6 +3,7 @@
 
 // The greatest count of turns that a check makes, of a program that need not end.
 const CHECKED_TURNS = 1_000_000n, SIMM13 = 0x1FFF;
+const HEADER = 20, REGIONS_HEADER = 18, REGION = 6;
 
 const shownBytes = digits => `\u201C${[...bytesOf(digits)]
   .map(byte => isGraphic(byte) ? String.fromCharCode(byte) : `\\x${hex(byte, 2)}`).join('')}\u201D`;
@@ -19,11 +20,16 @@ const ASKED = {
   underflows: [run => run.underflows, it => plural(it, 'underflow')],
 };
 
+// Where the code of an image begins, and how many words it has (docs/image.md, "Header").
+function codeOf(view) {
+  const start = view.getUint16(4) === 1 ? HEADER : REGIONS_HEADER + REGION * view.getUint16(12);
+  return {start, words: view.getUint32(8)};
+}
+
 // An image in which a number stands in the place of another one as an instruction's operand.
-function patched(image, declared, {of, to}) {
-  const made = image.slice(), view = new DataView(made.buffer), isFirst = view.getUint16(4) === 1;
-  const start = isFirst ? HEADER : REGIONS_HEADER + REGION * declared.regions.length;
-  for (let at = start; at < start + 4 * declared.words; at += 4) {
+function patched(image, {of, to}) {
+  const made = image.slice(), view = new DataView(made.buffer), {start, words} = codeOf(view);
+  for (let at = start; at < start + 4 * words; at += 4) {
     const word = view.getUint32(at), hasNumber = word >>> 30 === 2 && word >>> 13 & 1;
     if (hasNumber && (word & SIMM13) === of) view.setUint32(at, (word & ~SIMM13 | to) >>> 0);
   }
@@ -39,7 +45,7 @@ class Exercise {
 
   checks(asked) {
     if (!this.image) return [{holds: false, text: 'it isn\u2019t assembled yet: see the faults below the source'}];
-    this.declared = new Declared(this.play.text('play_image', [this.image]));
+    this.declared = this.play.text('play_image', [this.image]);
     this.listing = this.play.text('play_list', [this.image]);
     return asked.flatMap(it => this.check(it));
   }
@@ -62,14 +68,14 @@ class Exercise {
   }
 
   budget(wanted) {
-    const [, , budget] = this.declared.functions[0].said;
+    const budget = Number(this.declared.match(/^\.function f0,\w+,\d+,\d+,(\d+)$/m)[1]);
     return {holds: budget === wanted, text: `the least budget that is accepted: ${budget} is declared` +
       (budget === wanted ? '' : budget > wanted ? '; it can be less' : '; it has to be more')};
   }
 
   run(asked) {
     const {windows = 8, input = ''} = asked;
-    const image = asked.patched ? patched(this.image, this.declared, asked.patched) : this.image;
+    const image = asked.patched ? patched(this.image, asked.patched) : this.image;
     const run = JSON.parse(this.play.text('play_run', [image, windows, CHECKED_TURNS, bytesOf(input)]));
     const where = [
       ...asked.patched ? [`with ${asked.patched.to} in the place of ${asked.patched.of}`] : [],

@@ -21,12 +21,13 @@ class Progress {
   }
 }
 
-// Text with `code`, **strong words** and the words of links, into an element.
+// Text with `code`, **strong words**, *terms* and the words of links, into an element.
 function tellInline(host, text) {
-  for (const [whole, code, strong, words, plain] of
-    text.matchAll(/`([^`]+)`|\*\*([^*]+)\*\*|\[([^\]]+)\]\([^)]*\)|([^`*[]+|[`*[])/g)) {
+  for (const [whole, code, strong, term, words, plain] of
+    text.matchAll(/`([^`]+)`|\*\*([^*]+)\*\*|\*(\w[^*]*)\*|\[([^\]]+)\]\([^)]*\)|([^`*[]+|[`*[])/g)) {
     if (code !== undefined) host.append(element('code', '', code));
     else if (strong !== undefined) host.append(element('b', '', strong));
+    else if (term !== undefined) host.append(element('em', '', term));
     else if (words !== undefined) tellInline(host, words);
     else host.append(plain ?? whole);
   }

@@ -2,6 +2,7 @@
 // ---- The proved module: its memory, which it asks for by three calls, and its answers.
 
 const OK = 0, NO_IMAGE = 1, MEMORY = 3, ROOM = 7, ENDED = 8, WANTS = 9, FULL = 10, PAUSED = 11, SOURCE = 13;
+const NO_PROGRAM = 16;
 // The least block has 16 bytes, which a pointer is a multiple of; memory grows by a MiB at least.
 const LEAST_BLOCK = 16, LEAST_GROWTH = 1 << 20, WASM_PAGE = 65536, MOST_BLOCK = 2 ** 30;
 const FIRST_ROOM = 65536;
@@ -15,6 +16,7 @@ function textOfBytes(bytes) {
   return text;
 }
 
+const digitsOfBytes = bytes => Array.from(bytes, byte => hex(byte, 2)).join('');
 const bytesOfText = text => Uint8Array.from(text, it => it.charCodeAt(0) & 255);
 const utf8 = text => new TextEncoder().encode(text);
 

@@ -2,7 +2,9 @@
 // ---- What the page is about: a source that is written, or an image that was opened. Both are judged, run and stepped
 // through by what the module tells.
 
-const IMAGE_MAGIC = 'SBX8', MOST_FILE = 16_777_216;
+const IMAGE_MAGIC = 'SBX8', MOST_FILE = 16_777_216, CODE = 0x40000;
+// Room for the data of 100,000 turns, as most programs have them.
+const FIRST_DATA_ROOM = 1 << 22;
 
 class SourceSubject {
   constructor(play, text) {
@@ -21,6 +23,21 @@ class SourceSubject {
     const rule = faults.length && /^V/.test(faults[0].code) ? faults[0].code : '';
     // (the sentence, the line and its mark are shown already)
     return {accepted, faults, rule, why: rule ? text.split('\n').slice(3).join('\n').trim() : ''};
+  }
+
+  // The source with the annotations that it hasn't got, or null where it can't have them; and what isn't shown of it,
+  // each with its line.
+  annotated() {
+    const {status, bytes} = this.play.tell('play_annotate', [this.bytes]);
+    if (status === MEMORY) throw new Error('there is not so much memory');
+    const notes = this.play.text('play_notes', [this.bytes]) ?? '';
+    return {
+      text: bytes && new TextDecoder().decode(bytes),
+      notes: notes.split('\n').filter(it => it).map(line => {
+        const space = line.indexOf(' ');
+        return {line: Number(line.slice(0, space)), sentence: line.slice(space + 1)};
+      })
+    };
   }
 
   get image() {
@@ -57,20 +74,30 @@ class ImageSubject {
   get source() { return null; }
 }
 
-// The run of a subject, turn by turn: its data, what is read of them, and the line of each address.
-function recorded(subject, {windows, limit, input, handlers}) {
-  const {play, image} = subject, tell = (name, ...more) => play.text(name, [image, ...more]);
-  const why = tell('play_why'), [head] = why.split('\n', 1);
-  const trace = play.text('play_trace', [image, windows, BigInt(limit + 2), input], 1 << 24);
-  const map = subject.source === null ? null : play.text('play_map', [utf8(subject.source)]);
-  const texts = {declared: tell('play_image'), listing: tell('play_list'), trace, why, map,
-    verdict: head.startsWith('accepted') ? 'accepted' : head};
-  const data = runData(texts, image, {windows, limit, source: subject.source, handlers});
-  const run = new Run(data), lineAt = new Map();
-  if (subject.source === null)
-    texts.listing.split('\n').forEach((line, at) => lineAt.set(fromHex(line.slice(0, 8)), at + 1));
-  run.source.forEach(({address, words}, at) => {
-    for (let word = 0; word < words; word++) lineAt.set(address + 4 * word, at + 1);
+// Where each line of a source stands once annotations were put between its lines.
+function movedLines(before, after) {
+  const lines = after.split('\n'), isFunction = line => /^\s*\.function\b/.test(line);
+  const isSame = (line, other) => line === other || isFunction(line) && isFunction(other);
+  let at = 0;
+  return before.split('\n').map(line => {
+    while (at < lines.length && !isSame(line, lines[at])) at++;
+    return ++at;
   });
+}
+
+// The run of a subject, turn by turn: its data, what is read of them, and the line of each address. Where there is no
+// source the code is shown, a word a line.
+function recorded(subject, {windows, limit, input, comments}) {
+  const {play, image, source} = subject, isWritten = source !== null;
+  const given = [image, windows, BigInt(limit), input, utf8(isWritten ? source : '')];
+  const data = play.text('play_page', given, FIRST_DATA_ROOM);
+  if (data === null) throw new Error('there is not so much memory');
+  const run = new Run(data, comments), lineAt = new Map();
+  const put = (address, words, line) => {
+    for (let word = 0; word < words; word++) lineAt.set(address + 4 * word, line);
+  };
+  run.source.forEach(({address, words}, at) => put(address, words, at + 1));
+  const code = Array.from(run.code.keys()).filter(it => it < USER_CODE_END);
+  if (!isWritten) code.forEach((address, at) => put(address, 1, at + 1));
   return {data, run, lineAt};
 }
