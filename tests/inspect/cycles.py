@@ -30,7 +30,8 @@ WRONG = {
 # op3 of format 3, by the row: of memory, of arithmetic, and of control
 MEMORY = {**dict.fromkeys((0, 1, 2, 3, 9, 10), "load"), **dict.fromkeys((4, 5, 6, 7), "store"),
           13: "exchange", 15: "exchange"}
-ARITHMETIC = {**dict.fromkeys((0x0A, 0x0B, 0x1A, 0x1B), "multiply"), **dict.fromkeys((0x0E, 0x0F, 0x1E, 0x1F), "divide"),
+ARITHMETIC = {**dict.fromkeys((0x0A, 0x0B, 0x1A, 0x1B), "multiply"),
+              **dict.fromkeys((0x0E, 0x0F, 0x1E, 0x1F), "divide"),
               0x38: "jump", 0x3C: "save", 0x3D: "restore"}
 SERVICES = {0: "exit", 1: "get", 2: "put"}
 # What a step takes beside its row, its fetch and the walk for that.
