@@ -10,8 +10,8 @@ use sbx_image::Image;
 use std::alloc::Global;
 use std::io::{Read, Write};
 
-/// Runs an image on an input, on so many windows, up to so many turns, and tells the data of its page, with the lines of
-/// its source, where there is one.
+/// Runs an image on an input, on so many windows, up to so many turns, and tells the data of its page, with the lines
+/// of its source, where there is one.
 #[tactic(auto, using(crate::proofs::Telling::wrote_report))]
 fn put_data<O: Write>(
     alloc: Global,

@@ -259,7 +259,7 @@ impl LimitReason {
 }
 
 impl ShapeReason {
-    /// Its sentence, as docs/faults.md has it.
+    /// Its sentence, as the page of faults has it.
     pub fn sentence(self) -> &'static str {
         match self {
             ShapeReason::Text(reason) => reason.sentence(),

@@ -1,5 +1,5 @@
-//! Images, as bytes of the format (docs/image.md), and how they are read. Where a growth of memory is refused, they are
-//! read once more.
+//! Images, as bytes of the format, and how they are read. Where a growth of memory is refused, they are read once
+//! more.
 use sbx_image::{Image, ImageFault, parse};
 use std::alloc::Global;
 

@@ -50,7 +50,7 @@ table: .word first,table
  nop
 ";
 
-/// Its image, by the fields of docs/image.md: the header and the sizes of the regions, the words, the two regions, the
+/// Its image, by the fields of the format: the header and the sizes of the regions, the words, the two regions, the
 /// functions.
 const FULL_IMAGE: [u8; 241] = [
     0x53, 0x42, 0x58, 0x38, 0x00, 0x02, 0x00, 0x01, 0x00, 0x00, 0x00, 0x07, 0x00, 0x02, 0x00, 0x01,
