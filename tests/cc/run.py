@@ -1,7 +1,7 @@
 #!/usr/bin/env python3
 """usage: tests/cc/run.py [PART ..]
 
-Tries ./cc and ./c++ as an author calls them: the programs and the refusals that docs/c.md shows, each option, each
+Tries ./cc and ./c++ as an author calls them: the programs and the refusals that docs/use/c.md shows, each option, each
 status, each refusal by its line; programs of 100 lines in C, by gcc and clang, and in C++, beside the same for this
 machine; a Makefile and CMake. What needs a compiler for SPARC is skipped where none is."""
 import os
@@ -81,8 +81,8 @@ def try_words(author):
 
 
 def try_page(author):
-    """The programs of docs/c.md, each under its name."""
-    for name, text in re.findall(r"^```c(?:pp)? (\S+)\n(.*?)^```$", text_of(f"{TOP}/docs/c.md"), re.M | re.S):
+    """The programs of docs/use/c.md, each under its name."""
+    for name, text in re.findall(r"^```c(?:pp)? (\S+)\n(.*?)^```$", text_of(f"{TOP}/docs/use/c.md"), re.M | re.S):
         put(author.at(name), text)
     author.puts(author.makes("accepted", "hello.c"), b"Ann will be 31.\nBob will be 42.\n", b"Ann 30\nBob 41\n")
     if has(COMPILER_PLUS):

@@ -3,8 +3,8 @@
 
 Compares the turns and walks of crates/v8_turns/stdin with QEMU's LEON3 (`qemu-system-sparc`): sets its state, runs
 one instruction by its gdb stub, and reads registers, memory and fault status back. Of every N lines it takes one, or
-all. Tells what it compared, what it left out and why, what differs by design (docs/comparing.md), and each other
-difference. Where QEMU isn't there, nothing is tried, and the status is 2. With --machine it runs so many turns of
+all. Tells what it compared, what it left out and why, what differs by design (docs/machine/comparing.md), and each
+other difference. Where QEMU isn't there, nothing is tried, and the status is 2. With --machine it runs so many turns of
 what is in FILE in QEMU, and prints their states as vectors/traces has them: the fault status, page entries and stores
 aren't told, and a slot that is annulled is no turn."""
 import collections
@@ -110,8 +110,8 @@ def is_exchange(turn):
     return (turn.row or "").startswith(("Swap", "LoadStore"))
 
 
-# What differs by design: a name, as docs/comparing.md has it, and whether a turn's differences are of that kind. What
-# an access to a space does that is a LEON3's own isn't looked at.
+# What differs by design: a name, as docs/machine/comparing.md has it, and whether a turn's differences are of that
+# kind. What an access to a space does that is a LEON3's own isn't looked at.
 KNOWN = {
     "impl and ver": lambda it, found: it.row == "ReadPsr" and [want ^ got for _, want, got in found] == [0xF3000000],
     "WRTBR and tt": lambda it, found: it.row == "WriteTbr" and only(found, "tbr"),

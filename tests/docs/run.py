@@ -1,10 +1,10 @@
 #!/usr/bin/env python3
 """usage: tests/docs/run.py [FILE ..]
 
-Runs the commands that README.md and docs/*.md (or the FILEs) show, and compares what they print; docs/development.md
-says how a page shows them. Looks up the files and headings that the pages link to, counts the lines of the files
-whose lines a table tells, looks whether the map's tables have a row for each crate, and those of docs/development.md
-one for each suite, and whether docs/contracts.md is what tools/contracts prints."""
+Runs the commands that README.md and docs/**/*.md (or the FILEs) show, and compares what they print;
+docs/work/development.md says how a page shows them. Looks up the files and headings that the pages link to, counts the
+lines of the files whose lines a table tells, looks whether the map's tables have a row for each crate, and those of
+docs/work/development.md one for each suite, and whether docs/proof/contracts.md is what tools/contracts prints."""
 import glob
 import os
 import re
@@ -187,7 +187,7 @@ def wrong_suites(page):
 def try_map(tally):
     """The picture of the rings, the heads of crates.txt, and the table of shared names."""
     drawn = subprocess.run([f"{TOP}/tools/map"], stdout=subprocess.PIPE, text=True, check=False).stdout
-    tally.check("docs/map.svg", drawn == text_of(f"{TOP}/docs/map.svg"), "wanted what tools/map prints")
+    tally.check("docs/work/map.svg", drawn == text_of(f"{TOP}/docs/work/map.svg"), "wanted what tools/map prints")
     for tool in ("map", "namesakes"):
         ran = subprocess.run([f"{TOP}/tools/{tool}", "--check"], stdout=subprocess.PIPE, text=True, check=False)
         tally.check(f"tools/{tool} --check", ran.returncode == 0, ran.stdout.strip())
@@ -207,13 +207,13 @@ def try_page(tally, page):
         tally.check(name, False, f"nothing stands at {link}")
     for row in wrong_counts(page):
         tally.check(name, False, f"other lines: {row}")
-    for crate in wrong_rows(page) if name == "docs/map.md" else ():
+    for crate in wrong_rows(page) if name == "docs/work/map.md" else ():
         tally.check(name, False, f"wanted one row for each crate and no other, came {crate}")
-    if name == "docs/map.md":
+    if name == "docs/work/map.md":
         try_map(tally)
-    for suite in wrong_suites(page) if name == "docs/development.md" else ():
+    for suite in wrong_suites(page) if name == "docs/work/development.md" else ():
         tally.check(name, False, f"wanted one row for each suite and no other, came {suite}")
-    if name == "docs/contracts.md":
+    if name == "docs/proof/contracts.md":
         is_same = subprocess.run([f"{TOP}/tools/contracts", "--check"], check=False).returncode == 0
         tally.check(name, is_same, "wanted what tools/contracts prints")
 
@@ -224,7 +224,7 @@ def main(words):
     pages = [os.path.abspath(it) for it in reader.parse_args(words).files]
     built("sandbox", "inspect", "host", "fit", "board")
     tally = Tally("docs")
-    for page in pages or [f"{TOP}/README.md", *sorted(glob.glob(f"{TOP}/docs/*.md"))]:
+    for page in pages or [f"{TOP}/README.md", *sorted(glob.glob(f"{TOP}/docs/**/*.md", recursive=True))]:
         try_page(tally, page)
     return tally.end()
 

@@ -273,7 +273,7 @@ def try_examples(calls, work):
         TALLY.skip("comparison with sandbox", "its program")
 
 
-# Sources with a fault, from docs/source.md: the line, and the cause.
+# Sources with a fault, from docs/use/source.md: the line, and the cause.
 FAULTS = {
     b"\n\xc3\n": "line 2: X1",
     b"\n#\n": "line 2: X2",
@@ -700,15 +700,15 @@ def try_readme(prefix, embed, work, name, tool):
 
 
 def try_page(prefix, work):
-    """The host that docs/embedding.md shows, built and run by the commands there, in a folder that has nothing but it
-    and an image."""
-    text, folder = text_of(f"{TOP}/docs/embedding.md"), f"{work}/page"
+    """The host that docs/embed/embedding.md shows, built and run by the commands there, in a folder that has nothing
+    but it and an image."""
+    text, folder = text_of(f"{TOP}/docs/embed/embedding.md"), f"{work}/page"
     host, script = (re.search(rf"^```{it}\n(.*?)^```$", text, re.M | re.S)[1] for it in ("c", "sh"))
     os.makedirs(folder)
     shutil.copy(f"{EXAMPLES}/echo/echo.img", folder)
     put(f"{folder}/host.c", host)
     ran = run(["bash", "-eu", "-c", script], cwd=folder, env=home_of(prefix, work))
-    gives("docs/embedding.md", ran, b"abc\nTo be, or not to be.\n", err=b"")
+    gives("docs/embed/embedding.md", ran, b"abc\nTo be, or not to be.\n", err=b"")
 
 
 def try_hosts(prefix, embed, work, image):

@@ -276,7 +276,7 @@ static void texts(void)
     says(UINT32_MAX, &facts, &all, "no such status");
 }
 
-/* The kinds of tests that the front end adds, as docs/c.md has them. */
+/* The kinds of tests that the front end adds, as docs/use/c.md has them. */
 static void kinds(void)
 {
     static const uint32_t some[] = { GEYSERPAN_TEST_INDEX, GEYSERPAN_TEST_POINTER, GEYSERPAN_TEST_DIVISOR,

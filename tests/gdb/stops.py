@@ -22,7 +22,7 @@ def built_c(work, name, *words):
 
 
 def commands(work):
-    """The commands of docs/c.md on each count of windows."""
+    """The commands of docs/use/c.md on each count of windows."""
     first = None
     for windows in (4, 8, 32):
         list_session(work, windows)

@@ -1,5 +1,5 @@
-"""`inspect cycles`: bounds beside those of a model of its own, which reads images as docs/image.md has them, and tables
-and words that aren't right."""
+"""`inspect cycles`: bounds beside those of a model of its own, which reads images as docs/machine/image.md has them,
+and tables and words that aren't right."""
 import glob
 import os
 import struct
@@ -37,7 +37,7 @@ SERVICES = {0: "exit", 1: "get", 2: "put"}
 # What a step takes beside its row, its fetch and the walk for that.
 MORE = {**dict.fromkeys(("load", "store", "exchange"), "walk"),
         **dict.fromkeys(("save", "restore", "exit", "get", "put"), "trap")}
-# What a step counts, where that isn't one turn (docs/rules.md).
+# What a step counts, where that isn't one turn (docs/machine/rules.md).
 WEIGHTS = {"save": 25, "restore": 25, "exit": 3, "get": 5, "put": 5}
 
 

@@ -5,21 +5,21 @@ Compares what `./inspect` tells with the files that stand beside the programs of
 `.told` for each image, `inspect why` with `.told` for each program of `examples/refused` and of `why`, whose fuel is
 short in each way in which it can be, once by more than a line holds, and which break other rules by what those don't,
 and one that is accepted, and `inspect run` with `.ran` and `inspect trace` with `.turns`, for the lessons and the
-programs of `turns` too. Looks whether the sentences that docs/inspect.md has of each rule are told in the files that
-it names. No line has more than 100 columns. The objects of `inspect image`, `run` and `why --json` have to say the
+programs of `turns` too. Looks whether the sentences that docs/use/inspect.md has of each rule are told in the files
+that it names. No line has more than 100 columns. The objects of `inspect image`, `run` and `why --json` have to say the
 same as these files (objects.py). Looks whether long runs tell how far they have come, and whether more than 1 MiB is
 read.
 
 Compares `inspect check` with `.told` for each source of `check`, one for each cause of a fault, looks whether the
-first that it tells is what `sandbox asm` tells, and whether docs/faults.md has each sentence; `inspect map`, and
+first that it tells is what `sandbox asm` tells, and whether docs/use/faults.md has each sentence; `inspect map`, and
 `--source`, for some of the programs. Compares `inspect machine` with the states of `vectors`, by words and by a
 binary, and tries each line that isn't right. Compares `inspect cycles` of the examples and of programs in C with the
 bounds of a model (cycles.py). Tries its statuses and its version.
 
-These files weren't made by the program: those of images by another reader of the format (docs/image.md), those of
-refusals by hand, from the source, docs/rules.md and docs/ranges.md, those of runs and turns by a model of the machine
-that was written apart, from docs/profile.md. Words that no source has stand in images that were made by hand, from
-docs/image.md."""
+These files weren't made by the program: those of images by another reader of the format (docs/machine/image.md), those
+of refusals by hand, from the source, docs/machine/rules.md and docs/machine/ranges.md, those of runs and turns by a
+model of the machine that was written apart, from docs/machine/profile.md. Words that no source has stand in images that
+were made by hand, from docs/machine/image.md."""
 import glob
 import os
 import re

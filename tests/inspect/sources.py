@@ -39,7 +39,7 @@ def long_sources(asked):
 
 
 def try_checks(asked):
-    """A source for each cause of a fault, and the sentences that docs/faults.md has."""
+    """A source for each cause of a fault, and the sentences that docs/use/faults.md has."""
     texts = []
     for name in sorted(it for it in os.listdir(CHECK) if it.endswith(".s")):
         told = bytes_of(f"{CHECK}/{name[:-2]}.told")
@@ -47,10 +47,10 @@ def try_checks(asked):
         asked.tally.check(f"check --json {name}", *fault_of_object("check", name, told, cwd=CHECK))
         texts.append(told.decode())
     texts += long_sources(asked)
-    part = text_of(f"{TOP}/docs/faults.md").partition("\n### The sentences of")[2].partition("\n## ")[0]
+    part = text_of(f"{TOP}/docs/use/faults.md").partition("\n### The sentences of")[2].partition("\n## ")[0]
     listed = re.findall(r"^\| ([XSA]\d) \| ([^|]*[^ |]) \|", part, re.M)
     came = {(code, sentence) for text in texts for _, code, sentence in FAULT.findall(text)}
-    asked.tally.same("sentences of docs/faults.md and of check", sorted(set(listed)), sorted(came))
+    asked.tally.same("sentences of docs/use/faults.md and of check", sorted(set(listed)), sorted(came))
 
 
 def try_map(asked, program):
@@ -103,18 +103,18 @@ def try_names(asked):
 
 
 def try_sentences(tally):
-    """Each sentence that docs/inspect.md has of a rule stands in the files that it names, with values in the place of
-    `..`."""
-    rows = re.findall(r"^\| (V\d+(?:, V\d+)*) \| (.*) \| (.*) \|$", text_of(f"{TOP}/docs/inspect.md"), re.M)
+    """Each sentence that docs/use/inspect.md has of a rule stands in the files that it names, with values in the place
+    of `..`."""
+    rows = re.findall(r"^\| (V\d+(?:, V\d+)*) \| (.*) \| (.*) \|$", text_of(f"{TOP}/docs/use/inspect.md"), re.M)
     for rules, sentence, names in rows:
         said = ".*".join(re.escape(part) for part in sentence.split(".."))
         for name in names.split(", "):
             folder = f"{EXAMPLES}/refused" if re.fullmatch(r"V\d+", name) else f"{HERE}/why"
             words = " ".join(text_of(f"{folder}/{name}.told").split())
             holds = words.split()[1] in rules.split(", ") and re.search(said, words)
-            tally.check(f"docs/inspect.md: {rules} {sentence}", holds, f"wanted it in {name}.told, came {words}")
+            tally.check(f"docs/use/inspect.md: {rules} {sentence}", holds, f"wanted it in {name}.told, came {words}")
     missing = {f"V{it}" for it in range(1, 21) if it != 19} - {rule for row in rows for rule in row[0].split(", ")}
-    tally.check("docs/inspect.md: a sentence for each rule", not missing,
+    tally.check("docs/use/inspect.md: a sentence for each rule", not missing,
                 f"wanted one, came none of {sorted(missing)}")
 
 

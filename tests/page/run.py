@@ -2,7 +2,7 @@
 """usage: tests/page/run.py [--pictures FOLDER] [PART ..]
 
 Makes pages by `./inspect page` of all programs of `examples` and its lessons, on 4, 5, 8, 12 and 32 windows, and
-holds them against `inspect trace`, `sandbox trace`, `sandbox list`, `inspect why` and docs/course.md. Parts, all
+holds them against `inspect trace`, `sandbox trace`, `sandbox list`, `inspect why` and docs/learn/course.md. Parts, all
 where none is named:
 
   data       without a browser: a page's data, read back, give the text of `inspect trace`

@@ -1,4 +1,4 @@
-"""What is seen at a turn, held against what the programs tell and against docs/course.md."""
+"""What is seen at a turn, held against what the programs tell and against docs/learn/course.md."""
 import os
 import random
 import re
@@ -82,8 +82,8 @@ def reason(pages, name):
 
 
 def course(pages):
-    """What docs/course.md says of a turn is seen there, and what it works out by hand."""
-    text = text_of(f"{TOP}/docs/course.md")
+    """What docs/learn/course.md says of a turn is seen there, and what it works out by hand."""
+    text = text_of(f"{TOP}/docs/learn/course.md")
     said = 0
     commands = re.findall(r"^\$ (.*\./inspect page .*) > (\w+)\.html\n```\n+((?:\|.*\n)+)", text, re.M)
     for command, name, table in commands:
@@ -93,7 +93,7 @@ def course(pages):
         for row in table.splitlines()[2:]:
             _, turn, seen = row.split("|", 2)
             said += is_seen(pages, path, int(turn), re.findall(r"`([^`]+)`", seen))
-    pages.check(f"docs/course.md: {said} things that are seen at turns", said > 30)
+    pages.check(f"docs/learn/course.md: {said} things that are seen at turns", said > 30)
     worked_walk(pages, text)
     stored_frames(pages)
 
@@ -103,7 +103,8 @@ def is_seen(pages, path, turn, texts):
     pages.browser.open(path, f"#turn={turn}")
     shown = re.sub(r"\s+", " ", pages.browser.look("written"))
     for text in texts:
-        pages.check(f"docs/course.md: {text!r} isn't seen at turn {turn} of {os.path.basename(path)}", text in shown)
+        name = f"docs/learn/course.md: {text!r} isn't seen at turn {turn} of {os.path.basename(path)}"
+        pages.check(name, text in shown)
     return len(texts)
 
 

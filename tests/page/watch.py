@@ -149,7 +149,8 @@ class Watch:
         self.same("bytes of output", seen["outn"].split()[0], str(len(state.output)))
 
     def check_walk(self, seen, told, state):
-        """The walk of a store, or of a fetch where nothing is loaded or stored, by the tables of docs/profile.md."""
+        """The walk of a store, or of a fetch where nothing is loaded or stored, by the tables of
+        docs/machine/profile.md."""
         stored = [int(it[1:9], 16) for it in told[6] if it[0] == "["]
         address = stored[0] if stored else int(told[3], 16) if "[" not in told[5] else None
         if told[5] in ("annulled", "not fetched") or address is None or address >= 0x100000:

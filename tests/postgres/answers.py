@@ -184,10 +184,10 @@ def try_breaking(work, image):
 
 
 def page(work):
-    """The way from a C file to a WHERE clause that docs/postgres.md shows."""
-    text, folder = text_of(f"{TOP}/docs/postgres.md"), work.at("page")
+    """The way from a C file to a WHERE clause that docs/embed/postgres.md shows."""
+    text, folder = text_of(f"{TOP}/docs/embed/postgres.md"), work.at("page")
     if not has(COMPILER):
-        work.tally.skip("docs/postgres.md", "Debian's package gcc-sparc64-linux-gnu")
+        work.tally.skip("docs/embed/postgres.md", "Debian's package gcc-sparc64-linux-gnu")
         return
     built("sandbox", "fit")
     os.makedirs(folder)
@@ -197,4 +197,4 @@ def page(work):
     put(f"{folder}/{name}", source)
     work.server.ask("DROP EXTENSION geyserpan CASCADE;")
     ran = run(["bash", "-eu", "-c", script], cwd=folder, env=work.server.environment())
-    work.tally.same("docs/postgres.md", ran.said, wanted.strip())
+    work.tally.same("docs/embed/postgres.md", ran.said, wanted.strip())

@@ -8,7 +8,7 @@ user postgres or nobody where root runs it. Parts, all but `speed` where none is
   examples      each example image: its output, exit word, turns and facts beside the files of examples
   refused       each refused source and image at CREATE FUNCTION and as a value of the domain: rule, function, address
   rules         a rule from C over 20,000 lines beside Python's answers, and one that breaks, with its line
-  page          docs/postgres.md from its C file to its WHERE clause, as the page shows it
+  page          docs/embed/postgres.md from its C file to its WHERE clause, as the page shows it
   tenants       roles that are no superuser: the extension, functions, limits
   natively      examples, the rule and a run that is broken off by objects of native code; objects that aren't taken
   parallel      parallel workers and a dump that is restored: the same answers

@@ -200,7 +200,7 @@ def attempt(unit, sources, count, keep):
         if not image:
             return f"{unit.name}: {why}", []
         program = trial.oracle(*words)
-        text = "\n".join(text_of(it) for it in sorted(glob.glob(f"{TOP}/docs/*.md"))).encode()
+        text = "\n".join(text_of(it) for it in sorted(glob.glob(f"{TOP}/docs/*/*.md"))).encode()
         inputs = Maker(unit.name, text, SEED).inputs(count)
         came = [trial.compare(image, program, it) for it in inputs]
         bad = [data for data, it in zip(inputs, came) if it in ("stopped", "differs")]

@@ -4,6 +4,8 @@ import re
 
 from run import TOP, text_of
 
+COURSE = f"{TOP}/docs/learn/course.md"
+
 # What is put in the place of what in a solution, so that it isn't one any more.
 SPOILED = {
     "sum": (("mov 5,%o0", "mov 4,%o0"), ("mov 5,%o1", "mov 6,%o1"), ("add %o0,%o1", "sub %o0,%o1")),
@@ -18,7 +20,7 @@ SPOILED = {
 
 def solutions():
     """The solution of each exercise, by its name, as the course has it."""
-    return dict(re.findall(r"\*\*Exercise\.\*\*.*?```sparc (\w+)\.s\n(.*?)```", text_of(f"{TOP}/docs/course.md"), re.S))
+    return dict(re.findall(r"\*\*Exercise\.\*\*.*?```sparc (\w+)\.s\n(.*?)```", text_of(COURSE), re.S))
 
 
 def lessons(page):
@@ -30,7 +32,7 @@ def lessons(page):
     page.same("exercises", [it["exercise"]["name"] for it in page.kept["lessons"]], list(solved))
     for number, lesson in enumerate(page.kept["lessons"]):
         page.look("set", "lesson", number, "change")
-        page.check(f"lesson {number + 1} begins as in the course", lesson["title"] in text_of(f"{TOP}/docs/course.md"))
+        page.check(f"lesson {number + 1} begins as in the course", lesson["title"] in text_of(COURSE))
         turns(page, lesson)
         exercise(page, lesson["exercise"]["name"], solved)
         page.check(f"progress after lesson {number + 1}",

@@ -4,7 +4,7 @@ import re
 from listed import LAST_WINDOW, listed_words
 from memory import CODE, DATA, TRAP_TABLE
 
-# The bytes of an image before its words (docs/image.md).
+# The bytes of an image before its words (docs/machine/image.md).
 HEADER, REGIONS_HEADER, REGION = 20, 18, 6
 FUNCTION = re.compile(r"\.function f(\d+),(\w+),(\d+),(\d+),(\d+)")
 
@@ -55,7 +55,8 @@ class Declared:
 
 
 class Handlers:
-    """The words of vectors and handlers by address: those of the listing of docs/profile.md, on so many windows."""
+    """The words of vectors and handlers by address: those of the listing of docs/machine/profile.md, on so many
+    windows."""
 
     def __init__(self, windows):
         self.words = {address: self.on(windows, word, comment) for address, word, _, comment in listed_words()}

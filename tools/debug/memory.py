@@ -1,4 +1,4 @@
-"""The page tables of a loaded image, as docs/profile.md has them ("Loaded memory")."""
+"""The page tables of a loaded image, as docs/machine/profile.md has them ("Loaded memory")."""
 CODE, DATA, STACK, TRAP_TABLE, HANDLERS, DEVICE = 0x40000, 0x80000, 0xC0000, 0xF0000000, 0xF0001000, 0xF0010000
 PAGE, PAGES = 4096, 64
 REFERENCED, MODIFIED, ACCESS = 0x20, 0x40, 0x1C

@@ -1,4 +1,4 @@
-"""The listing of the vectors and handlers in docs/profile.md, which are the machine's own code."""
+"""The listing of the vectors and handlers in docs/machine/profile.md, which are the machine's own code."""
 import os
 import re
 
@@ -11,7 +11,7 @@ LAST_WINDOW = re.compile(r" *\(N-1 in place of 7\)")
 def listed_words(profile=None):
     """Yields each word that the listing has, on 8 windows: its address, the word, its text and its comment."""
     if profile is None:
-        with open(f"{TOP}/docs/profile.md", encoding="utf-8") as file:
+        with open(f"{TOP}/docs/machine/profile.md", encoding="utf-8") as file:
             profile = file.read()
     part = profile.partition("## Vectors and handlers")[2].partition("\n## ")[0]
     for address, word, text, comment in LISTED.findall(part):

@@ -1,12 +1,12 @@
-"""The board with an image loaded, and the lines of its states: a model in Python, written from docs/profile.md and
-docs/image.md, apart from the program. `tools/vectors/make --traces` makes vectors/traces with it."""
+"""The board with an image loaded, and the lines of its states: a model in Python, written from docs/machine/profile.md
+and docs/machine/image.md, apart from the program. `tools/vectors/make --traces` makes vectors/traces with it."""
 import struct
 
 from v8_model import WORD, Cpu, Memory, Turn
 
 DEVICE = 0x100000000
 NOP = 0x01000000
-# The trap table and the window handlers (docs/profile.md, "Vectors and handlers"); SHIFT is N - 1.
+# The trap table and the window handlers (docs/machine/profile.md, "Vectors and handlers"); SHIFT is N - 1.
 VECTORS = {
     0x05: "A7500000 108003EB A8100001 01000000",
     0x06: "A7500000 10800407 A92CE001 01000000",
@@ -114,7 +114,7 @@ NAMES = [f"{kind}{number}" for kind in "goli" for number in range(8)]
 
 
 class States:
-    """The lines of the states of a run (docs/profile.md)."""
+    """The lines of the states of a run (docs/machine/profile.md)."""
 
     def __init__(self, cpu, board):
         self.cpu, self.board, self.turns = cpu, board, 0

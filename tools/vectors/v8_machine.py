@@ -1,5 +1,5 @@
-"""A machine of one's own: the file that says how it starts (docs/profile.md), and the lines of its states, by the
-model of tools/vectors/v8_model.py."""
+"""A machine of one's own: the file that says how it starts (docs/machine/profile.md), and the lines of its states, by
+the model of tools/vectors/v8_model.py."""
 from v8_board import Bus, States
 from v8_model import Cpu
 

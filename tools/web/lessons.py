@@ -1,5 +1,5 @@
-"""The lessons of docs/course.md as the page has them: blocks of text, the turns to look at, answers that are folded,
-and the exercise with its checks (exercises.json)."""
+"""The lessons of docs/learn/course.md as the page has them: blocks of text, the turns to look at, answers that are
+folded, and the exercise with its checks (exercises.json)."""
 import json
 import os
 import re
@@ -11,9 +11,9 @@ PAGE = re.compile(r"inspect page .*?(\w+)\.img")
 
 
 def course():
-    """The text of the course."""
-    with open(f"{TOP}/docs/course.md", encoding="utf-8") as file:
-        return file.read()
+    """The text of the course, with links that lead nowhere: the page shows their text alone."""
+    with open(f"{TOP}/docs/learn/course.md", encoding="utf-8") as file:
+        return re.sub(r"\[([^\]]+)\]\([^)]*\)", r"[\1]()", file.read())
 
 
 def minutes(text):

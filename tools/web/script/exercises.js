@@ -20,7 +20,7 @@ const ASKED = {
   underflows: [run => run.underflows, it => plural(it, 'underflow')],
 };
 
-// Where the code of an image begins, and how many words it has (docs/image.md, "Header").
+// Where the code of an image begins, and how many words it has (docs/machine/image.md, "Header").
 function codeOf(view) {
   const start = view.getUint16(4) === 1 ? HEADER : REGIONS_HEADER + REGION * view.getUint16(12);
   return {start, words: view.getUint32(8)};
