@@ -11,10 +11,11 @@
 ! MMU is on while the processor changes hands, as in boot.s. Where tables and context change both, it is off.
     .section .text
     .align 4
-    .global geyserpan_leon_enter
-geyserpan_leon_enter:
-    save  %sp, -96, %sp
-    ! the other windows go to the system's stack, by its handlers of window overflow and underflow
+
+! Puts the other windows on the system's stack, by its handlers of window overflow and underflow, and disables traps. It
+! has no window of its own: it leaves PSR as it was in %l0 of the caller's, and writes %l1, %g1 and the codes.
+    .global geyserpan_leon_alone
+geyserpan_leon_alone:
     rd    %asr17, %g1                       ! windows less 1
     and   %g1, 31, %g1
 1:  save  %sp, -96, %sp
@@ -34,6 +35,14 @@ geyserpan_leon_enter:
     andn  %l1, 0x20, %l1                    ! traps disabled
     wr    %l1, %g0, %psr
     nop; nop; nop
+    retl
+     nop
+
+    .global geyserpan_leon_enter
+geyserpan_leon_enter:
+    save  %sp, -96, %sp
+    call  geyserpan_leon_alone
+     nop
     rd    %wim, %l1
     rd    %tbr, %l2
     rd    %y, %l3

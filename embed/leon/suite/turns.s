@@ -15,26 +15,8 @@
     .global suite_turn
 suite_turn:
     save  %sp, -96, %sp
-    ! the other windows go to the stack, by the handlers of window overflow and underflow
-    rd    %asr17, %g1                       ! windows less 1
-    and   %g1, 31, %g1
-1:  save  %sp, -96, %sp
-    subcc %g1, 1, %g1
-    bne   1b
+    call  geyserpan_leon_alone              ! enter.s
      nop
-    rd    %asr17, %g1
-    and   %g1, 31, %g1
-2:  restore
-    subcc %g1, 1, %g1
-    bne   2b
-     nop
-    rd    %psr, %l0
-    or    %l0, 0xF00, %l1                   ! no interrupt but 15
-    wr    %l1, %g0, %psr
-    nop; nop; nop
-    andn  %l1, 0x20, %l1                    ! traps disabled
-    wr    %l1, %g0, %psr
-    nop; nop; nop
     set   kept, %l7
     rd    %wim, %l1
     rd    %tbr, %l2
