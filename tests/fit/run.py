@@ -181,6 +181,8 @@ def try_words(to):
         ([f"{STORED}/csv.s", "-o", x, "--strict"], 1),
     ]:
         tally.same(f"fit {' '.join(words)}: status", run_within([FIT, *words], cwd=to.work).status, status)
+    for path, why in ((f"{to.work}/none.s", "no such file"), (to.work, "is a directory")):
+        tally.same(f"fit {path}: what is said", run_within([FIT, path, "-o", x]).err, f"fit: {path}: {why}\n".encode())
     run_within([FIT, stored, "-o", x])
     told = run_within([FIT, stored, "-o", "-"], cwd=to.work)
     holds = told.status == 0 and told.out == bytes_of(x) and not os.path.exists(f"{to.work}/-")

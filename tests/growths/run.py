@@ -155,8 +155,8 @@ TELLS = {
     },
     "fit": {
         "growth": [(5, "memory")],
-        "read": [(4, f"{it}: can't be read or written") for it in SOURCES],
-        "write": [(4, f"{it}: can't be read or written") for it in ("-", "standard output")],
+        "read": [(4, f"fit: {it}: can't be read") for it in SOURCES],
+        "write": [(4, f"fit: {it}: can't be written") for it in ("-", "standard output")],
     },
 }
 

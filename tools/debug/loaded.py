@@ -32,13 +32,19 @@ def tool(program, *words, given=None):
     return ran.stdout.decode("utf-8", "replace")
 
 
+def unread(path, error):
+    """The fault of a file that can't be read, in the words of docs/use/faults.md."""
+    is_missing = isinstance(error, (FileNotFoundError, NotADirectoryError))
+    return Fault(4, f"inspect: {path}: {'no such file' if is_missing else error.strerror.lower()}")
+
+
 def bytes_of(path):
     """The bytes of a file."""
     try:
         with open(path, "rb") as file:
             return file.read()
     except OSError as error:
-        raise Fault(4, f"inspect: {path}: {error.strerror.lower()}") from None
+        raise unread(path, error) from None
 
 
 def physical(ram, address):

@@ -1,5 +1,6 @@
 //! Files that are read and written, and what is told where there is no source.
 use crate::words::Arguments;
+use cmd_files::FileFault;
 use fit_passes::{Fault, Reason};
 use fit_text::FaultLine;
 use sbx_put::put_through;
@@ -29,20 +30,31 @@ pub fn refused(rt: &HostRuntime, fault: &Fault, files: &[String]) -> u8 {
     REFUSED
 }
 
-/// Tells that the file at a path can't be read or written, and gives the exit status.
-pub fn failed(rt: &HostRuntime, path: &str, error: &io::Error) -> u8 {
+/// Tells what is wrong with the file at a path, which can't be read, and gives the exit status.
+pub fn unread(rt: &HostRuntime, path: &str, error: &io::Error) -> u8 {
     if matches!(error.kind(), ErrorKind::OutOfMemory) {
         return NO_MEMORY;
     }
-    let _ = eprintln!(rt; "{path}: can't be read or written");
+    let _ = eprintln!(rt; "fit: {path}: {}", FileFault::of(error));
     NO_FILE
+}
+
+/// Tells that the file at a path can't be written, and gives the exit status.
+fn unwritten(rt: &HostRuntime, path: &str, error: &io::Error) -> u8 {
+    match error.kind() {
+        ErrorKind::OutOfMemory => NO_MEMORY,
+        _ => {
+            let _ = eprintln!(rt; "fit: {path}: can't be written");
+            NO_FILE
+        }
+    }
 }
 
 /// All bytes of the file at a path. What is wrong with it is told: the exit status of that.
 pub fn bytes_of(rt: &HostRuntime, path: &str) -> Result<Vec<u8>, u8> {
     let file: File = match fs::open(rt, path) {
         Ok(file) => file,
-        Err(error) => return Err(failed(rt, path, &error)),
+        Err(error) => return Err(unread(rt, path, &error)),
     };
     let mut bytes = Vec::new(rt.alloc());
     match file.take(MOST).read_to_end(&mut bytes) {
@@ -51,7 +63,7 @@ pub fn bytes_of(rt: &HostRuntime, path: &str) -> Result<Vec<u8>, u8> {
             Err(REFUSED)
         }
         Ok(_count) => Ok(bytes),
-        Err(error) => Err(failed(rt, path, &error)),
+        Err(error) => Err(unread(rt, path, &error)),
     }
 }
 
@@ -80,7 +92,7 @@ pub fn write_source(rt: &HostRuntime, words: &Arguments<'_>, has_lacks: bool, te
         None | Some("-") => put_through(&mut rt.stdout(), text),
         Some(path) if is_source(rt, words, path) => {
             let _ = eprintln!(rt;
-                "{path}: can't be written: it is a source itself; name another file"
+                "fit: {path}: can't be written: it is a source itself; name another file"
             );
             return NO_FILE;
         }
@@ -94,6 +106,6 @@ pub fn write_source(rt: &HostRuntime, words: &Arguments<'_>, has_lacks: bool, te
     };
     match written {
         Ok(()) => 0,
-        Err(error) => failed(rt, words.out.unwrap_or("standard output"), &error),
+        Err(error) => unwritten(rt, words.out.unwrap_or("standard output"), &error),
     }
 }

@@ -9,7 +9,7 @@ mod words;
 
 use cmd_files::command_words;
 use excess::tell_refusal;
-use files::{NO_MEMORY, bytes_of, failed, refused, write_source};
+use files::{NO_MEMORY, bytes_of, refused, unread, write_source};
 use fit_gas::Assembly;
 use fit_legal::{JoinPlan, program_of};
 use fit_passes::{FitPlan, Made, Reason, Refusal, make};
@@ -124,7 +124,7 @@ fn answer(rt: &HostRuntime, all: &[String]) -> u8 {
 fn main(rt: HostRuntime) -> ExitCode {
     let status = match command_words(&rt) {
         Ok(words) => answer(&rt, words.as_slice()),
-        Err(error) => failed(&rt, "the command line", &error),
+        Err(error) => unread(&rt, "the command line", &error),
     };
     if status == NO_MEMORY {
         let _ = rt.eprintln("memory");
