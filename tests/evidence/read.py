@@ -95,7 +95,7 @@ LOOPS = (
     ("crates/inspect_run/src/sheet.rt", "for _ in 0..column.saturating_sub ( line . len ( ) )", "9b528fc1"),
     ("crates/inspect_run/src/slices.rt", "for _ in 0..limit / SLICE", "16416513"),
     ("crates/inspect_run/src/watch.rt", "for done in 0..limit", "409b3bd8"),
-    ("crates/inspect_shapes/src/shapes.rt", "for row in forms ( )", "bc67a55f"),
+    ("crates/inspect_source/src/shapes.rt", "for row in forms ( )", "bc67a55f"),
     ("crates/inspect_start/src/item.rt", "while let Some ( ( word , after ) ) = first_word ( rest )", "81af5673"),
     ("crates/inspect_start/src/reader.rt", "while rest . len ( ) > 0", "a966dca5"),
     ("crates/inspect_states/src/registers.rt", "for number in 0..32", "c7f614d9"),

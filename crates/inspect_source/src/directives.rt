@@ -1,6 +1,6 @@
 //! Where the operands of a directive are at fault.
 use crate::lists::{List, Operand};
-use inspect_shapes::{Mark, OperandReason, ShapeReason, StatementReason};
+use crate::reasons::{Mark, OperandReason, ShapeReason, StatementReason};
 use sbx_directives::{Keyword, Width};
 use sbx_text::Token;
 use v8_syntax::{StatementToken, Symbols, bytes_between, statement_token};
@@ -182,7 +182,7 @@ fn shape_of(keyword: Keyword) -> OperandReason {
 
 /// Why the operands behind a directive's name are none that it takes, and where. `tokens` are those behind the name,
 /// which is a token of the line too.
-pub fn operand_mark(line: &[u8], keyword: Keyword, name: &Token, tokens: &[Token]) -> Mark {
+pub(crate) fn operand_mark(line: &[u8], keyword: Keyword, name: &Token, tokens: &[Token]) -> Mark {
     let list = List { line, tokens };
     let found = list.of(keyword).unwrap_or(Mark {
         reason: ShapeReason::Operand(shape_of(keyword)),
@@ -232,7 +232,7 @@ fn bounds_of(width: Width) -> (i64, i64, OperandReason) {
 
 /// Which value of a data directive has an unknown symbol, where one has. `tokens` are those behind the directive's
 /// name.
-pub fn symbol_mark<S: Symbols>(line: &[u8], tokens: &[Token], symbols: &S) -> Mark {
+pub(crate) fn symbol_mark<S: Symbols>(line: &[u8], tokens: &[Token], symbols: &S) -> Mark {
     let list = List { line, tokens };
     let mut mark = Mark {
         reason: ShapeReason::Statement(StatementReason::UnknownSymbol),
@@ -253,7 +253,12 @@ pub fn symbol_mark<S: Symbols>(line: &[u8], tokens: &[Token], symbols: &S) -> Ma
 
 /// Which value of a data directive doesn't fit its width, where one doesn't. `tokens` are those behind the directive's
 /// name.
-pub fn value_mark<S: Symbols>(line: &[u8], width: Width, tokens: &[Token], symbols: &S) -> Mark {
+pub(crate) fn value_mark<S: Symbols>(
+    line: &[u8],
+    width: Width,
+    tokens: &[Token],
+    symbols: &S,
+) -> Mark {
     let list = List { line, tokens };
     let (low, high, reason) = bounds_of(width);
     let mut at = list.end();

@@ -141,7 +141,7 @@ fn named_mark<S: Symbols>(
 
 /// Why a statement means nothing, for a fault, and where. `symbols` has what the labels of the source are worth, and
 /// the statement's address.
-pub fn statement_mark<S: Symbols>(
+pub(crate) fn statement_mark<S: Symbols>(
     line: &[u8],
     tokens: &[Token],
     fault: SyntaxFault,

@@ -1,5 +1,5 @@
 //! Where the text of a line is at fault.
-use inspect_shapes::{Mark, ShapeReason, TextReason};
+use crate::reasons::{Mark, ShapeReason, TextReason};
 use sbx_text::{TextFault, push_tokens};
 use std::alloc::{AllocError, Global};
 

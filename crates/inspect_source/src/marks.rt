@@ -1,10 +1,11 @@
 //! The cause of a fault, and its place in the line.
 ghost use Rattle.std.specs.Prelude.{◌≤◌, IfOk, length};
 
+use crate::directives::{operand_mark, symbol_mark, value_mark};
+use crate::reasons::{LimitReason, Mark, PlaceReason, ShapeReason};
 use crate::settings::Setting;
+use crate::statements::statement_mark;
 use crate::texts::text_mark;
-use inspect_operands::{operand_mark, symbol_mark, value_mark};
-use inspect_shapes::{LimitReason, Mark, PlaceReason, ShapeReason, statement_mark};
 use sbx_asm::{Cause, Line};
 use sbx_directives::{Directive, Name, Statement, Width};
 use sbx_text::Token;
