@@ -3,7 +3,7 @@ use Rattle.std.proofs.Common.{◌≡◌, subst, ℕ, List, Option, None, Some, I
 use Rattle.sbx_image.specs.Parts.{Parts}
 use Rattle.sbx_image.specs.Reading.{reading}
 use Rattle.sbx_raw.specs.Fronts.{Wrote}
-use Rattle.inspect_image_states.specs.Told.{IsStated}
+use Rattle.inspect_states.specs.Told.{IsStated}
 use Rattle.inspect.specs.declared.machine.MachineFault.{MachineFault}
 use Rattle.inspect.specs.Machines.{MachineOf}
 use Rattle.inspect.specs.States.{StatesOf}

@@ -2,11 +2,11 @@
 ghost use Rattle.std.specs.Prelude.{IfErr, IfSome, OnOk};
 ghost use Rattle.cmd_command.specs.Stops.{IsOfTrace, IsTrueOfImage};
 ghost use Rattle.sbx_raw.specs.Fronts.{Wrote};
-ghost use Rattle.inspect_image_states.specs.Told.{IsStated};
+ghost use Rattle.inspect_states.specs.Told.{IsStated};
 ghost use Rattle.inspect.specs.States.{StatesOf};
 
 use cmd_command::{CommandStop, Windows, image_in, input_of};
-use inspect_image_states::state_windows;
+use inspect_states::state_windows;
 use sbx_image::Image;
 use std::alloc::Global;
 use std::io::{Read, Write};

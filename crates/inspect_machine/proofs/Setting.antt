@@ -13,7 +13,7 @@ use Rattle.v8_core.specs.Windows.{Windows, moved, with_reg}
 use Rattle.v8_memory.specs.Placing.{HasBytesOf}
 use Rattle.inspect_states.specs.Registers.{entered}
 use Rattle.inspect_start.specs.declared.start.ControlValue.{ControlValue as Said}
-use Rattle.inspect_image_states.specs.Told.{unbooted}
+use Rattle.inspect_states.specs.Told.{unbooted}
 use Rattle.inspect_machine.specs.Bare.{SameRest, with_control}
 
 -- RAM whose bytes were all placed

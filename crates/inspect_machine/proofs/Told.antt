@@ -18,7 +18,7 @@ use Rattle.inspect_states.specs.Lines.{Known, known_of}
 use Rattle.inspect_states.specs.Runs.{BeginsStates, IsFaultOf, IsStates}
 use Rattle.inspect_start.specs.Starts.{IsFit}
 use Rattle.inspect_start.specs.declared.start.Start.{Start}
-use Rattle.inspect_image_states.specs.Told.{nothing_told, run_fault}
+use Rattle.inspect_states.specs.Told.{nothing_told, run_fault}
 use Rattle.inspect_machine.specs.Bare.{IsMmuOf, started}
 use Rattle.inspect_machine.specs.Changed.{WORDS, changes_text}
 use Rattle.inspect_machine.specs.Told.{BeginsLines, IsOwnFault, IsTold, Told, start_of}

@@ -9,7 +9,7 @@ use Rattle.sbx_raw.specs.declared.fault.RunFault.{RunFault}
 use Rattle.sbx_raw.specs.declared.fault.RunFault.TheVariants as runs
 use Rattle.inspect_start.specs.declared.start.Start.{Start}
 use Rattle.inspect_states.specs.Runs.{BeginsStates, IsStates}
-use Rattle.inspect_image_states.specs.Told.{nothing_told}
+use Rattle.inspect_states.specs.Told.{nothing_told}
 use Rattle.inspect_machine.specs.Bare.{IsMmuOf, started}
 use Rattle.inspect_machine.specs.Changed.{WORDS, changes_text}
 

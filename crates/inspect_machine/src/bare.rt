@@ -4,7 +4,7 @@ ghost use Rattle.v8_map.specs.declared.TheConstants.{RAM};
 ghost use Rattle.v8_memory.specs.Board.{seen};
 ghost use Rattle.inspect_start.specs.Starts.{IsFit};
 ghost use Rattle.v8_core.specs.Registers.{psr_window, started_with};
-ghost use Rattle.inspect_image_states.specs.Told.{device_of};
+ghost use Rattle.inspect_states.specs.Told.{device_of};
 ghost use Rattle.inspect_machine.specs.Bare.{SameRest, started, with_control, with_register};
 ghost use Rattle.want.specs.Wants.{refused};
 

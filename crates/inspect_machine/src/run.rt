@@ -8,9 +8,8 @@ ghost use Rattle.inspect_machine.specs.Told.{IsOwnFault, Told};
 
 use crate::bare::{machine_of, memory_of, mmu_of};
 use crate::changed::push_changes;
-use inspect_image_states::run_fault;
 use inspect_start::Start;
-use inspect_states::{StateTeller, tell_states};
+use inspect_states::{StateTeller, run_fault, tell_states};
 use sbx_counts::on_windows;
 use sbx_put::put_through;
 use sbx_raw::RunFault;

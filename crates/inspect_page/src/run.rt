@@ -2,8 +2,7 @@
 ghost use Rattle.std.specs.Prelude.{◌≡◌, ◌≤◌};
 
 use crate::teller::PageTeller;
-use inspect_image_states::{machine_of, memory_of, regs, run_fault};
-use inspect_states::shown_of;
+use inspect_states::{machine_of, memory_of, regs, run_fault, shown_of};
 use sbx_counts::on_windows;
 use sbx_image::Image;
 use sbx_raw::{RunFault, SlicePort, begun};

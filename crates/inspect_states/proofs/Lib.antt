@@ -1,2 +1,4 @@
 pub mod Told
 pub mod Lines
+pub mod Copied
+pub mod OfImages

@@ -4,3 +4,4 @@ pub mod Registers
 pub mod Words
 pub mod Lines
 pub mod Runs
+pub mod Told

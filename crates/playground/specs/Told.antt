@@ -13,7 +13,7 @@ use Rattle.sbx_rules.specs.Verdicts.{Checked, IsFirst}
 use Rattle.cmd_listing.specs.Listing.{listing}
 use Rattle.fit_kept.specs.Lines.{IsAnnotated, without}
 use Rattle.inspect_image.specs.Images.{image_text}
-use Rattle.inspect_image_states.specs.Told.{IsStated}
+use Rattle.inspect_states.specs.Told.{IsStated}
 use Rattle.inspect_json.specs.Findings.{check_json}
 use Rattle.inspect_json.specs.Objects.{IsLine}
 use Rattle.inspect_json.specs.Runs.{run_json}

@@ -1,7 +1,7 @@
 use Rattle.std.proofs.lemmas.Result.{err_from_is_err_and}
 use Rattle.cmd_command.proofs.Traces.{of_input}
 use Rattle.sbx_raw.specs.Fronts.{Wrote}
-use Rattle.inspect_image_states.specs.Told.{IsStated}
+use Rattle.inspect_states.specs.Told.{IsStated}
 use Rattle.inspect.proofs.Telling.{on_all}
 use Rattle.inspect.proofs.states.states_read.Goals as goal
 

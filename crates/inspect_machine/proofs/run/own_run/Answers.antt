@@ -1,7 +1,7 @@
 use Rattle.std.proofs.Common.{◌≡◌, ◌∙◌, [], false, None, refl}
 use Rattle.std.proofs.lemmas.Result.{err_from_is_err_and}
 use Rattle.v8_memory.specs.Board.{seen}
-use Rattle.inspect_image_states.specs.Told.{device_of}
+use Rattle.inspect_states.specs.Told.{device_of}
 use Rattle.inspect_machine.proofs.Told.{begun_lines, not_begun, starts, told_all}
 use Rattle.inspect_machine.proofs.run.own_run.Goals as goal
 

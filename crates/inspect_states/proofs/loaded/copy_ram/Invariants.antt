@@ -1,7 +1,7 @@
 use Rattle.std.proofs.Common.{◌≡◌, ◌*◌, length, take}
 use Rattle.v8_map.specs.declared.TheConstants.{RAM}
-use Rattle.inspect_image_states.specs.Told.{device_of}
-use Rattle.inspect_image_states.proofs.loaded.copy_ram.Given as goal
+use Rattle.inspect_states.specs.Told.{device_of}
+use Rattle.inspect_states.proofs.loaded.copy_ram.Given as goal
 
 -- the words so far were copied
 abbrev pub invariant-loop-number : goal.invariant-loop-number

@@ -1,8 +1,8 @@
 use Rattle.std.proofs.Common.{ℕ, sym, subst}
 use Rattle.std.proofs.lemmas.Result.{err_from_is_err_and}
-use Rattle.inspect_image_states.specs.Told.{Stated}
-use Rattle.inspect_image_states.proofs.Told.{not_begun}
-use Rattle.inspect_image_states.proofs.run.states_on.Goals as goal
+use Rattle.inspect_states.specs.Told.{Stated}
+use Rattle.inspect_states.proofs.OfImages.{not_begun}
+use Rattle.inspect_states.proofs.run.states_on.Goals as goal
 
 pub returns-in_err-board : goal.returns-in_err-board
 returns-in_err-board g c =

@@ -2,8 +2,8 @@ use Rattle.std.proofs.Common.{◌*◌, ◌≤◌, ◌+◌, length, refl, sym, ap
 use Rattle.std.proofs.lemmas.List.{take_all}
 use Rattle.v8_memory.proofs.Places.{word_there}
 use Rattle.v8_mmu.proofs.RamLemmas.{length-with_entry}
-use Rattle.inspect_image_states.proofs.Copied.{copied_more}
-use Rattle.inspect_image_states.proofs.loaded.copy_ram.Goals as goal
+use Rattle.inspect_states.proofs.Copied.{copied_more}
+use Rattle.inspect_states.proofs.loaded.copy_ram.Goals as goal
 
 pub loop-number-init : goal.loop-number-init
 loop-number-init g c = record { size = c.requires.size; copied = refl; device = refl }

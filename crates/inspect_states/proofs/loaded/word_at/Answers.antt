@@ -1,6 +1,6 @@
 use Rattle.std.proofs.Common.{sym, ◌∙◌}
 use Rattle.v8_mmu.proofs.RamLemmas.{within_entry}
-use Rattle.inspect_image_states.proofs.loaded.word_at.Goals as goal
+use Rattle.inspect_states.proofs.loaded.word_at.Goals as goal
 
 pub unreachable-requires : goal.unreachable-requires
 unreachable-requires g c =

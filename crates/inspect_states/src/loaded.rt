@@ -6,7 +6,7 @@ ghost use Rattle.v8_core.specs.Registers.{booted};
 ghost use Rattle.v8_map.specs.declared.TheConstants.{CONTEXT_TABLE, RAM};
 ghost use Rattle.v8_core.specs.Walked.{root_of};
 ghost use Rattle.v8_memory.specs.Board.{seen};
-ghost use Rattle.inspect_image_states.specs.Told.{device_of, unbooted};
+ghost use Rattle.inspect_states.specs.Told.{device_of, unbooted};
 ghost use Rattle.want.specs.Wants.{refused};
 
 use sbx_raw::{RunFault, SlicePort};

@@ -3,10 +3,11 @@ ghost use Rattle.std.specs.Prelude.{◌≡◌, ◌≤◌};
 ghost use Rattle.sbx_image.specs.Parts.{Parts};
 ghost use Rattle.v8_board.specs.States.{IsState};
 ghost use Rattle.sbx_raw.specs.Runs.{IsBegun};
-ghost use Rattle.inspect_image_states.specs.Told.{Stated, run_fault};
+ghost use Rattle.inspect_states.specs.Told.{Stated, run_fault};
 
 use crate::loaded::{machine_of, memory_of, regs};
-use inspect_states::{StateTeller, tell_states};
+use crate::teller::StateTeller;
+use crate::turns::tell_states;
 use sbx_counts::on_windows;
 use sbx_image::Image;
 use sbx_raw::{RunFault, SlicePort, begun};
@@ -51,7 +52,7 @@ fn states_of<const N: usize, W: Write>(
 }
 
 /// The states on `N` windows, which are as many as the number says.
-#[tactic(auto, using(crate::proofs::Told::begun_state))]
+#[tactic(auto, using(crate::proofs::OfImages::begun_state))]
 fn states_on<const N: usize, W: Write>(
     alloc: Global,
     windows: u32,
@@ -70,7 +71,7 @@ fn states_on<const N: usize, W: Write>(
 }
 
 /// Runs an image on an input, on so many windows, 4 to 32, to an end, but at most so many turns, and writes a line of
-/// its states before the first turn, one for each, and one behind the last, as `inspect_states::tell_states` does.
+/// its states before the first turn, one for each, and one behind the last, as `tell_states` does.
 /// Where the writer fails, or memory is refused, it has the first bytes of such a text. What the program puts out is
 /// kept, so that memory grows by it. Each count is a machine of its own.
 pub fn state_windows<W: Write>(

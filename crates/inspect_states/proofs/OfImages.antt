@@ -22,7 +22,7 @@ use Rattle.sbx_raw.specs.declared.fault.RunFault.{RunFault}
 use Rattle.sbx_raw.specs.declared.fault.RunFault.TheVariants as runs
 use Rattle.inspect_states.specs.Lines.{Known, known_of}
 use Rattle.inspect_states.specs.Runs.{BeginsStates, IsFaultOf, IsStates}
-use Rattle.inspect_image_states.specs.Told.{BeginsStated, IsLoaded, IsStated, Leaves, Stated, nothing_told, run_fault, start_of, unbooted}
+use Rattle.inspect_states.specs.Told.{BeginsStated, IsLoaded, IsStated, Leaves, Stated, nothing_told, run_fault, start_of, unbooted}
 
 -- a machine with the processor, the RAM and the device of a board that an image was loaded into
 pub loaded_by : (n : ℕ) (p : Parts) (input : List ℕ) (b : State n) (mmu : MmuRegs) (w : World n Device) → root_of mmu ≡ CONTEXT_TABLE → IsBegun n p input b → w.cpu ≡ booted n (booted n (unbooted n))

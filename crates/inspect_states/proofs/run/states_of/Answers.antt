@@ -1,9 +1,9 @@
 use Rattle.std.proofs.Common.{◌≡◌, ◌∙◌, [], false, None, sym}
 use Rattle.std.proofs.lemmas.Result.{err_from_is_err_and}
 use Rattle.v8_memory.specs.Board.{seen}
-use Rattle.inspect_image_states.specs.Told.{device_of}
-use Rattle.inspect_image_states.proofs.Told.{begins_stated, loaded_by, not_begun, stated}
-use Rattle.inspect_image_states.proofs.run.states_of.Goals as goal
+use Rattle.inspect_states.specs.Told.{device_of}
+use Rattle.inspect_states.proofs.OfImages.{begins_stated, loaded_by, not_begun, stated}
+use Rattle.inspect_states.proofs.run.states_of.Goals as goal
 
 pub returns-in_err-known : goal.returns-in_err-known
 returns-in_err-known g c =

@@ -1,2 +1,0 @@
-pub mod Copied
-pub mod Told
