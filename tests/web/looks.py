@@ -40,6 +40,8 @@ def contrasts(page, at):
         page.js(f"document.documentElement.dataset.theme = '{theme}'")
         least = page.look("contrast", [f"{it}" for it in TEXTS])
         page.check(f"{at}, {theme}: a contrast of {least:.1f}", least >= CONTRAST)
+        bars = page.js("getComputedStyle(document.documentElement).colorScheme")
+        page.same(f"{at}, {theme}: scroll bars", bars, theme)
 
 
 def speed(page):
