@@ -79,8 +79,10 @@
 
   reason() {
     const box = this.one('#code .why');
-    return box &&
-      [ box.previousSibling.dataset.a, this.text(this.one('summary', box)), this.text(this.one('pre', box)), box.open ];
+    return box && [
+      box.previousSibling.dataset.a, this.text(this.one('summary', box)), this.text(this.one('pre', box)),
+      box.checkVisibility() && box.open
+    ];
   },
 
   bothTurns() {
@@ -155,6 +157,18 @@
       return !part.hidden &&
         !(box.width > 60 && box.height > 8 && box.bottom <= innerHeight + 1 && box.right <= innerWidth + 1);
     });
+  },
+
+  // Of parts that stand one below the other: those without room or beyond the edge, and those that overlap.
+  illStacked(parts) {
+    const shown = parts.map(name => [name, this.one(name)]).filter(([, part]) => part.checkVisibility())
+                    .map(([name, part]) => [name, part.getBoundingClientRect()]);
+    const misfits = shown.filter(([, box]) => box.height < 14 || box.width < 60 || box.right > innerWidth + 1);
+    const covered = shown.flatMap(([name, box], at) => shown.slice(at + 1)
+      .filter(([, other]) => Math.min(box.right, other.right) - Math.max(box.left, other.left) > 1 &&
+        Math.min(box.bottom, other.bottom) - Math.max(box.top, other.top) > 1)
+      .map(([other]) => `${name} and ${other}`));
+    return [...misfits.map(([name]) => name), ...covered];
   },
 
   // Tables that reach out of their section.

@@ -10,6 +10,8 @@ BENCH = f"{TOP}/crates/sbx_bench/data"
 # take.
 LETTERS, STEP, LOAD = 11, 50, 1000
 SIZES = ((1280, 800), (1920, 1080), (1024, 768), (2560, 1440))
+# A phone, and the pixels of its smallest letters, with two dots or more to each.
+PHONE, PHONE_LETTERS = (412, 915), 9
 # What is on the screen, and in which tables letters are small.
 SHOWN = (
     "#code",
@@ -28,6 +30,8 @@ SHOWN = (
     "#hot",
     ".foot",
 )
+# What stands above the panes.
+STACKED = ("header", ".time", "#say", ".seek")
 TWO_TABLES = ("#first .regs", "#second .regs", "#first .state", "#second .state", "#compare")
 SIDE_LETTERS = (
     "#walk td, #mem td, #traps div, #first .open li, .tile, .pg span, #hot span, .row span, #first .regs td, "
@@ -97,14 +101,30 @@ def fits(pages):
         )
         pages.same(f"{width} by {height}: parts of two runs that are cut off",
                    (cut, pages.browser.look("tooWide", TWO_TABLES)), ([], []))
+    pages.browser.size(*PHONE)
+    for turn, path in single:
+        pages.browser.open(path, f"#turn={turn}")
+        fits_phone(pages, f"a phone, {os.path.basename(path)}")
     pages.browser.size(1280, 800)
+
+
+def fits_phone(pages, at):
+    """On a phone the parts of a run stand one below the other, each with its room, and letters are large enough."""
+    pages.same(f"{at}: parts that don't stand", pages.browser.look("illStacked", [*STACKED, *SHOWN]), [])
+    across = "document.documentElement.scrollWidth - document.documentElement.clientWidth"
+    pages.same(f"{at}: what lies beyond the edge", pages.browser.js(across), 0)
+    least = pages.browser.look("leastLetters", SIDE_LETTERS)
+    pages.check(f"{at}: letters of {least} px", least >= PHONE_LETTERS)
 
 
 def fits_one(pages, at, size):
     """A page of one run in a window of this size."""
     pages.same(f"{at}: the window", pages.browser.js("[innerWidth, innerHeight]"), list(size))
     pages.check(f"{at}: the page scrolls", not pages.browser.look("scrolls"))
-    pages.same(f"{at}: parts that are cut off", pages.browser.look("cutOff", SHOWN), [])
+    has_bound = pages.browser.js("document.body.dataset.bound") == "fuel"
+    pages.same(f"{at}: the plot of the fuel is shown", pages.browser.look("isShown", ".plot"), has_bound)
+    shown = [it for it in SHOWN if has_bound or it != "#fuel"]
+    pages.same(f"{at}: parts that are cut off", pages.browser.look("cutOff", shown), [])
     pages.same(f"{at}: tables that are too wide", pages.browser.look("tooWide", ["#walk", "#mem", "#first .regs"]), [])
     least = pages.browser.look("leastLetters", SIDE_LETTERS)
     pages.check(f"{at}: letters of {least} px", least >= LETTERS or size != SIZES[0])

@@ -72,11 +72,13 @@ def reason(pages, name):
     told_by("sandbox", "asm", f"{TOP}/examples/refused/{name}.s", image)
     why = told_by("inspect", "why", image).splitlines()
     pages.browser.open(pages.written(name, told_by("inspect", "page", image)))
-    wanted = [why[0][-8:], f"\u2716 {why[0]}: {why[1]}", "\n".join(why[2:]).strip(), False]
-    pages.same(f"{name}: the reason", pages.browser.look("reason"), wanted)
+    told = [why[0][-8:], f"\u2716 {why[0]}: {why[1]}", "\n".join(why[2:]).strip()]
+    pages.same(f"{name}: the reason", pages.browser.look("reason"), [*told, False])
     pages.same(f"{name}: the verdict", pages.browser.js("document.querySelector('#verdict').textContent"), why[0])
     pages.browser.key("w")
-    pages.check(f"{name}: w opens the reason", pages.browser.look("reason")[3])
+    pages.same(f"{name}: w shows the reason", pages.browser.look("reason"), [*told, True])
+    pages.browser.key("w")
+    pages.same(f"{name}: and folds it", pages.browser.look("reason"), [*told, False])
     pages.check(f"{name}: a bound of an image that isn't accepted",
                 "ends by" not in pages.browser.look("see", 1)["fuel"])
 

@@ -74,9 +74,9 @@ class Watch:
         """Number, window, mode, PC, word, place, instruction and event."""
         row, mode = self.traced[turn - 1], "user" if told[2] == "u" else "supervisor"
         self.same("number, window, mode, PC", (seen["goto"], row[:4]), (str(turn), [f"{turn:010}", *told[1:4]]))
-        text = told[5] if told[5] not in ("annulled", "not fetched") else "(not fetched)"
+        text = {"annulled": [], "not fetched": ["(not fetched)"]}.get(told[5], [told[5]])
         place = f"{told[3]} {row[4]} {told[4]}"
-        head = " \u00b7 ".join([f"turn {turn}", f"window {int(told[1])}", mode, place, text, ""])
+        head = " \u00b7 ".join([f"turn {turn}", f"window {int(told[1])}", mode, place, *text, ""])
         said = seen["say"][len(head) :]
         self.check(f"{seen['say']!r} doesn't begin with {head!r}", seen["say"].startswith(head))
         self.check(f"{row[5:]} isn't in {said!r}", SIGNS[row[5]] + "".join(row[6:]) in said)

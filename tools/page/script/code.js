@@ -177,13 +177,15 @@ class CodePane {
       box.appendChild(element('summary', '', '\u2716 ' + rule + ': ' + (meaning || '')));
       box.appendChild(element('pre', '', rest.join('\n').trim()));
       row.classList.add('refused');
+      box.hidden = true;
       row.after(box);
     }
   }
 
   openReason() {
     for (const box of document.querySelectorAll('.why')) {
-      box.open = !box.open;
+      box.hidden = !box.hidden;
+      box.open = !box.hidden;
       if (box.open) bringIntoView(box.parentNode, box);
     }
     scrollPanes();
@@ -193,7 +195,7 @@ class CodePane {
     byId('src').hidden = !this.bySource;
     byId('code').hidden = this.bySource;
     byId('b-source').hidden = !this.hasSource;
-    byId('b-source').textContent = this.bySource ? 'source' : 'words';
+    byId('b-source').setAttribute('aria-pressed', String(this.bySource));
   }
 
   exchangeSource() {

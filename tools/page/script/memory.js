@@ -126,11 +126,12 @@ class MemoryPane {
   showWords(turn) {
     const {run, story} = this, address = this.lastAddress(turn, story.frames.at(turn)),
                 save = this.saveAreaOf(turn, address);
-    const start = save ? save.start : address & ~63, body = byId('mem').tBodies[0];
+    const rows = save || story.traps.length > FEW_TRAPS ? 4 : 8;
+    const start = save ? save.start : address & -16 * rows, body = byId('mem').tBodies[0];
     const region = start >= STACK_START ? ': stack' : start >= DATA_START ? ': data' : '';
     byId('memof').textContent = hex(start) + (save ? ': the save area of ' + story.nameOf(save.frame) : region);
     body.replaceChildren();
-    for (let row = 0; row < 4; row++) {
+    for (let row = 0; row < rows; row++) {
       const line = body.insertRow();
       for (let column = 0; column < 4; column++)
         this.putWord(line.insertCell(), turn, start + 16 * row + 4 * column >>> 0, save ? 4 * row + column : -1);

@@ -35,6 +35,8 @@ class Page {
       this.code, new MemoryPane(run, story, go), new TrapsPane(run, story, go), new OutputPane(run), this.fuel,
       this.stops
     ];
+    document.body.dataset.bound = bound ? 'fuel' : 'none';
+    document.body.dataset.traps = story.traps.length > FEW_TRAPS ? 'many' : 'few';
     this.showVerdict();
     byId('slide').max = run.turns;
     byId('last').textContent = run.turns + (run.ended ? '' : ' (limit)');

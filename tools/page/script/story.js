@@ -193,6 +193,7 @@ function heading(run, turn) {
 
 function instruction(run, turn) {
   const listed = run.code.get(run.pc[turn]);
+  if (run.event[turn] === ANNULLED) return '';
   return !run.fetched[turn] ? '(not fetched)' : listed ? listed.text : '?';
 }
 
@@ -207,7 +208,7 @@ function tellTurn(where, run, turn, comment) {
   }
   const told = sentence(run, turn);
   where.append(element('span', 'dim', heading(run, turn)), element('code', '', instruction(run, turn)));
-  where.append(' \u00B7 ' + (told || 'ran'));
+  where.append((run.event[turn] === ANNULLED ? '' : ' \u00B7 ') + (told || 'ran'));
   if (comment) where.append(element('span', 'co', '  ' + comment));
   where.title = where.textContent;
 }

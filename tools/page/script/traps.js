@@ -1,6 +1,8 @@
 
 // ---- Traps of the run, and what it put out so far.
 const SHOWN_TRAPS = 300, SHOWN_BYTES = 400;
+// So few traps leave room to more rows of memory.
+const FEW_TRAPS = 5;
 
 class TrapsPane {
   constructor(run, story, go) {

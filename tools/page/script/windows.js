@@ -106,7 +106,7 @@ class WindowsPane {
 
   makeRing(top) {
     const box = top.appendChild(element('div', 'ring')),
-          heading = box.appendChild(element('h2', '', 'Register windows '));
+          heading = box.appendChild(element('h2', 'large', 'Register windows '));
     heading.appendChild(element('span', '', 'SAVE \u21BB RESTORE \u21BA'));
     const picture = box.appendChild(drawn('svg', {viewBox: '-165 -158 330 316', role: 'img', class: 'circle'}));
     this.ring = new Ring(picture, this.run.windows);
