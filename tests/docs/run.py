@@ -23,8 +23,9 @@ from tally import Tally, Words
 PATIENCE = 300
 # What a session needs, by Debian's packages.
 NEEDED = {"gdb-multiarch": "gdb-multiarch", "sparc64-linux-gnu-gcc": "gcc-sparc64-linux-gnu"}
-# What a session needs besides where a command names it.
-NAMED = {"qemu-system-sparc": "qemu-system-sparc"}
+# What a session needs besides where a command has a word: the word, the tool, Debian's package.
+NAMED = (("qemu-system-sparc", "qemu-system-sparc", "qemu-system-sparc"),
+         ("./c++", "sparc64-linux-gnu-g++", "g++-sparc64-linux-gnu"))
 PROMPT = "(gdb) "
 
 FENCE = re.compile(r"^(\s*)```(.*)$")
@@ -110,7 +111,7 @@ def play_session(tally, page, folder, steps):
     printed in this order, among other lines, and `..` in a line stands for any text. Where these aren't there it is
     skipped."""
     steps = list(steps)
-    named = {it: package for it, package in NAMED.items() if any(it in command for _, command, _ in steps)}
+    named = {tool: package for word, tool, package in NAMED if any(word in command for _, command, _ in steps)}
     for tool, package in {**NEEDED, **named}.items():
         if not has(tool):
             tally.skip(f"a session of {os.path.relpath(page, TOP)}", f"Debian's package {package}")
