@@ -1,10 +1,11 @@
 #!/usr/bin/env python3
 """usage: tests/docs/run.py [FILE ..]
 
-Runs the commands that README.md and docs/**/*.md (or the FILEs) show, and compares what they print;
+Runs the commands that README.md, SECURITY.md and docs/**/*.md (or the FILEs) show, and compares what they print;
 docs/work/development.md says how a page shows them. Looks up the files and headings that the pages link to, counts the
 lines of the files whose lines a table tells, looks whether the map's tables have a row for each crate, and those of
-docs/work/development.md one for each suite, and whether docs/proof/contracts.md is what tools/contracts prints."""
+docs/work/development.md one for each suite, and whether docs/proof/contracts.md is what tools/contracts prints. Holds
+sentences, paragraphs and semicolons to the limits of prose.py."""
 import glob
 import os
 import re
@@ -15,6 +16,7 @@ import tempfile
 
 sys.dont_write_bytecode = True
 sys.path.insert(0, f"{os.path.dirname(os.path.dirname(os.path.abspath(__file__)))}/lib")
+import prose
 from crates import TOP, crates
 from run import built, has, put, text_of
 from tally import Tally, Words
@@ -225,8 +227,9 @@ def main(words):
     pages = [os.path.abspath(it) for it in reader.parse_args(words).files]
     built("sandbox", "inspect", "host", "fit", "board")
     tally = Tally("docs")
-    for page in pages or [f"{TOP}/README.md", *sorted(glob.glob(f"{TOP}/docs/**/*.md", recursive=True))]:
+    for page in pages or [f"{TOP}/{it}" for it in prose.all_pages()]:
         try_page(tally, page)
+    prose.hold(tally, [os.path.relpath(it, TOP) for it in pages] or prose.all_pages())
     return tally.end()
 
 
