@@ -24,11 +24,11 @@ PARAGRAPH, SEMICOLONS = 120, 2
 WAITING = {f"docs/{it}.md" for it in (
     "use/c", "use/source", "use/annotating", "use/faults", "use/inspect", "embed/embedding", "embed/postgres",
     "embed/scale", "embed/native", "learn/course", "learn/try", "machine/profile", "machine/image", "machine/rules",
-    "machine/ranges", "machine/comparing", "machine/board", "proof/proofs", "proof/security", "work/map",
+    "machine/ranges", "machine/comparing", "machine/board", "work/map",
     "work/development", "work/decisions")} | {"README.md", "SECURITY.md"}
 
 FENCE = re.compile(r" *```")
-ITEM = re.compile(r" *([-*+]|\d+\.) ")
+ITEM = re.compile(r"^ *([-*+]|\d+\.) ")
 # Lines that are no prose: headings, rows of tables, pictures on a line of their own.
 APART = re.compile(r"#+ | *\||!\[[^]]*\]\([^)]*\)$")
 # A sentence ends at a stop before a capital, a digit, a bracket or code.
