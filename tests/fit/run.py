@@ -173,7 +173,7 @@ def try_words(to):
     """Words, and files that aren't there."""
     stored, x, tally = f"{STORED}/upper.s", f"{to.work}/x", to.tally
     for words, status in [
-        ([], 3), (["--help"], 3), ([stored], 3), (["-o", "x"], 3), ([stored, "-o"], 3), ([stored, "--strict"], 3),
+        ([], 3), (["--help"], 0), (["--help", stored], 3), ([stored], 3), (["-o", "x"], 3), ([stored, "-o"], 3), ([stored, "--strict"], 3),
         ([stored, "-o", "x", "--turns", "0"], 3), ([stored, "-o", "x", "--turns", "ten"], 3),
         ([stored, "-o", "x", "--turns", "1000000000001"], 3), ([f"{to.work}/none.s", "-o", x], 4),
         ([stored, "-o", f"{to.work}/none/x"], 4), ([to.work, "-o", x], 4), (["/dev/zero", "-o", x], 2),

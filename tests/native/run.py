@@ -23,7 +23,7 @@ import tempfile
 sys.dont_write_bytecode = True
 HERE = os.path.dirname(os.path.abspath(__file__))
 sys.path.insert(0, f"{os.path.dirname(HERE)}/lib")
-from run import EXAMPLES, FIT, SANDBOX, TOP, built, bytes_of, program, put, run, text_of
+from run import EXAMPLES, FIT, SANDBOX, TOP, Ran, built, bytes_of, program, put, run, text_of
 from tally import Tally, Words
 
 NATIVE, HEADERS = f"{TOP}/native", f"{TOP}/embed/native"
@@ -221,6 +221,9 @@ def limits(tally, _asked):
             tally.same(f"a compiler that {name}: no object", (ran.status, left), (4, False))
         ran = run([NATIVE, "build", "--compiler", "nosuchcc", hello, "-o", f"{room}/hello.so"], env=env)
         tally.check("no such compiler", ran.status == 4 and "nosuchcc" in ran.said, ran.said)
+    usage = bytes_of(f"{TOP}/tools/release/usage/native")
+    tally.same("no arguments", run([NATIVE]), Ran(3, b"", usage))
+    tally.same("--help", run([NATIVE, "--help"]), Ran(0, usage, b""))
 
 
 def kept(folder):

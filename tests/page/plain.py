@@ -53,7 +53,7 @@ def words(pages):
     image = slots.image
     for path in (none, other):
         put(path, "no image")
-    for line in ((), ("--help",), (image, image), (image, "--limit"), ("--limit", "1", "--limit", "2", image)):
+    for line in ((), ("--help", image), (image, image), (image, "--limit"), ("--limit", "1", "--limit", "2", image)):
         gives(pages, 3, "", *line)
     for word, number, most in (
         ("--windows", "3", "4 to 32"),

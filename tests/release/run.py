@@ -1,11 +1,14 @@
 #!/usr/bin/env python3
 """usage: tests/release/run.py
 
-Makes a release of this tree as it is committed, installs it below a folder of its own, and runs it from another folder
-without the tree and without a kit; makes it once more and compares the bytes; and tries to install one that was
-changed. The gate isn't run: it is told what a gate that passed prints, so the file that is made is thrown away. The
+Makes a release of this tree as it is committed, and its package for Debian; installs it below a folder of its own, and
+runs it from another folder without the tree and without a kit: its programs, the examples of its manual, what shells
+complete; makes it once more and compares the bytes; tries to install one that was changed; takes it away again; and
+installs, tries and removes the package below a folder of its own. The gate isn't run: it is told what a gate that passed prints, so the file that is made is thrown away. The
 programs have to stand built, or are built first; the library for C has to stand."""
+import hashlib
 import os
+import re
 import shutil
 import sys
 import tempfile
@@ -17,7 +20,7 @@ from run import EXAMPLES, TOP, built, bytes_of, has, put, run, text_of
 from tally import NOT_BUILT, Tally, Words
 
 VERSION = text_of(f"{TOP}/VERSION").strip()
-NAME = f"geyserpan-{VERSION}-x86_64-linux"
+NAME, PACKAGE = f"geyserpan-{VERSION}-x86_64-linux", f"geyserpan_{VERSION}_amd64.deb"
 LIBRARY = f"{TOP}/crates/geyserpan/out/libgeyserpan.a"
 # What stands built, and is taken along.
 BUILT = [f"crates/{it}/out/{it}{end}" for it in ("sbx_tool", "inspect", "host", "fit", "board")
@@ -75,11 +78,11 @@ def try_making(place, tally):
     ):
         ran = place.make(*words)
         tally.check(name, ran.status == status and told in ran.said, f"wanted {status} and '{told}', came {ran}")
-    files = []
+    names, files = [f"{NAME}.tar.gz", PACKAGE][:2 if has("dpkg-deb") else 1], []
     for _ in range(2):
-        ran = place.make(VERSION, "--gate", passed)
+        ran = place.make(VERSION, "--gate", passed, *(["--deb"] if len(names) == 2 else []))
         tally.check(MAKE, ran.status == 0, f"wanted a release, came {ran}")
-        files.append(bytes_of(f"{place.clone}/out/{NAME}.tar.gz") if ran.status == 0 else None)
+        files.append([bytes_of(f"{place.clone}/out/{it}") for it in names] if ran.status == 0 else None)
     tally.check("bytes of the same tree", files[0] == files[1], "wanted the same, came others")
     return bool(files[0])
 
@@ -90,6 +93,8 @@ def try_installing(place, tally):
     tally.check("tar", ran.status == 0, ran.said)
     ran = run(["./install", place.prefix], cwd=place.unpacked)
     tally.check("install", ran.status == 0, ran.said)
+    if has("dpkg-deb"):
+        shutil.move(f"{place.clone}/out/{PACKAGE}", place.work)
     shutil.rmtree(place.clone)
 
 
@@ -141,6 +146,98 @@ def try_contents(place, tally):
     tally.check("sums of installed files", ran.status == 0, ran.said)
 
 
+def try_manual(place, tally):
+    """Each page of a program has its sections, and its examples run on the examples of the release."""
+    folder = f"{place.work}/elsewhere/examples"
+    shutil.copytree(f"{place.share}/examples", folder)
+    wants_compiler = not has("sparc64-linux-gnu-gcc") and not has("clang")
+    for page in (it for it in PAGES if it.endswith(".1")):
+        text = text_of(f"{place.prefix}/share/man/man1/{page}")
+        sections = re.findall(r"^\.SH (.*)$", text, re.M)
+        missing = [it for it in ("SYNOPSIS", "DESCRIPTION", "EXIT STATUS", "EXAMPLES") if it not in sections]
+        tally.same(f"{page}: sections that it lacks", missing, [])
+        commands = [it.replace("\\-", "-") for it in re.findall(r"^\$ (.*)$", text, re.M)]
+        tally.check(f"{page}: examples", commands, "wanted some, came none")
+        if page.startswith("geyserpan-cc") and wants_compiler:
+            tally.skip(f"the examples of {page}", "a compiler for SPARC")
+            continue
+        for command in commands:
+            ran = place.apart("sh", "-c", f"cd {folder} && {command}")
+            tally.check(f"{page}: {command}", ran.status == 0, ran.said[:300])
+
+
+def try_completions(place, tally):
+    """Each shell that is there reads what is completed; bash completes commands and options."""
+    places = {"bash": "bash-completion/completions/{}", "zsh": "zsh/site-functions/_{}",
+              "fish": "fish/vendor_completions.d/{}.fish"}
+    for shell, form in places.items():
+        paths = [f"{place.prefix}/share/{form.format(it.removesuffix('.1'))}" for it in PAGES if it.endswith(".1")]
+        if not has(shell):
+            tally.skip(f"what {shell} completes", f"Debian's package {shell}")
+            continue
+        for path in paths:
+            ran = run([shell, "-n", path])
+            tally.check(f"{shell} -n {os.path.basename(path)}", ran.status == 0 and os.path.getsize(path), ran.said)
+    for word, at, wanted in (("cy", 1, b"cycles\n"), ("--win", 2, b"--windows\n")):
+        script = f". {place.prefix}/share/bash-completion/completions/inspect; COMP_CWORD={at} COMP_WORDS=(inspect " \
+                 f"{'' if at == 1 else 'run '}{word}); _inspect; printf '%s\\n' \"${{COMPREPLY[@]}}\""
+        tally.same(f"inspect {word}: completed", run(["bash", "-c", script], cwd=place.prefix).out, wanted)
+
+
+def try_inventory(place, tally):
+    """The list of what is inside has each file with its sums, and the kit's libraries."""
+    text = text_of(f"{place.share}/geyserpan.spdx")
+    told = dict(re.findall(r"^FileName: \./(.*)\nSPDXID: .*\nFileChecksum: SHA1: .*\nFileChecksum: SHA256: (\w+)$", text,
+                           re.M))
+    apart = ("SHA256SUMS", "share/geyserpan/geyserpan.spdx")
+    there = {os.path.relpath(f"{at}/{it}", place.unpacked): f"{at}/{it}"
+             for at, _, files in os.walk(place.unpacked) for it in files}
+    wanted = {it: hashlib.sha256(bytes_of(path)).hexdigest() for it, path in there.items() if it not in apart}
+    tally.check("files of the list", told == wanted, f"differ: {sorted(set(told.items()) ^ set(wanted.items()))[:4]}")
+    names = re.findall(r"^PackageName: (.*)$", text, re.M)
+    tally.check("the kit's libraries", {"geyserpan", "std", "clap", "byteorder", "bitflags", "arrayvec"} <= {*names},
+                f"came {names}")
+
+
+def try_taking_away(place, tally):
+    """DESTDIR stands in front of the prefix; what was installed is taken away, and what was changed stays."""
+    stage = f"{place.work}/stage"
+    os.makedirs(f"{stage}/usr/local/bin")
+    kept = put(f"{stage}/usr/local/bin/other", "x")
+    ran = run([f"{place.unpacked}/install", "/usr/local"], env={**os.environ, "DESTDIR": stage})
+    tally.check("install with DESTDIR", ran.status == 0 and os.path.exists(f"{stage}/usr/local/bin/sandbox"), ran.said)
+    changed = put(f"{stage}/usr/local/share/doc/geyserpan/README.md", "mine")
+    ran = run([f"{place.unpacked}/install", "--uninstall", "/usr/local"], env={**os.environ, "DESTDIR": stage})
+    left = sorted(f"{at}/{it}" for at, _, files in os.walk(stage) for it in files)
+    tally.same("what stays", (ran.status, left), (0, sorted([kept, changed])))
+    tally.check("it says so", f"{changed} was changed: it stays" in ran.said, ran.said)
+    ran = run([f"{place.unpacked}/install", "--uninstall", f"{place.work}/nothing"])
+    tally.check("nothing to take away", ran.status == 1 and "no release stands below" in ran.said, ran.said)
+
+
+def try_package(place, tally):
+    """The package, installed below a folder of its own, tried there and removed."""
+    if not has("dpkg-deb") or os.geteuid():
+        tally.skip("the package for Debian", "dpkg, and root")
+        return
+    root = f"{place.work}/root"
+    os.makedirs(f"{root}/var/lib/dpkg/info")
+    os.makedirs(f"{root}/var/lib/dpkg/updates")
+    put(f"{root}/var/lib/dpkg/status", "")
+    dpkg = ["dpkg", f"--root={root}", "--force-depends", "--force-script-chrootless"]
+    ran = run([*dpkg, "--install", f"{place.work}/{PACKAGE}"], seconds=None)
+    tally.check("dpkg --install", ran.status == 0, ran.said[-800:])
+    hello = f"{place.share}/examples/hello/hello.img"
+    for name, words, wanted in (("sandbox", ("run", hello), b"Hi"), ("host", (hello,), b"Hi")):
+        ran = run([f"{root}/usr/bin/geyserpan-{name}", *words], cwd=f"{place.work}/elsewhere")
+        tally.same(f"geyserpan-{name} of the package", (ran.status, ran.out), (0, wanted))
+    ran = run([f"{root}/usr/bin/geyserpan-inspect", "--version"])
+    tally.check("its version", ran.out.startswith(f"version {VERSION}\n".encode()), ran.said)
+    ran = run([*dpkg, "--purge", "geyserpan"], seconds=None)
+    left = [f"{at}/{it}" for at, _, files in os.walk(f"{root}/usr") for it in files]
+    tally.same("dpkg --purge", (ran.status, left), (0, []))
+
+
 def try_changed(place, tally):
     """A release that was changed isn't installed."""
     with open(f"{place.unpacked}/bin/sandbox", "ab") as file:
@@ -149,7 +246,7 @@ def try_changed(place, tally):
     is_there = os.path.exists(f"{place.work}/other")
     tally.check("install of a changed release", ran.status == 1 and not is_there, f"wanted status 1, came {ran}")
     ran = run([f"{place.unpacked}/install"])
-    tally.check("install without words", ran.status == 3 and "usage: install PREFIX" in ran.said,
+    tally.check("install without words", ran.status == 3 and "usage: install [--uninstall] PREFIX" in ran.said,
                 f"wanted usage, came {ran}")
 
 
@@ -167,6 +264,11 @@ def main(words):
             try_installing(place, tally)
             try_programs(place, tally)
             try_contents(place, tally)
+            try_manual(place, tally)
+            try_completions(place, tally)
+            try_inventory(place, tally)
+            try_taking_away(place, tally)
+            try_package(place, tally)
             try_changed(place, tally)
     return tally.end()
 
