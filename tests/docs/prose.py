@@ -24,15 +24,14 @@ PARAGRAPH, SEMICOLONS = 120, 2
 WAITING = {f"docs/{it}.md" for it in (
     "use/c", "use/source", "use/annotating", "use/faults", "use/inspect", "embed/embedding", "embed/postgres",
     "embed/scale", "embed/native", "learn/course", "learn/try", "machine/profile", "machine/image", "machine/rules",
-    "machine/ranges", "machine/comparing", "machine/board", "work/map",
-    "work/development", "work/decisions")} | {"README.md", "SECURITY.md"}
+    "machine/ranges", "machine/comparing", "machine/board", "work/decisions")} | {"README.md", "SECURITY.md"}
 
 FENCE = re.compile(r" *```")
 ITEM = re.compile(r"^ *([-*+]|\d+\.) ")
 # Lines that are no prose: headings, rows of tables, pictures on a line of their own.
 APART = re.compile(r"#+ | *\||!\[[^]]*\]\([^)]*\)$")
-# A sentence ends at a stop before a capital, a digit, a bracket or code.
-END = re.compile(r"(?<=[.?!])(?:[\"')])? +(?=[\"'(]?[A-Z0-9\x00])")
+# A sentence ends at a stop, and not at dots that stand for something.
+END = re.compile(r"(?<=[^.\s][.?!])[\"')]* +(?=\S)")
 
 
 @dataclasses.dataclass
