@@ -24,7 +24,7 @@ PARAGRAPH, SEMICOLONS = 120, 2
 WAITING = {f"docs/{it}.md" for it in (
     "use/c", "use/source", "use/annotating", "use/faults", "use/inspect", "embed/embedding", "embed/postgres",
     "embed/scale", "embed/native", "learn/course", "learn/try", "machine/profile", "machine/image", "machine/rules",
-    "machine/ranges", "machine/comparing", "machine/board", "work/decisions")}
+    "machine/ranges", "machine/comparing", "machine/board")}
 
 FENCE = re.compile(r" *```")
 ITEM = re.compile(r"^ *([-*+]|\d+\.) ")
