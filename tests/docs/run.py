@@ -2,9 +2,9 @@
 """usage: tests/docs/run.py [FILE ..]
 
 Runs the commands that README.md, SECURITY.md and docs/**/*.md (or the FILEs) show, and compares what they print;
-docs/work/development.md says how a page shows them. Looks up the files and headings that the pages link to, counts the
+docs/work/change.md says how a page shows them. Looks up the files and headings that the pages link to, counts the
 lines of the files whose lines a table tells, looks whether the map's tables have a row for each crate, and those of
-docs/work/development.md one for each suite, and whether docs/proof/contracts.md is what tools/contracts prints. Holds
+docs/work/change.md one for each suite, and whether docs/proof/contracts.md is what tools/contracts prints. Holds
 sentences, paragraphs and semicolons to the limits of prose.py."""
 import glob
 import os
@@ -214,7 +214,7 @@ def try_page(tally, page):
         tally.check(name, False, f"wanted one row for each crate and no other, came {crate}")
     if name == "docs/work/map.md":
         try_map(tally)
-    for suite in wrong_suites(page) if name == "docs/work/development.md" else ():
+    for suite in wrong_suites(page) if name == "docs/work/change.md" else ():
         tally.check(name, False, f"wanted one row for each suite and no other, came {suite}")
     if name == "docs/proof/contracts.md":
         is_same = subprocess.run([f"{TOP}/tools/contracts", "--check"], check=False).returncode == 0
