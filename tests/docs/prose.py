@@ -20,9 +20,6 @@ from run import TOP, text_of
 LONG, SHARE, LONGEST = 35, 0.02, 60
 # Words of a paragraph, and semicolons in a thousand words of a folder's pages.
 PARAGRAPH, SEMICOLONS = 120, 2
-# Pages that were written before there were limits.
-WAITING = {f"docs/{it}.md" for it in (
-    "learn/course", "learn/try", "machine/rules", "machine/ranges", "machine/comparing", "machine/board")}
 
 FENCE = re.compile(r" *```")
 ITEM = re.compile(r"^ *([-*+]|\d+\.) ")
@@ -158,8 +155,7 @@ def hold(tally, asked):
     """Holds the pages that are asked for, and the folders that they stand in, to the limits."""
     folders = collections.defaultdict(dict)
     for name in all_pages():
-        if name not in WAITING:
-            folders[os.path.dirname(name)][name] = text_of(f"{TOP}/{name}")
+        folders[os.path.dirname(name)][name] = text_of(f"{TOP}/{name}")
     for folder, texts in folders.items():
         wanted = {name: text for name, text in texts.items() if name in asked}
         for name, text in wanted.items():
