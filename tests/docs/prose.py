@@ -23,8 +23,7 @@ PARAGRAPH, SEMICOLONS = 120, 2
 # Pages that were written before there were limits.
 WAITING = {f"docs/{it}.md" for it in (
     "use/c", "use/source", "use/annotating", "use/faults", "use/inspect", "embed/embedding", "embed/postgres",
-    "embed/scale", "embed/native")} | {
-        f"embed/{it}/README.md" for it in ("c++", "go", "postgres", "python", "rust", "sqlite")}
+    "embed/scale", "embed/native")}
 
 FENCE = re.compile(r" *```")
 ITEM = re.compile(r"^ *([-*+]|\d+\.) ")
