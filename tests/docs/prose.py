@@ -1,9 +1,9 @@
 #!/usr/bin/env python3
 """usage: tests/docs/prose.py [FILE ..]
 
-Counts the prose of README.md, SECURITY.md and docs/**/*.md, or of the FILEs: words, sentences, how many sentences have
-more than 35 words, the longest, the longest paragraph, and semicolons a thousand words. Code, tables and headings don't
-count; an item of a list is a paragraph. tests/docs/run.py holds the counts to the limits below."""
+Counts the prose of all pages of the repository, or of the FILEs: words, sentences, how many sentences have more than 35
+words, the longest, the longest paragraph, and semicolons a thousand words. Code, tables and headings don't count; an
+item of a list is a paragraph. tests/docs/run.py holds the counts to the limits below."""
 import collections
 import dataclasses
 import glob
@@ -147,8 +147,8 @@ def hold_folder(tally, folder, texts):
 
 def all_pages():
     """The pages, by their paths from the top."""
-    paths = [f"{TOP}/README.md", f"{TOP}/SECURITY.md", *sorted(glob.glob(f"{TOP}/docs/**/*.md", recursive=True))]
-    return [os.path.relpath(it, TOP) for it in paths]
+    folders = [glob.glob(f"{TOP}/{it}/**/*.md", recursive=True) for it in ("docs", "embed", "vectors")]
+    return [os.path.relpath(it, TOP) for it in [*glob.glob(f"{TOP}/*.md"), *sum(folders, [])]]
 
 
 def hold(tally, asked):

@@ -1,7 +1,7 @@
 #!/usr/bin/env python3
 """usage: tests/docs/run.py [FILE ..]
 
-Runs the commands that README.md, SECURITY.md and docs/**/*.md (or the FILEs) show, and compares what they print;
+Runs the commands that the pages of the repository (or the FILEs) show, and compares what they print;
 docs/work/change.md says how a page shows them. Looks up the files and headings that the pages link to, counts the
 lines of the files whose lines a table tells, looks whether the map's tables have a row for each crate, and those of
 docs/work/change.md one for each suite, and whether docs/proof/contracts.md is what tools/contracts prints. Holds
@@ -227,7 +227,7 @@ def main(words):
     pages = [os.path.abspath(it) for it in reader.parse_args(words).files]
     built("sandbox", "inspect", "host", "fit", "board")
     tally = Tally("docs")
-    for page in pages or [f"{TOP}/{it}" for it in prose.all_pages()]:
+    for page in pages or [f"{TOP}/{it}" for it in sorted(prose.all_pages())]:
         try_page(tally, page)
     prose.hold(tally, [os.path.relpath(it, TOP) for it in pages] or prose.all_pages())
     return tally.end()
