@@ -1,10 +1,11 @@
 #!/usr/bin/env python3
 """usage: tests/docs/run.py [FILE ..]
 
-Runs the commands that README.md and docs/**/*.md (or the FILEs) show, and compares what they print;
-docs/work/development.md says how a page shows them. Looks up the files and headings that the pages link to, counts the
+Runs the commands that the pages of the repository (or the FILEs) show, and compares what they print;
+docs/work/change.md says how a page shows them. Looks up the files and headings that the pages link to, counts the
 lines of the files whose lines a table tells, looks whether the map's tables have a row for each crate, and those of
-docs/work/development.md one for each suite, and whether docs/proof/contracts.md is what tools/contracts prints."""
+docs/work/change.md one for each suite, and whether docs/proof/contracts.md is what tools/contracts prints. Holds
+sentences, paragraphs and semicolons to the limits of prose.py."""
 import glob
 import os
 import re
@@ -15,6 +16,7 @@ import tempfile
 
 sys.dont_write_bytecode = True
 sys.path.insert(0, f"{os.path.dirname(os.path.dirname(os.path.abspath(__file__)))}/lib")
+import prose
 from crates import TOP, crates
 from run import built, has, put, text_of
 from tally import Tally, Words
@@ -23,8 +25,9 @@ from tally import Tally, Words
 PATIENCE = 300
 # What a session needs, by Debian's packages.
 NEEDED = {"gdb-multiarch": "gdb-multiarch", "sparc64-linux-gnu-gcc": "gcc-sparc64-linux-gnu"}
-# What a session needs besides where a command names it.
-NAMED = {"qemu-system-sparc": "qemu-system-sparc"}
+# What a session needs besides where a command has a word: the word, the tool, Debian's package.
+NAMED = (("qemu-system-sparc", "qemu-system-sparc", "qemu-system-sparc"),
+         ("./c++", "sparc64-linux-gnu-g++", "g++-sparc64-linux-gnu"))
 PROMPT = "(gdb) "
 
 FENCE = re.compile(r"^(\s*)```(.*)$")
@@ -110,7 +113,7 @@ def play_session(tally, page, folder, steps):
     printed in this order, among other lines, and `..` in a line stands for any text. Where these aren't there it is
     skipped."""
     steps = list(steps)
-    named = {it: package for it, package in NAMED.items() if any(it in command for _, command, _ in steps)}
+    named = {tool: package for word, tool, package in NAMED if any(word in command for _, command, _ in steps)}
     for tool, package in {**NEEDED, **named}.items():
         if not has(tool):
             tally.skip(f"a session of {os.path.relpath(page, TOP)}", f"Debian's package {package}")
@@ -211,7 +214,7 @@ def try_page(tally, page):
         tally.check(name, False, f"wanted one row for each crate and no other, came {crate}")
     if name == "docs/work/map.md":
         try_map(tally)
-    for suite in wrong_suites(page) if name == "docs/work/development.md" else ():
+    for suite in wrong_suites(page) if name == "docs/work/change.md" else ():
         tally.check(name, False, f"wanted one row for each suite and no other, came {suite}")
     if name == "docs/proof/contracts.md":
         is_same = subprocess.run([f"{TOP}/tools/contracts", "--check"], check=False).returncode == 0
@@ -224,8 +227,9 @@ def main(words):
     pages = [os.path.abspath(it) for it in reader.parse_args(words).files]
     built("sandbox", "inspect", "host", "fit", "board")
     tally = Tally("docs")
-    for page in pages or [f"{TOP}/README.md", *sorted(glob.glob(f"{TOP}/docs/**/*.md", recursive=True))]:
+    for page in pages or [f"{TOP}/{it}" for it in sorted(prose.all_pages())]:
         try_page(tally, page)
+    prose.hold(tally, [os.path.relpath(it, TOP) for it in pages] or prose.all_pages())
     return tally.end()
 
 

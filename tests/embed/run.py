@@ -700,15 +700,15 @@ def try_readme(prefix, embed, work, name, tool):
 
 
 def try_page(prefix, work):
-    """The host that docs/embed/embedding.md shows, built and run by the commands there, in a folder that has nothing
-    but it and an image."""
-    text, folder = text_of(f"{TOP}/docs/embed/embedding.md"), f"{work}/page"
+    """The host that docs/embed/c.md shows, built and run by the commands there, in a folder that has nothing but it
+    and an image."""
+    text, folder = text_of(f"{TOP}/docs/embed/c.md"), f"{work}/page"
     host, script = (re.search(rf"^```{it}\n(.*?)^```$", text, re.M | re.S)[1] for it in ("c", "sh"))
     os.makedirs(folder)
     shutil.copy(f"{EXAMPLES}/echo/echo.img", folder)
     put(f"{folder}/host.c", host)
     ran = run(["bash", "-eu", "-c", script], cwd=folder, env=home_of(prefix, work))
-    gives("docs/embed/embedding.md", ran, b"abc\nTo be, or not to be.\n", err=b"")
+    gives("docs/embed/c.md", ran, b"abc\nTo be, or not to be.\n", err=b"")
 
 
 def try_hosts(prefix, embed, work, image):

@@ -5,10 +5,10 @@ Compares what `./inspect` tells with the files that stand beside the programs of
 `.told` for each image, `inspect why` with `.told` for each program of `examples/refused` and of `why`, whose fuel is
 short in each way in which it can be, once by more than a line holds, and which break other rules by what those don't,
 and one that is accepted, and `inspect run` with `.ran` and `inspect trace` with `.turns`, for the lessons and the
-programs of `turns` too. Looks whether the sentences that docs/use/inspect.md has of each rule are told in the files
-that it names. No line has more than 100 columns. The objects of `inspect image`, `run` and `why --json` have to say the
-same as these files (objects.py). Looks whether long runs tell how far they have come, and whether more than 1 MiB is
-read.
+programs of `turns` too. Looks whether the sentences that docs/use/inspect/refusal.md has of each rule are told in the
+files that it names. No line has more than 100 columns. The objects of `inspect image`, `run` and `why --json` have to
+say the same as these files (objects.py). Looks whether long runs tell how far they have come, and whether more than
+1 MiB is read.
 
 Compares `inspect check` with `.told` for each source of `check`, one for each cause of a fault, looks whether the
 first that it tells is what `sandbox asm` tells, and whether docs/use/faults.md has each sentence; `inspect map`, and

@@ -103,18 +103,20 @@ def try_names(asked):
 
 
 def try_sentences(tally):
-    """Each sentence that docs/use/inspect.md has of a rule stands in the files that it names, with values in the place
-    of `..`."""
-    rows = re.findall(r"^\| (V\d+(?:, V\d+)*) \| (.*) \| (.*) \|$", text_of(f"{TOP}/docs/use/inspect.md"), re.M)
+    """Each sentence that docs/use/inspect/refusal.md has of a rule stands in the files that it names, with values in
+    the place of `..`."""
+    page = text_of(f"{TOP}/docs/use/inspect/refusal.md").partition("\n## The sentences of a refusal\n")[2]
+    rows = re.findall(r"^\| (V\d+(?:, V\d+)*) \| (.*) \| (.*) \|$", page, re.M)
     for rules, sentence, names in rows:
         said = ".*".join(re.escape(part) for part in sentence.split(".."))
         for name in names.split(", "):
             folder = f"{EXAMPLES}/refused" if re.fullmatch(r"V\d+", name) else f"{HERE}/why"
             words = " ".join(text_of(f"{folder}/{name}.told").split())
             holds = words.split()[1] in rules.split(", ") and re.search(said, words)
-            tally.check(f"docs/use/inspect.md: {rules} {sentence}", holds, f"wanted it in {name}.told, came {words}")
+            tally.check(f"docs/use/inspect/refusal.md: {rules} {sentence}", holds,
+                        f"wanted it in {name}.told, came {words}")
     missing = {f"V{it}" for it in range(1, 21) if it != 19} - {rule for row in rows for rule in row[0].split(", ")}
-    tally.check("docs/use/inspect.md: a sentence for each rule", not missing,
+    tally.check("docs/use/inspect/refusal.md: a sentence for each rule", not missing,
                 f"wanted one, came none of {sorted(missing)}")
 
 

@@ -144,7 +144,7 @@ def tell_native(work, image, failed):
 
 
 def speed(work):
-    """The table of docs/embed/postgres.md."""
+    """The table of docs/work/figures.md."""
     if not has(COMPILER):
         work.tally.skip("speed", "Debian's package gcc-sparc64-linux-gnu")
         return
