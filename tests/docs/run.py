@@ -2,10 +2,10 @@
 """usage: tests/docs/run.py [FILE ..]
 
 Runs the commands that the pages of the repository (or the FILEs) show, and compares what they print;
-docs/work/change.md says how a page shows them. Looks up the files and headings that the pages link to, counts the
-lines of the files whose lines a table tells, looks whether the map's tables have a row for each crate, and those of
-docs/work/change.md one for each suite, and whether docs/proof/contracts.md is what tools/contracts prints. Holds
-sentences, paragraphs and semicolons to the limits of prose.py."""
+docs/work/change.md says how a page shows them. Looks up the files and headings that the pages link to and the
+definitions that they cite, counts the lines of the files whose lines a table tells, looks whether the map's tables have
+a row for each crate, and those of docs/work/change.md one for each suite, and whether docs/proof/contracts.md is what
+tools/contracts prints. Holds sentences, paragraphs and semicolons to the limits of prose.py."""
 import glob
 import os
 import re
@@ -31,6 +31,8 @@ NAMED = (("qemu-system-sparc", "qemu-system-sparc", "qemu-system-sparc"),
 PROMPT = "(gdb) "
 
 FENCE = re.compile(r"^(\s*)```(.*)$")
+# Names of definitions, and the file in which they stand.
+CITED = re.compile(r"((?:`\w+`(?:, | and )?)+) of `(\w+/specs/\w+\.antt)`")
 
 
 class Broken(Exception):
@@ -150,6 +152,15 @@ def dead_links(page):
             yield link
 
 
+def lost_definitions(page):
+    """Yields what a page cites of a file of definitions, as '`NAME`, .. of `CRATE/specs/FILE.antt`', and the file
+    hasn't."""
+    for names, path in CITED.findall(text_of(page)):
+        file = f"{TOP}/crates/{path}"
+        text = text_of(file) if os.path.exists(file) else ""
+        yield from (f"{it} of {path}" for it in re.findall(r"`(\w+)`", names) if not re.search(rf"\b{it}\b", text))
+
+
 def lines_of(folder, name):
     """How many lines a file of definitions has; none where it isn't there."""
     path = f"{TOP}/crates/{folder}/{name}.antt"
@@ -208,6 +219,8 @@ def try_page(tally, page):
             tally.check(name, False, str(fault))
     for link in dead_links(page):
         tally.check(name, False, f"nothing stands at {link}")
+    for it in lost_definitions(page):
+        tally.check(name, False, f"there is no definition {it}")
     for row in wrong_counts(page):
         tally.check(name, False, f"other lines: {row}")
     for crate in wrong_rows(page) if name == "docs/work/map.md" else ():
