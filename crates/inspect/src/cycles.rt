@@ -5,8 +5,9 @@ use crate::machine::bytes_of;
 use crate::opened;
 use cmd_command::CommandStop;
 use cmd_filing::accepted_in;
-use inspect_cycles::{CycleBound, CycleTable, most_cycles, read_table};
+use inspect_cycles::{CycleBound, CycleTable, Piece, dearest_of, most_cycles, read_table};
 use sbx_verify::Accepted;
+use std::io;
 
 /// The exit status where the bound is greater than what was asked for.
 const GREATER: u8 = 1;
@@ -121,16 +122,83 @@ fn accepted_at<'a>(rt: &HostRuntime, path: &'a str) -> Result<Accepted, InspectF
     }
 }
 
-/// Tells a bound on standard output.
-fn tell<'a>(rt: &HostRuntime, bound: &CycleBound) -> Result<(), InspectFault<'a>> {
+/// What a piece takes by the turn, in thousandths of a cycle, rounded up.
+fn thousandths(piece: Piece) -> u128 {
+    (1000 * u128::from(piece.cycles)).div_ceil(u128::from(piece.turns).max(1))
+}
+
+/// Tells a block: where it begins, and its dearest piece.
+fn tell_block(rt: &HostRuntime, address: u32, piece: Piece, mark: &str) -> io::Result<()> {
+    let Piece { cycles, turns } = piece;
+    let each = thousandths(piece);
+    let (whole, rest) = (each / 1000, each % 1000);
+    println!(rt;
+        "  {address:08X}: {cycles} cycles in {turns} turns, {whole}.{rest:03} a turn{mark}"
+    )
+}
+
+/// What marks a block: of those whose pieces are the dearest the first has a mark.
+fn mark_of(piece: Piece, dearest: &mut Option<Piece>) -> &'static str {
+    match dearest {
+        Some(most) if !piece.is_below(most) => {
+            *dearest = None;
+            ", the dearest"
+        }
+        _ => "",
+    }
+}
+
+/// Tells the blocks of a function. The dearest piece is given until its block is marked.
+fn tell_function(
+    rt: &HostRuntime,
+    table: &CycleTable,
+    accepted: &Accepted,
+    number: usize,
+    dearest: &mut Option<Piece>,
+) -> io::Result<()> {
+    let Some(function) = accepted.image().functions().get(number) else {
+        return Ok(());
+    };
+    println!(rt; "function {number} at {:08X}: budget {} turns", function.entry, function.budget)?;
+    for (index, block) in function.blocks.as_slice().iter().enumerate() {
+        if let Some(piece) = dearest_of(table, accepted, number, index) {
+            tell_block(rt, block.address, piece, mark_of(piece, dearest))?;
+        }
+    }
+    Ok(())
+}
+
+/// Tells a bound, and the blocks by functions.
+fn tell_all(
+    rt: &HostRuntime,
+    table: &CycleTable,
+    accepted: &Accepted,
+    bound: &CycleBound,
+) -> io::Result<()> {
     let CycleBound {
         budget,
         dearest,
         most,
     } = *bound;
-    match println!(rt;
-        "budget: {budget} turns\ndearest instruction: {dearest} cycles a turn\nbound: {most} cycles"
-    ) {
+    let Piece { cycles, turns } = dearest;
+    println!(rt;
+        "budget: {budget} turns\ndearest piece: {cycles} cycles in {turns} turns\nbound: {most} cycles"
+    )?;
+    let mut unmarked = Some(dearest);
+    for number in 0..accepted.image().functions().len() {
+        tell_function(rt, table, accepted, number, &mut unmarked)?;
+    }
+    Ok(())
+}
+
+/// Tells them on standard output.
+fn tell<'a>(
+    rt: &HostRuntime,
+    table: &CycleTable,
+    accepted: &Accepted,
+    bound: &CycleBound,
+) -> Result<(), InspectFault<'a>> {
+    match tell_all(rt, table, accepted, bound) {
         Ok(()) => Ok(()),
         Err(error) => Err(InspectFault::Stop(CommandStop::of(&error, CommandStop::Output))),
     }
@@ -141,7 +209,7 @@ fn perform<'a>(rt: &HostRuntime, job: &CyclesJob<'a>) -> Result<u8, InspectFault
     let table = table_at(rt, job.table)?;
     let accepted = accepted_at(rt, job.image)?;
     let bound = most_cycles(&table, &accepted);
-    tell(rt, &bound)?;
+    tell(rt, &table, &accepted, &bound)?;
     match job.most {
         Some(most) if bound.most > u128::from(most) => {
             let _ = eprintln!(rt;

@@ -1,1 +1,4 @@
-pub mod Bounded
+pub mod Flow
+pub mod Where
+pub mod Paid
+pub mod Blocks

@@ -1,2 +1,3 @@
 pub mod Cycles
 pub mod Faults
+pub mod Pieces

@@ -1,49 +1,47 @@
 //! The bound.
-ghost use Rattle.std.specs.Prelude.{◌≡◌, ◌≤◌, ◌<◌, ◌*◌, ◌^◌};
-ghost use Rattle.sbx_flat.specs.Runs.{budget, weight_of};
-ghost use Rattle.inspect_cycles.specs.Cycles.{AreMost, cycles_of};
+ghost use Rattle.std.specs.Prelude.{◌≡◌, ◌≤◌, ◌*◌, ◌/◌};
+ghost use Rattle.sbx_flat.specs.Runs.{budget};
+ghost use Rattle.inspect_cycles.specs.Cycles.{AreMost};
+ghost use Rattle.inspect_cycles.specs.Pieces.{IsDearest};
 
-use crate::table::{CycleTable, cycles_of, slot_cycles};
-use sbx_flat::{asked, weight_of};
+use crate::pieces::{Piece, dearest_piece};
+use crate::table::CycleTable;
 use sbx_verify::{Accepted, budget};
-use v8_meaning::Operation;
 
 /// What bounds an image's runs.
 #[derive(Clone, Copy)]
 pub struct CycleBound {
     /// The budget, in turns.
     pub budget: u64,
-    /// What the dearest instruction takes for each turn that it counts, in cycles, rounded up.
-    pub dearest: u64,
+    /// The piece of a block that takes the most cycles by the turn.
+    pub dearest: Piece,
     /// The most cycles that a run takes.
     pub most: u128,
 }
 
-/// What a step of an operation takes for each turn that it counts, in cycles, rounded up.
-#[tactic(auto, using(sbx_flat::proofs::Turns::operation_weighs))]
-fn cycles_a_turn(table: &CycleTable, operation: &Operation) -> u64
-    ensures most { cycles_of table.now operation.now ≤ result * weight_of operation.now }
-    ensures few { result < 2 ^ 35 }
+/// What so many turns take at most, where this is the dearest piece.
+fn cycles_within(dearest: Piece, budget: u64) -> u128
+    requires { 1 ≤ dearest.turns }
+    ensures { result ≡ dearest.cycles * budget / dearest.turns }
 {
-    cycles_of(table, operation).div_ceil(weight_of(operation))
+    u128::from(dearest.cycles) * u128::from(budget) / u128::from(dearest.turns)
 }
 
 /// How many cycles a run of an accepted image takes at most, by a table of a processor's worst cases: its budget, times
-/// what the dearest of its instructions takes for each turn that it counts.
+/// what the dearest piece of its blocks takes by the turn.
 pub fn most_cycles(table: &CycleTable, accepted: &Accepted) -> CycleBound
     ensures most { AreMost table.now accepted.now result.most }
     ensures budget { result.budget ≡ budget accepted.now }
-    ensures product { result.most ≡ result.dearest * result.budget }
+    ensures dearest { IsDearest table.now accepted.now result.dearest }
+    ensures ratio { result.most ≡ result.dearest.cycles * result.budget / result.dearest.turns }
 {
     let image = accepted.image();
-    let mut dearest = slot_cycles(table);
-    for word in image.words() {
-        dearest = dearest.max(cycles_a_turn(table, &asked(*word)));
-    }
+    image.keeps_its_format();
+    let dearest = dearest_piece(table, image);
     let budget = budget(image);
     CycleBound {
         budget,
         dearest,
-        most: u128::from(dearest) * u128::from(budget),
+        most: cycles_within(dearest, budget),
     }
 }
