@@ -27,7 +27,7 @@ PATIENCE = 300
 NEEDED = {"gdb-multiarch": "gdb-multiarch", "sparc64-linux-gnu-gcc": "gcc-sparc64-linux-gnu"}
 # What a session needs besides where a command has a word: the word, the tool, Debian's package.
 NAMED = (("qemu-system-sparc", "qemu-system-sparc", "qemu-system-sparc"),
-         ("./c++", "sparc64-linux-gnu-g++", "g++-sparc64-linux-gnu"))
+         ("./c++", "sparc64-linux-gnu-g++", "g++-sparc64-linux-gnu"), ("parallel ", "parallel", "parallel"))
 PROMPT = "(gdb) "
 
 FENCE = re.compile(r"^(\s*)```(.*)$")
