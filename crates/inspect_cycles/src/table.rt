@@ -1,6 +1,7 @@
 //! What instructions take on a processor.
 ghost use Rattle.std.specs.Prelude.{◌≡◌, ◌<◌, ◌^◌};
-ghost use Rattle.inspect_cycles.specs.Cycles.{cycles_of, data_cycles, own_cycles, slot_cycles, trap_cycles, without_services};
+ghost use Rattle.inspect_cycles.specs.Cycles.{cycles_of, data_cycles, own_cycles, slot_cycles, trap_cycles};
+ghost use Rattle.inspect_cycles.specs.Cycles.{without_services};
 
 use sbx_flat::service_of;
 use v8_alu::Op;
