@@ -14,7 +14,7 @@ Compares `inspect check` with `.told` for each source of `check`, one for each c
 first that it tells is what `sandbox asm` tells, and whether docs/use/faults.md has each sentence; `inspect map`, and
 `--source`, for some of the programs. Compares `inspect machine` with the states of `vectors`, by words and by a
 binary, and tries each line that isn't right. Compares `inspect cycles` of the examples and of programs in C with the
-bounds of a model (cycles.py). Tries its statuses and its version.
+bounds and the blocks of a model, and with runs (cycles.py). Tries its statuses and its version.
 
 These files weren't made by the program: those of images by another reader of the format (docs/machine/image.md), those
 of refusals by hand, from the source, docs/machine/rules.md and docs/machine/ranges.md, those of runs and turns by a

@@ -5,7 +5,9 @@ use crate::machine::bytes_of;
 use crate::opened;
 use cmd_command::CommandStop;
 use cmd_filing::accepted_in;
-use inspect_cycles::{CycleBound, CycleTable, Piece, dearest_of, most_cycles, read_table};
+use inspect_cycles::{
+    CycleBound, CycleTable, Piece, dearest_of, most_beside_services, most_cycles, read_table,
+};
 use sbx_verify::Accepted;
 use std::io;
 
@@ -159,13 +161,25 @@ fn tell_function(
     let Some(function) = accepted.image().functions().get(number) else {
         return Ok(());
     };
-    println!(rt; "function {number} at {:08X}: budget {} turns", function.entry, function.budget)?;
+    println!(rt;
+        "function {number} at {:08X}: budget {} turns",
+        function.entry, function.budget
+    )?;
     for (index, block) in function.blocks.as_slice().iter().enumerate() {
         if let Some(piece) = dearest_of(table, accepted, number, index) {
             tell_block(rt, block.address, piece, mark_of(piece, dearest))?;
         }
     }
     Ok(())
+}
+
+/// Tells the bound beside the services, and what each of them takes.
+fn tell_beside(rt: &HostRuntime, table: &CycleTable, accepted: &Accepted) -> io::Result<()> {
+    let most = most_beside_services(table, accepted).most;
+    println!(rt;
+        "beside services: {most} cycles, and {} an exit, {} a get, {} a put",
+        table.exit, table.get, table.put
+    )
 }
 
 /// Tells a bound, and the blocks by functions.
@@ -184,8 +198,9 @@ fn tell_all(
     println!(rt;
         "budget: {budget} turns\ndearest piece: {cycles} cycles in {turns} turns\nbound: {most} cycles"
     )?;
+    tell_beside(rt, table, accepted)?;
     let mut unmarked = Some(dearest);
-    for number in 0..accepted.image().functions().len() {
+    for (number, _) in accepted.image().functions().iter().enumerate() {
         tell_function(rt, table, accepted, number, &mut unmarked)?;
     }
     Ok(())

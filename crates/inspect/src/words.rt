@@ -82,7 +82,7 @@ pub const USAGE: &str =
                its image breaks, at the line
   map SRC      tells where the lines and the labels of a source stand in its image
   cycles IMG   tells what no run of an accepted image takes more than, in cycles, by a table of
-               a processor's worst cases
+               a processor's worst cases, and the dearest piece of each block
   --version    of the script ./inspect: the version, the commit of the sources, and the kit
 
 run, trace, states, data, machine: --windows N is the count of register windows, 4 to 32 (8);

@@ -2,3 +2,4 @@ pub mod Flow
 pub mod Where
 pub mod Paid
 pub mod Blocks
+pub mod Beside

@@ -86,3 +86,37 @@ cycles t parts (place ∷ path) = cycles_at t parts place + cycles t parts path
 abbrev pub AreMost : CycleTable → Parts → ℕ → Type 0
 AreMost t parts most = (input : List ℕ) (path : List Place) (s : State) → AreBytes input → FlatRun parts input path s →
     cycles t parts path ≤ most
+
+-- ---- beside the services
+
+-- services that take nothing behind their traps
+abbrev pub without_services : CycleTable → CycleTable
+without_services t = record t { exit = 0; get = 0; put = 0 }
+
+-- what follows the trap of a service
+abbrev pub served_of : CycleTable → Option ℕ → ℕ
+served_of t None = 0
+served_of t (Some zero) = t.exit
+served_of t (Some (suc zero)) = t.get
+served_of t (Some (suc (suc n))) = t.put
+
+abbrev pub served_by : CycleTable → Operation → ℕ
+served_by t (TrapOnCondition trap) = served_of t (service_of trap)
+served_by t _ = 0
+
+abbrev pub served_of_word : CycleTable → Option ℕ → ℕ
+served_of_word t None = 0
+served_of_word t (Some word) = served_by t (asked word)
+
+abbrev pub served_at : CycleTable → Parts → Place → ℕ
+served_at t parts place = if place.annulled then 0 else served_of_word t (word_at parts.words place.pc)
+
+-- what the services of a path take behind their traps
+abbrev pub served : CycleTable → Parts → List Place → ℕ
+served t parts [] = 0
+served t parts (place ∷ path) = served_at t parts place + served t parts path
+
+-- no run of the image takes more beside its services
+abbrev pub AreMostBeside : CycleTable → Parts → ℕ → Type 0
+AreMostBeside t parts most = (input : List ℕ) (path : List Place) (s : State) → AreBytes input →
+    FlatRun parts input path s → cycles t parts path ≤ most + served t parts path

@@ -1,7 +1,7 @@
 //! The bound.
 ghost use Rattle.std.specs.Prelude.{◌≡◌, ◌≤◌, ◌*◌, ◌/◌};
 ghost use Rattle.sbx_flat.specs.Runs.{budget};
-ghost use Rattle.inspect_cycles.specs.Cycles.{AreMost};
+ghost use Rattle.inspect_cycles.specs.Cycles.{AreMost, AreMostBeside, without_services};
 ghost use Rattle.inspect_cycles.specs.Pieces.{IsDearest};
 
 use crate::pieces::{Piece, dearest_piece};
@@ -44,4 +44,15 @@ pub fn most_cycles(table: &CycleTable, accepted: &Accepted) -> CycleBound
         dearest,
         most: cycles_within(dearest, budget),
     }
+}
+
+/// The same beside the services: no run takes more than this bound, and what each service that it asks for takes behind
+/// its trap.
+pub fn most_beside_services(table: &CycleTable, accepted: &Accepted) -> CycleBound
+    ensures most { AreMostBeside table.now accepted.now result.most }
+    ensures budget { result.budget ≡ budget accepted.now }
+    ensures dearest { IsDearest (without_services table.now) accepted.now result.dearest }
+    ensures ratio { result.most ≡ result.dearest.cycles * result.budget / result.dearest.turns }
+{
+    most_cycles(&table.without_services(), accepted)
 }

@@ -1,5 +1,6 @@
 //! The pieces of an image's blocks: what runs whole, and which is the dearest by the turn.
-ghost use Rattle.std.specs.Prelude.{◌≡◌, ◌<◌, ◌≤◌, ◌+◌, ◌*◌, ◌^◌, ◌⊎◌, ℕ, MatchOption, Ok, if◌then◌else◌, length, nat_lt};
+ghost use Rattle.std.specs.Prelude.{◌≡◌, ◌<◌, ◌≤◌, ◌+◌, ◌*◌, ◌^◌, ◌⊎◌, ℕ, MatchOption, Ok, if◌then◌else◌, length};
+ghost use Rattle.std.specs.Prelude.{nat_lt};
 ghost use Rattle.sbx_image.specs.Rules.{parts_keep};
 ghost use Rattle.sbx_image.specs.Order.{function_at};
 ghost use Rattle.sbx_flat.specs.Runs.{weight_of};

@@ -1,6 +1,7 @@
 //! What instructions take on a processor.
 ghost use Rattle.std.specs.Prelude.{◌≡◌, ◌<◌, ◌^◌};
 ghost use Rattle.inspect_cycles.specs.Cycles.{cycles_of, data_cycles, own_cycles, slot_cycles, trap_cycles};
+ghost use Rattle.inspect_cycles.specs.Cycles.{without_services};
 
 use sbx_flat::service_of;
 use v8_alu::Op;
@@ -39,6 +40,19 @@ pub struct CycleTable {
     pub fetch: u32,
     /// A walk of the page tables: one for each fetch, and one for each access to data.
     pub walk: u32,
+}
+
+impl CycleTable {
+    /// The same where services take nothing behind their traps.
+    pub fn without_services(&self) -> CycleTable
+        ensures { result ≡ without_services self.now }
+    {
+        let mut table = *self;
+        table.exit = 0;
+        table.get = 0;
+        table.put = 0;
+        table
+    }
 }
 
 /// What an operation takes beside its fetch, the walks and the trap.
