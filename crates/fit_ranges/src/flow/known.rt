@@ -168,6 +168,11 @@ impl BlockRanges {
         !are_equal(&self.ways[way % 2], &self.before[way % 2])
     }
 
+    /// Whether a way could be gone before its ranges were forgotten, and can't any more.
+    pub fn is_closed(&self, way: usize) -> bool {
+        self.ways[way % 2].is_none() & self.before[way % 2].is_some()
+    }
+
     /// Takes over cells that grew or got narrower; says whether the block has to be run for them. A function's first
     /// block, which has none, is run once where it grows, and not where it gets narrower.
     pub fn take(&mut self, cells: Option<Vec<Cell>>, is_entry: bool, grow: bool) -> bool {

@@ -3,7 +3,7 @@
 use crate::flow::known::touched_in;
 use crate::flow::spread::{differing, spread_behind};
 use crate::flow::{Analysis, FunctionRanges, add_cells};
-use fit_code::Heap;
+use fit_code::{End, Heap};
 use fit_graph::{LocationSet, successors_in};
 use sbx_domain::State;
 use sbx_range::Cell;
@@ -236,22 +236,31 @@ impl FunctionRanges {
         self.spread_all(setting) && self.pick_spread(setting) <= count / 4 * 3
     }
 
-    /// Whether something else comes than before to a block of the stretch that wasn't looked at again.
+    /// Whether a way of a block that was looked at again makes a difference beside what spreads: to a block of the stretch
+    /// that wasn't looked at, since something else comes there; or since it can't be gone any more, and goes to no end
+    /// of the run.
+    fn leaks_along(&self, setting: &Analysis, block: usize, way: usize) -> bool {
+        let (codes, blocks) = (setting.function.blocks.as_slice(), self.blocks.as_slice());
+        if let Some(to) = successors_in(setting.function, block)[way % 2]
+            && (block < blocks.len()) & (to < codes.len())
+        {
+            let is_behind = setting.shape.order.place(to) >= Some(self.pending.end);
+            let is_outside = !self.pending.has(to) & !is_behind;
+            let is_open_end = !matches!(codes[to].end, End::Exit);
+            return (is_outside && blocks[block].is_changed(way))
+                || (is_open_end && blocks[block].is_closed(way));
+        }
+        false
+    }
+
+    /// Whether the blocks that were looked at again make a difference beside what spreads.
     pub fn leaks(&self, setting: &Analysis) -> bool {
-        let (order, blocks) = (&setting.shape.order, self.blocks.as_slice());
-        let places = order.blocks.as_slice();
+        let places = setting.shape.order.blocks.as_slice();
         let mut leaks = false;
         for way in self.pending.start.saturating_mul(2)..self.pending.end.saturating_mul(2) {
             if way / 2 < places.len() {
                 let block = places[way / 2];
-                if self.pending.has(block)
-                    && block < blocks.len()
-                    && let Some(to) = successors_in(setting.function, block)[way % 2]
-                    && !self.pending.has(to)
-                    && order.place(to) < Some(self.pending.end)
-                {
-                    leaks |= blocks[block].is_changed(way % 2);
-                }
+                leaks |= self.pending.has(block) && self.leaks_along(setting, block, way % 2);
             }
         }
         leaks
