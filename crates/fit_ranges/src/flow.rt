@@ -447,7 +447,7 @@ impl FunctionRanges {
         let sources = at(setting.shape.sources.as_slice(), block);
         if (sources.len() == 1) & at(setting.said, block).is_empty() && block < blocks.len() {
             let way = sources[0];
-            return way / 2 < blocks.len() && blocks[block].is_as(&blocks[way / 2].ways[way % 2]);
+            return way / 2 < blocks.len() && blocks[block].is_as(&blocks[way / 2], way);
         }
         false
     }

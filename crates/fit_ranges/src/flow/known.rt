@@ -158,19 +158,14 @@ impl BlockRanges {
         differing(&self.ways[way % 2], &self.before[way % 2])
     }
 
-    /// Whether what comes along its one way is what is known where it begins.
-    pub fn is_as(&self, cells: &Option<Vec<Cell>>) -> bool {
-        self.cells.is_some() && are_equal(&self.cells, cells)
+    /// Whether what is known where a way of another block ends is what is known where it begins.
+    pub fn is_as(&self, other: &BlockRanges, way: usize) -> bool {
+        self.cells.is_some() && are_equal(&self.cells, &other.ways[way % 2])
     }
 
     /// Whether something else is known where a way ends than before its ranges were forgotten.
     pub fn is_changed(&self, way: usize) -> bool {
         !are_equal(&self.ways[way % 2], &self.before[way % 2])
-    }
-
-    /// Whether a way could be gone before its ranges were forgotten, and can't any more.
-    pub fn is_closed(&self, way: usize) -> bool {
-        self.ways[way % 2].is_none() & self.before[way % 2].is_some()
     }
 
     /// Takes over cells that grew or got narrower; says whether the block has to be run for them. A function's first

@@ -3,7 +3,7 @@
 use crate::flow::known::touched_in;
 use crate::flow::spread::{differing, spread_behind};
 use crate::flow::{Analysis, FunctionRanges, add_cells};
-use fit_code::{End, Heap};
+use fit_code::{Block, End, Heap};
 use fit_graph::{LocationSet, successors_in};
 use sbx_domain::State;
 use sbx_range::Cell;
@@ -13,6 +13,22 @@ const FEW: usize = 16;
 
 /// So often a stretch is gone over for what spreads in it.
 const ROUNDS: u32 = 16;
+
+/// Whether a way of a block goes to an end of the run.
+fn ends_run(codes: &[Block], block: usize) -> bool {
+    let mut ends_run = false;
+    if block < codes.len() {
+        let ways = codes[block].end.ways();
+        for way in 0..2 {
+            if let Some(to) = ways[way]
+                && to < codes.len()
+            {
+                ends_run |= matches!(codes[to].end, End::Exit);
+            }
+        }
+    }
+    ends_run
+}
 
 impl FunctionRanges {
     /// How many blocks of the stretch are to be visited.
@@ -152,10 +168,12 @@ impl FunctionRanges {
             return LocationSet::none();
         }
         let known = &blocks[block];
-        if known.spread.is_disjoint(&known.touched) {
+        if !known.is_other && known.spread.is_disjoint(&known.touched) {
             return known.spread;
         }
-        spread_behind(setting.function.frame, &codes[block], &known.spread)
+        let is_test = known.is_other && ends_run(codes, block);
+        let how = (known.is_other, is_test);
+        spread_behind(setting.function.frame, &codes[block], &known.spread, how)
     }
 
     /// Lets what spreads go on behind a block; says whether it comes to where it wasn't.
@@ -184,7 +202,9 @@ impl FunctionRanges {
             if place < order.len() {
                 let block = order[place];
                 let blocks = self.blocks.as_slice();
-                if block < blocks.len() && !blocks[block].spread.is_empty() {
+                if block < blocks.len()
+                    && (blocks[block].is_other || !blocks[block].spread.is_empty())
+                {
                     is_new |= self.spread_on(setting, block);
                 }
             }
@@ -236,24 +256,19 @@ impl FunctionRanges {
         self.spread_all(setting) && self.pick_spread(setting) <= count / 4 * 3
     }
 
-    /// Whether a way of a block that was looked at again makes a difference beside what spreads: to a block of the stretch
-    /// that wasn't looked at, since something else comes there; or since it can't be gone any more, and goes to no end
-    /// of the run.
+    /// Whether something else comes than before along a way of a block to one of the stretch that wasn't looked at again.
     fn leaks_along(&self, setting: &Analysis, block: usize, way: usize) -> bool {
-        let (codes, blocks) = (setting.function.blocks.as_slice(), self.blocks.as_slice());
+        let blocks = self.blocks.as_slice();
         if let Some(to) = successors_in(setting.function, block)[way % 2]
-            && (block < blocks.len()) & (to < codes.len())
+            && setting.shape.order.place(to) < Some(self.pending.end)
+            && block < blocks.len()
         {
-            let is_behind = setting.shape.order.place(to) >= Some(self.pending.end);
-            let is_outside = !self.pending.has(to) & !is_behind;
-            let is_open_end = !matches!(codes[to].end, End::Exit);
-            return (is_outside && blocks[block].is_changed(way))
-                || (is_open_end && blocks[block].is_closed(way));
+            return !self.pending.has(to) && blocks[block].is_changed(way);
         }
         false
     }
 
-    /// Whether the blocks that were looked at again make a difference beside what spreads.
+    /// Whether something else comes than before to a block of the stretch that wasn't looked at again.
     pub fn leaks(&self, setting: &Analysis) -> bool {
         let places = setting.shape.order.blocks.as_slice();
         let mut leaks = false;

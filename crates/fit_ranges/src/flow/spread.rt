@@ -51,35 +51,50 @@ impl Spreading {
         });
     }
 
-    /// Goes on behind a step in a frame of so many bytes.
-    fn pass_step(&mut self, frame: u32, step: &Step) {
+    /// Goes on behind a step in a frame of so many bytes. Where the block runs otherwise than before, a callee may give
+    /// back something else.
+    fn pass_step(&mut self, frame: u32, step: &Step, is_other: bool) {
         if let Some(slot) = &step.slot {
             self.pass(&effects_of(frame, slot), is_transfer(slot));
         }
         self.pass(&effects_in(frame, step), is_transfer(&step.instr));
+        if is_other & step.callee.is_some() {
+            // %o0 to %o5
+            self.add(RegisterSet::range(8, 6));
+        }
+    }
+
+    /// Of some registers something else may be known.
+    fn add(&mut self, registers: RegisterSet) {
+        self.locations.pass(&Effects {
+            reads: registers,
+            writes: RegisterSet::NONE,
+            word_read: None,
+            word_written: None,
+        });
     }
 }
 
 /// The locations of which something else may be known behind a block in a frame of so many bytes, by those where it
-/// begins.
-pub fn spread_behind(frame: u32, block: &Block, locations: &LocationSet) -> LocationSet {
+/// begins; and whether the block itself runs otherwise than before, and is a test then.
+pub fn spread_behind(
+    frame: u32,
+    block: &Block,
+    locations: &LocationSet,
+    (is_other, is_test): (bool, bool),
+) -> LocationSet {
     let mut found = Spreading {
         locations: *locations,
         compared: RegisterSet::NONE,
     };
     for step in block.steps.as_slice() {
-        found.pass_step(frame, step);
+        found.pass_step(frame, step, is_other);
     }
     let compared = found.compared;
     if let End::Branch { .. } = block.end
-        && !compared.is_disjoint(found.locations.registers())
+        && (is_test || !compared.is_disjoint(found.locations.registers()))
     {
-        found.locations.pass(&Effects {
-            reads: compared,
-            writes: RegisterSet::NONE,
-            word_read: None,
-            word_written: None,
-        });
+        found.add(compared);
     }
     if let Some(slot) = &block.slot {
         found.pass(&effects_of(frame, slot), is_transfer(slot));
