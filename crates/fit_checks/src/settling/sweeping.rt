@@ -140,12 +140,14 @@ impl Tests {
 
     /// Keeps of which blocks of a function something isn't shown.
     fn keep_found(&mut self, function: usize, found: &[bool]) {
+        let alloc = self.memory.alloc;
         for _ in self.shown.len()..function.saturating_add(1) {
-            self.memory
-                .push(&mut self.shown, Vec::new(self.memory.alloc));
+            self.memory.push(&mut self.shown, Vec::new(alloc));
         }
-        if function < self.shown.len() {
-            self.shown[function] = self.memory.copy(found);
+        let kept = self.memory.copy(found);
+        let shown = self.shown.as_mut_slice();
+        if function < shown.len() {
+            shown[function] = kept;
         }
     }
 
