@@ -88,6 +88,22 @@ def runs_under_qemu(program, inputs):
     return [None if word == 2 else Ran(word, out, b"") for word, out in outputs_in(ran.out)]
 
 
+# What a random program may be refused for: limits of an image and of a run, and code in which a test or a meter finds
+# no place. A refusal for anything else is a fault of fit's.
+REFUSALS = re.compile(r"""refused:\ (?:[\w.$]+:\ )?(?:
+    (?:the\ blocks\ of\ (?:a\ function|all\ functions)|the\ words\ of\ code|the\ turns\ of\ a\ run
+        |the\ stack\ that\ calls\ take|the\ loops\ around\ a\ block|the\ budget)\ would\ be\ (?:at\ least\ )?\d+,\ above
+    |more\ than\ \d+\ (?:registers\ and\ frame\ words\ in\ use|rounds\ (?:of|over)|visits\ of)
+    |a\ program\ has\ at\ most\ 4096\ blocks
+    |a\ round\ of\ a\ loop\ may\ take\ more\ turns
+    |no\ (?:place\ for\ a\ test|register\ is\ left))""", re.X)
+
+
+def is_refused(ran):
+    """Whether a program was refused for what a random one may be refused for."""
+    return ran.status == 2 and REFUSALS.search(ran.said) is not None
+
+
 def are_alike(mine, theirs):
     """Whether two runs put out the same, and both end well or neither does."""
     return mine.status is not None and (mine.out, bool(mine.status)) == (theirs.out, bool(theirs.status))

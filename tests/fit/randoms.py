@@ -4,7 +4,7 @@ import random
 import shutil
 
 import generator
-from compared import SPARC, compilers, under_qemu
+from compared import SPARC, compilers, is_refused, under_qemu
 from run import CC, FIT, SANDBOX, TOP, has, put, run_within
 
 LEVELS = ("-O0", "-O1", "-O2", "-O3", "-Os")
@@ -75,8 +75,7 @@ def try_program(to, seed, way):
         return "not compiled"
     ran = made(to, sources, image)
     if ran.status != 0:
-        is_refused = ran.status == 2 and "refused: " in ran.said
-        to.tally.check(name, is_refused, f"wanted an image or a reason, came {ran}", sources)
+        to.tally.check(name, is_refused(ran), f"wanted an image or a limit, came {ran}", sources)
         print(f"{name}: {ran.said.splitlines()[-1:]}", flush=True)
         return "refused"
     to.compare_many(name, image, other, inputs_of(seed))

@@ -14,7 +14,8 @@ Tries that what `./fit` and `./cc` make means what the C means. Parts, all where
   size      each program of examples/c, all of them four times as one program of more than 2,000 lines of C, and all of
             them in one loop: accepted, in so much processor time and memory
   random    N programs of generator.py (240), each compiled in one of twelve ways: by ./cc with gcc and clang, and by
-            gcc with few flags of its own, at several levels; and their outputs on 14 inputs under qemu
+            gcc with few flags of its own, at several levels; and their outputs on 14 inputs under qemu; a refusal
+            is one of those that compared.py lists
   csmith    N programs by csmith (620, some of which don't end under qemu), whose globals are changed by 20 inputs
             each, and their outputs under qemu
 
@@ -34,8 +35,8 @@ import tempfile
 sys.dont_write_bytecode = True
 HERE = os.path.dirname(os.path.abspath(__file__))
 sys.path.insert(0, f"{os.path.dirname(HERE)}/lib")
-from compared import (SPARC, STORED, Comparison, compilers, inputs_like, native, programs, runs_under_qemu,
-                      under_qemu)
+from compared import (SPARC, STORED, Comparison, compilers, inputs_like, is_refused, native, programs,
+                      runs_under_qemu, under_qemu)
 from randoms import try_randoms
 from run import CC, EXAMPLES, FIT, SANDBOX, built, bytes_of, has, put, run_within, text_of
 from sources import ENTERED_TWICE, FAULTS, HEAD, LINELESS, calls_of_loops
@@ -298,8 +299,7 @@ def try_program(to, number, options):
         return "endless"
     made = run_within([CC, source, *headers, level, "--turns", str(10**12), "-o", f"{base}.img"], seconds=240)
     if made.status != 0:
-        is_refused = made.status == 2 and "refused: " in made.said
-        to.tally.check(name, is_refused, f"wanted an image or a reason, came {made}", (source,))
+        to.tally.check(name, is_refused(made), f"wanted an image or a limit, came {made}", (source,))
         print(f"{name}: {made.said.splitlines()[-1:]}", flush=True)
         return "refused"
     chance = random.Random(f"{options.seed} {number}")

@@ -1,4 +1,5 @@
 """What is looked up and changed in the assembly of a whole program, before ./fit reads it."""
+import functools
 import os
 import re
 
@@ -10,6 +11,7 @@ INNER = "__main"
 NAME = re.compile(r"(?<![\w.$])main(?![\w.$])")
 # A list of functions that run before main.
 LISTED = re.compile(r"\s*\.section\s+\.(?:init_array|ctors)(?:\.\d+)?\b")
+LISTS = re.compile(r"\.(?:init_array|ctors)\b")
 SECTION = re.compile(r"\s*\.(section|text|data|bss)\b")
 LAST = re.compile(r"^\s*\.section\s+\.(?:fini_array|dtors)\b.*\n(?:.*\n)??\s*\.(?:long|word)\s+([\w.$]+)", re.M)
 ALIAS = re.compile(r"^\s*(?:\.set\s+)?([\w.$]+)\s*[=,]\s*([\w.$]+)\s*$", re.M)
@@ -61,29 +63,37 @@ NO_LINE = 0xFFFF
 
 
 class Assembly:
-    """The lines of an assembly, and where they come from."""
+    """The lines of an assembly, and where they come from, which is looked for where it is asked for."""
 
     def __init__(self, text):
         self.lines = text.splitlines()
-        self.files, self.places, self.functions = {}, {}, {}
-        self.find()
 
-    def find(self):
-        """Notes which line of C and which function each line comes from."""
-        place, function = None, None
+    @functools.cached_property
+    def files(self):
+        """The path of each file that lines come from, by its number."""
+        found = [FILE.match(line) for line in self.lines if ".file" in line]
+        return {it[1]: os.path.join("", *filter(None, it.groups()[1:])) for it in found if it}
+
+    @functools.cached_property
+    def origins(self):
+        """Which line of C each line comes from, and which function, by its number."""
+        place, function, places, functions = None, None, {}, {}
         for number, line in enumerate(self.lines, 1):
-            file, loc, label = FILE.match(line), PLACE.match(line), LABEL.match(line)
-            if file:
-                self.files[file[1]] = os.path.join("", *filter(None, file.groups()[1:]))
-            elif loc:
+            loc, label = PLACE.match(line), LABEL.match(line)
+            if loc:
                 place = (loc[1], int(loc[2]))
             elif label and not line.startswith(".L"):
                 function, place = plain(label[1]), None
-            self.places[number], self.functions[number] = place, function
+            places[number], functions[number] = place, function
+        return places, functions
+
+    def function(self, number):
+        """The function that a line comes from; None where that isn't told."""
+        return self.origins[1].get(number)
 
     def place(self, number):
         """The file and the line of C that a line comes from; None where that isn't told."""
-        place = self.places.get(number)
+        place = self.origins[0].get(number)
         return place and (self.files.get(place[0], ""), place[1])
 
     def text(self):
@@ -115,7 +125,7 @@ def plain_objects(text):
 def without_traps(assembly):
     """Has the run end, as by abort, where a compiler put a trap in the place of what C doesn't define; returns the
     numbers of these lines."""
-    found = [(at, TRAP.match(line)) for at, line in enumerate(assembly.lines)]
+    found = [(at, TRAP.match(line)) for at, line in enumerate(assembly.lines) if "5" in line]
     found = [(at, trap[1]) for at, trap in found if trap]
     for at, condition in found:
         ended = "\tsethi %hi(393216), %o0\n\tta 0"
@@ -127,6 +137,8 @@ def without_traps(assembly):
 
 def without_options(text):
     """Takes out what clang leaves for a linker."""
+    if ".linker-options" not in text:
+        return text
     kept, inside = [], False
     for line in text.splitlines():
         if SECTION.match(line):
@@ -144,6 +156,8 @@ def without_frame_sums(text):
 
 def without_lists(text):
     """Takes out the lists of functions that run before main; returns the text, and these functions in their order."""
+    if not LISTS.search(text):
+        return text, []
     kept, found, inside, order = [], [], False, 65536
     for line in text.splitlines():
         if LISTED.match(line):
@@ -164,8 +178,8 @@ def without_aliases(text):
     """Has each thing one name: a second one goes."""
     names = {}
     for line in text.splitlines():
-        found = ALIAS.fullmatch(line)
-        if found and (" = " in line or ".set" in line) and not found[2][0].isdigit():
+        found = ALIAS.fullmatch(line) if " = " in line or ".set" in line else None
+        if found and not found[2][0].isdigit():
             names[found[1]] = found[2]
     if not names:
         return text

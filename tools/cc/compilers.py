@@ -218,7 +218,7 @@ class Gcc(Compiler):
             assembly = Assembly(file.read())
         lines = []
         for number, why in re.findall(r"\.s:(\d+): Error: (.*)", text):
-            place, function = assembly.place(int(number)), assembly.functions.get(int(number))
+            place, function = assembly.place(int(number)), assembly.function(int(number))
             where = f"{self.source_of(place[0])}:{place[1]}" if place else self.request.files[0]
             lines.append(f"{where}: refused: {function}: inline assembly isn't taken: write it in C: {why}")
         return lines

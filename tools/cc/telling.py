@@ -79,7 +79,7 @@ class Teller:
         if not name.endswith(".s") or name in self.request.files:
             return self.path(name), number, None
         place = self.assembly.place(number)
-        function = self.assembly.functions.get(number)
+        function = self.assembly.function(number)
         return (self.path(place[0]), place[1], function) if place else (self.request.files[0], None, function)
 
     def notes(self, text):

@@ -11,7 +11,7 @@ use cmd_files::command_words;
 use excess::tell_refusal;
 use files::{NO_MEMORY, bytes_of, refused, unread, write_source};
 use fit_gas::Assembly;
-use fit_legal::{JoinPlan, program_of};
+use fit_legal::{JoinPlan, Legal, program_of};
 use fit_passes::{FitPlan, Made, Reason, Refusal, make};
 use std::alloc::Global;
 use std::process::ExitCode;
@@ -28,46 +28,88 @@ fn read_sources(rt: &HostRuntime, words: &Arguments<'_>, source: &mut Assembly) 
     Ok(())
 }
 
-/// Makes an annotated source of assembly, with the counters of its loops or without.
-fn attempt(
+/// A program of assembly, whose functions are joined where the counters of loops ask for that, or where they do by the
+/// meter alone.
+fn joined(
     alloc: Global,
     source: &Assembly,
     words: &Arguments<'_>,
     has_bounds: bool,
-) -> Result<Made, Refusal> {
-    let turns = words.turns.unwrap_or(TURNS);
-    let by_object = !words.by_region;
+) -> Result<Legal, Refusal> {
     let joins = JoinPlan {
         stack: words.stack.unwrap_or(STACK),
         has_bounds,
     };
     match program_of(alloc, source, "main", joins) {
-        Ok(legal) => {
-            let plan = FitPlan {
-                turns,
-                by_object,
-                has_bounds,
-                pointer: legal.pointer,
-            };
-            make(alloc, legal.program, plan)
-        }
+        Ok(legal) => Ok(legal),
         Err(fault) => Err(Refusal::of(alloc, fault)),
     }
+}
+
+/// Makes an annotated source of a program, with the counters of its loops or without.
+fn attempt(
+    alloc: Global,
+    legal: Legal,
+    words: &Arguments<'_>,
+    has_bounds: bool,
+) -> Result<Made, Refusal> {
+    let plan = FitPlan {
+        turns: words.turns.unwrap_or(TURNS),
+        by_object: !words.by_region,
+        has_bounds,
+        pointer: legal.pointer,
+    };
+    make(alloc, legal.program, plan)
+}
+
+/// How many blocks each function of a program has; nothing where memory is refused.
+fn block_counts(alloc: Global, legal: &Legal) -> Vec<usize> {
+    let mut counts = Vec::new(alloc);
+    for function in legal.program.functions.as_slice() {
+        if counts.push(function.blocks.len()).is_err() {
+            return Vec::new(alloc);
+        }
+    }
+    counts
+}
+
+/// Makes a source by the meter alone, where there is none with the counters of loops: not where that has too many
+/// blocks of functions that are joined alike, since these have no fewer by the meter.
+fn make_metered(
+    alloc: Global,
+    source: &Assembly,
+    words: &Arguments<'_>,
+    (refusal, counts): (Refusal, Vec<usize>),
+) -> Result<Made, Refusal> {
+    let legal = joined(alloc, source, words, false)?;
+    let found = block_counts(alloc, &legal);
+    if !refusal.lines.is_empty() & !counts.is_empty() && found == counts {
+        return Err(refusal);
+    }
+    attempt(alloc, legal, words, false)
 }
 
 /// Makes an annotated source of assembly: with the counters of its loops or, where these ask for more turns than there
 /// are to be, by the meter alone.
 fn make_source(alloc: Global, source: &Assembly, words: &Arguments<'_>) -> Result<Made, Refusal> {
-    let made = attempt(alloc, source, words, true);
-    let stands = match &made {
-        Ok(_) => true,
-        // Told, and not answered by another source.
-        Err(refusal) => matches!(refusal.fault.reason, Reason::Memory(_)),
+    let mut counts = Vec::new(alloc);
+    let made = match joined(alloc, source, words, true) {
+        Ok(legal) => {
+            counts = block_counts(alloc, &legal);
+            attempt(alloc, legal, words, true)
+        }
+        Err(refusal) => Err(refusal),
     };
-    if stands {
-        return made;
+    match made {
+        Ok(made) => Ok(made),
+        Err(refusal) => {
+            // Told, and not answered by another source.
+            if matches!(refusal.fault.reason, Reason::Memory(_)) {
+                return Err(refusal);
+            }
+            make_metered(alloc, source, words, (refusal, counts))
+        }
     }
-    attempt(alloc, source, words, false)
 }
 
 /// Tells each test, and writes the source; gives the exit status.

@@ -233,6 +233,16 @@ pub fn asks_of(
     function: usize,
     state: &mut State,
 ) -> Result<Vec<Ask>, AllocError> {
+    asks_beside(asking, function, &[], state)
+}
+
+/// The same, but for the blocks of which it is known already.
+pub fn asks_beside(
+    asking: &Asking,
+    function: usize,
+    are_known: &[bool],
+    state: &mut State,
+) -> Result<Vec<Ask>, AllocError> {
     let mut asks = Vec::new(asking.alloc);
     let mut memory = Heap::new(asking.alloc);
     let (functions, results) = (asking.program.functions.as_slice(), asking.ranges.results());
@@ -241,8 +251,10 @@ pub fn asks_of(
         let code = (function, &functions[function], count);
         let blocks = functions[function].blocks.as_slice();
         for number in 0..blocks.len() {
-            let block = (number, &blocks[number], None);
-            asking.ask_block(code, block, state, &mut asks, &mut memory);
+            if number >= are_known.len() || !are_known[number] {
+                let block = (number, &blocks[number], None);
+                asking.ask_block(code, block, state, &mut asks, &mut memory);
+            }
         }
     }
     memory.told(asks)

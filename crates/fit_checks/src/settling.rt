@@ -58,6 +58,15 @@ pub(crate) enum Answered {
     All,
 }
 
+/// Of which blocks it is known from looking at them before whether something isn't shown.
+#[derive(Clone, Copy)]
+pub(crate) enum Looked {
+    Nothing,
+    /// Of those that aren't fresh since the ranges were found last.
+    Stale,
+    All,
+}
+
 /// What is answered in a round where nothing certain is to be answered.
 fn answered_in(round: u32) -> Answered {
     if round < ONCE_IN_LOOPS {
@@ -79,6 +88,9 @@ pub(crate) struct Tests {
     /// The functions with words that are meant but for their high bits, by their numbers.
     pub(crate) wrapping: Vec<usize>,
     pub(crate) answered: Answered,
+    /// Of which blocks it is known whether something isn't shown; and of which something isn't, by function and block.
+    pub(crate) looked: Looked,
+    pub(crate) shown: Vec<Vec<bool>>,
     /// Blocks that were changed since the ranges were found, by the number of their function and their own.
     pub(crate) changed: Vec<(usize, usize)>,
     /// Whether memory was refused for tests that were put in since it was asked.
@@ -424,6 +436,7 @@ impl Tests {
                 self.answer_function(program, ranges, function, state);
             }
         }
+        self.looked = Looked::All;
     }
 
     /// Puts tests into a program, of which these are the ranges, round by round: until nothing is left that isn't
@@ -438,6 +451,9 @@ impl Tests {
             if !self.changed.is_empty() {
                 ranges.renew(program, self.changed.as_slice(), state)?;
                 self.changed.clear();
+                if let Looked::All = self.looked {
+                    self.looked = Looked::Stale;
+                }
             }
             if round < PATIENT {
                 self.answered = Answered::Certain;
@@ -507,6 +523,8 @@ pub fn add_tests(
         list: Vec::new(alloc),
         wrapping: Vec::new(alloc),
         answered: Answered::Certain,
+        looked: Looked::Nothing,
+        shown: Vec::new(alloc),
         changed: Vec::new(alloc),
         memory: Heap::new(alloc),
         asked: None,

@@ -1,6 +1,8 @@
 //! The ranges of one function: what is known where its blocks begin, found by running blocks in the verifier's own
 //! domain along all ways until nothing new comes. What callees give back and what the function is called with is told.
 mod known;
+mod picking;
+mod spread;
 
 use crate::flow::known::{BlockRanges, replace, touched_in};
 use fit_code::{Block, End, Function, Heap, hull};
@@ -47,30 +49,27 @@ struct Pending {
     start: usize,
     first: usize,
     end: usize,
+    /// Whether all blocks of the stretch are looked at again; else those that are picked, by their numbers.
+    is_whole: bool,
+    picked: Vec<bool>,
 }
 
 impl Pending {
+    /// Whether a block is looked at again.
+    fn has(&self, block: usize) -> bool {
+        self.is_whole || (block < self.picked.len() && self.picked[block])
+    }
+
+    /// Whether a block is to be visited.
+    fn is_asked(&self, block: usize) -> bool {
+        block < self.blocks.len() && self.blocks[block]
+    }
+
     /// A block is to be visited.
     fn mark(&mut self, block: usize) {
         let blocks = self.blocks.as_mut_slice();
         if block < blocks.len() {
             blocks[block] = true;
-        }
-    }
-
-    /// Those of the function of a number that were changed are to be visited.
-    fn mark_changed(&mut self, number: usize, changed: &[(usize, usize)]) {
-        for (function, block) in changed {
-            if *function == number {
-                self.mark(*block);
-            }
-        }
-    }
-
-    /// Those from which some ways lead are to be visited.
-    fn mark_sources(&mut self, ways: &[usize]) {
-        for way in ways {
-            self.mark(*way / 2);
         }
     }
 }
@@ -140,6 +139,15 @@ fn known_before(shapes: &[FunctionShape], number: usize) -> (&[LocationSet], &[V
     }
 }
 
+/// Whether a block has a call, or returns.
+fn is_told(code: &Block) -> bool {
+    let mut is_told = matches!(code.end, End::Return(_));
+    for step in code.steps.as_slice() {
+        is_told |= step.callee.is_some();
+    }
+    is_told
+}
+
 /// Lists the calls of a block with what they give their callees, where the state is that before its first step; it is
 /// that behind the last one then.
 fn list_calls(
@@ -163,6 +171,23 @@ fn list_calls(
     }
 }
 
+/// Adds what is known along one more way to what is known along others.
+fn add_cells(memory: &mut Heap, found: &mut Option<Vec<Cell>>, cells: &[Cell]) {
+    match found {
+        Some(found) => join(Growth::Least, found, cells),
+        None => *found = Some(memory.copy(cells)),
+    }
+}
+
+/// Puts the ways that aren't among others behind those of a list.
+fn push_others(memory: &mut Heap, list: &mut Vec<usize>, ways: &[usize], others: &[usize]) {
+    for way in ways {
+        if !others.contains(way) {
+            memory.push(list, *way);
+        }
+    }
+}
+
 impl FunctionRanges {
     /// Nothing is known, and of no function.
     pub fn nothing(alloc: Global) -> FunctionRanges {
@@ -174,19 +199,80 @@ impl FunctionRanges {
                 start: 0,
                 first: 0,
                 end: 0,
+                is_whole: true,
+                picked: Vec::new(alloc),
             },
             calls: Vec::new(alloc),
             returned: None,
         }
     }
 
+    /// A block that runs otherwise than before is to be visited.
+    fn ask(&mut self, block: usize) {
+        self.pending.mark(block);
+        let blocks = self.blocks.as_mut_slice();
+        if block < blocks.len() {
+            blocks[block].is_other = true;
+            blocks[block].is_fresh = true;
+        }
+    }
+
     /// The blocks that call a function are to be visited again: with the loops around them, and what stands behind
     /// these as far as what comes there changes.
     pub fn mark_calls(&mut self, callee: usize) {
-        for call in self.calls.as_slice() {
-            if call.callee == callee {
-                self.pending.mark(call.block);
+        for place in 0..self.calls.len() {
+            if place < self.calls.len() {
+                let call = self.calls[place];
+                if call.callee == callee {
+                    self.ask(call.block);
+                }
             }
+        }
+    }
+
+    /// The blocks of the function of a number that were changed are to be visited.
+    fn ask_changed(&mut self, number: usize, changed: &[(usize, usize)]) {
+        for (function, block) in changed {
+            if *function == number {
+                self.ask(*block);
+            }
+        }
+    }
+
+    /// Those from which some ways lead are to be visited.
+    fn ask_sources(&mut self, ways: &[usize]) {
+        for way in ways {
+            self.ask(*way / 2);
+        }
+    }
+
+    /// Nothing is fresh, and there are so many blocks.
+    fn begin_anew(&mut self, memory: &mut Heap, count: usize) {
+        for block in self.blocks.as_mut_slice() {
+            block.is_fresh = false;
+        }
+        for _ in self.blocks.len()..count {
+            memory.push(&mut self.blocks, BlockRanges::nothing(memory.alloc));
+        }
+        self.pending.blocks = memory.repeat(false, count);
+        self.pending.picked = memory.repeat(false, count);
+    }
+
+    /// Other ways lead to a block than before: it is to be visited.
+    fn lead_to(&mut self, memory: &mut Heap, block: usize, sources: &[usize], before: &[usize]) {
+        self.pending.mark(block);
+        let mut lost: Option<Vec<Cell>> = None;
+        for way in before {
+            if !sources.contains(way)
+                && let Some(cells) = self.way_cells(*way / 2, *way % 2)
+            {
+                add_cells(memory, &mut lost, cells);
+            }
+        }
+        let blocks = self.blocks.as_mut_slice();
+        if block < blocks.len() {
+            blocks[block].lost = lost;
+            push_others(memory, &mut blocks[block].came, sources, before);
         }
     }
 
@@ -202,20 +288,19 @@ impl FunctionRanges {
     ) {
         let live = shape.live.as_slice();
         let (live_before, sources_before) = known_before(before, number);
-        self.pending.blocks = memory.repeat(false, live.len());
-        self.pending.mark_changed(number, changed);
+        self.begin_anew(memory, live.len());
+        self.ask_changed(number, changed);
         for block in 0..live.len() {
-            if block >= self.blocks.len() {
-                memory.push(&mut self.blocks, BlockRanges::nothing());
-            }
             let is_new = block >= live_before.len();
             let sources = at(shape.sources.as_slice(), block);
-            let is_led_to = sources != at(sources_before, block);
-            if is_new | is_led_to {
-                self.pending.mark(block);
+            let earlier = at(sources_before, block);
+            if is_new {
+                self.ask(block);
+            } else if sources != earlier {
+                self.lead_to(memory, block, sources, earlier);
             }
             if is_new || live[block] != live_before[block] {
-                self.pending.mark_sources(sources);
+                self.ask_sources(sources);
             }
         }
     }
@@ -310,10 +395,7 @@ impl FunctionRanges {
             if is_before & (from < blocks.len()) {
                 let known = &blocks[from];
                 if let Some(cells) = &known.ways[*way % 2] {
-                    match &mut found {
-                        Some(found) => join(Growth::Least, found, cells.as_slice()),
-                        None => found = Some(memory.copy(cells.as_slice())),
-                    }
+                    add_cells(memory, &mut found, cells.as_slice());
                 }
             }
         }
@@ -359,6 +441,17 @@ impl FunctionRanges {
         Some(cells)
     }
 
+    /// Whether one way leads to a block, and what comes along it is what is known where the block begins.
+    fn comes_as_before(&self, setting: &Analysis, block: usize) -> bool {
+        let blocks = self.blocks.as_slice();
+        let sources = at(setting.shape.sources.as_slice(), block);
+        if (sources.len() == 1) & at(setting.said, block).is_empty() && block < blocks.len() {
+            let way = sources[0];
+            return way / 2 < blocks.len() && blocks[block].is_as(&blocks[way / 2], way);
+        }
+        false
+    }
+
     /// Visits the block of a place, whose cells grow or else get narrower. Where they are others then, it goes on
     /// along each of its ways, or only with what it doesn't touch; the blocks where something else is known at a way's
     /// end are to be visited, if they stand in the stretch.
@@ -369,7 +462,7 @@ impl FunctionRanges {
         (grow, place, block): (bool, usize, usize),
         state: &mut State,
     ) {
-        if block >= self.blocks.len() {
+        if block >= self.blocks.len() || self.comes_as_before(setting, block) {
             return;
         }
         let cells = self.new_cells(setting, memory, (grow, place, block));
@@ -392,6 +485,7 @@ impl FunctionRanges {
                     if replace(&mut known.ways[way], found)
                         && let Some(place) = setting.shape.order.place(to)
                         && place < self.pending.end
+                        && self.pending.has(to)
                     {
                         self.pending.mark(to);
                         self.pending.first = self.pending.first.min(place);
@@ -420,7 +514,9 @@ impl FunctionRanges {
             if asked[block] | (place == fresh) {
                 asked[block] = false;
                 fresh = fresh.max(place.saturating_add(1));
-                self.visit(setting, &mut means.memory, (grow, place, block), state);
+                if self.pending.has(block) {
+                    self.visit(setting, &mut means.memory, (grow, place, block), state);
+                }
                 visits = visits.saturating_add(1);
                 if visits == most {
                     let what = "visits of blocks whose ranges are looked for";
@@ -443,7 +539,7 @@ impl FunctionRanges {
         let codes = function.blocks.as_slice();
         for block in 0..codes.len() {
             let code = &codes[block];
-            if self.begin(function, block, state) {
+            if is_told(code) && self.begin(function, block, state) {
                 list_calls(memory, setting, (block, code), &mut calls, state);
                 if let End::Return(fields) = code.end {
                     if function.framed {
@@ -456,35 +552,67 @@ impl FunctionRanges {
         (calls, returned)
     }
 
-    /// Forgets what is known of the blocks of the stretch.
+    /// Forgets what is known of the blocks of the stretch that are looked at again.
     fn forget_stretch(&mut self, setting: &Analysis) {
         let order = setting.shape.order.blocks.as_slice();
         let codes = setting.function.blocks.as_slice();
-        let blocks = self.blocks.as_mut_slice();
         for place in self.pending.start..self.pending.end {
             if place < order.len() {
                 let block = order[place];
-                if (block < codes.len()) & (block < blocks.len()) {
-                    blocks[block].forget(touched_in(setting.function, &codes[block]));
+                let is_in = self.pending.has(block);
+                let blocks = self.blocks.as_mut_slice();
+                if is_in & (block < codes.len()) & (block < blocks.len()) {
+                    let known = &mut blocks[block];
+                    let touched = if known.is_other {
+                        touched_in(setting.function, &codes[block])
+                    } else {
+                        known.touched
+                    };
+                    known.forget(touched);
                 }
             }
         }
     }
 
-    /// The blocks behind the stretch are to be visited to which something else comes than before it was forgotten.
+    /// The ranges of the stretch are found: the blocks behind it are to be visited to which something else comes than
+    /// before it was forgotten.
     fn mark_behind(&mut self, setting: &Analysis) {
-        let (order, blocks) = (&setting.shape.order, self.blocks.as_slice());
+        let order = &setting.shape.order;
         let places = order.blocks.as_slice();
         let start = self.pending.start.saturating_mul(2);
         for way in start..self.pending.end.saturating_mul(2) {
             if way / 2 < places.len() {
                 let block = places[way / 2];
-                if block < blocks.len()
-                    && blocks[block].is_changed(way % 2)
+                if self.pending.has(block)
                     && let Some(to) = successors_in(setting.function, block)[way % 2]
                     && order.place(to) >= Some(self.pending.end)
                 {
-                    self.pending.mark(to);
+                    self.mark_target(block, way % 2, to);
+                }
+            }
+        }
+    }
+
+    /// A block is to be visited, if something else comes to it along a way of another one than before.
+    fn mark_target(&mut self, block: usize, way: usize, to: usize) {
+        let blocks = self.blocks.as_mut_slice();
+        if (block < blocks.len()) & (to < blocks.len()) && blocks[block].is_changed(way) {
+            let locations = blocks[block].differing_along(way);
+            let _grew = blocks[to].spread.add(&locations);
+            self.pending.mark(to);
+        }
+    }
+
+    /// The ranges of the blocks of the stretch that were looked at are found.
+    fn end_stretch(&mut self, setting: &Analysis) {
+        let order = setting.shape.order.blocks.as_slice();
+        for place in self.pending.start..self.pending.end {
+            if place < order.len() {
+                let block = order[place];
+                let is_in = self.pending.has(block);
+                let blocks = self.blocks.as_mut_slice();
+                if is_in & (block < blocks.len()) {
+                    blocks[block].found();
                 }
             }
         }
@@ -494,16 +622,37 @@ impl FunctionRanges {
     /// whether something is to be visited.
     pub fn takes(&mut self, params: Vec<Range>) -> bool {
         if self.params != params {
-            self.pending.mark(0);
+            self.ask(0);
         }
         self.params = params;
         self.pending.blocks.as_slice().contains(&true)
     }
 
+    /// Finds the ranges of the blocks of the stretch that are looked at again, by what comes to them: first they grow,
+    /// then they get narrower, and then they grow again, where that broke something.
+    fn find_stretch(&mut self, setting: &Analysis, means: &mut Means, state: &mut State) {
+        self.forget_stretch(setting);
+        self.visit_all(setting, means, true, state);
+        self.visit_all(setting, means, false, state);
+        self.visit_all(setting, means, true, state);
+        self.mark_behind(setting);
+        self.end_stretch(setting);
+    }
+
+    /// Finds the ranges of the stretch anew, by what comes into it: of the blocks alone to which a change may come,
+    /// where these are few, and nothing else comes from them to the others.
+    fn settle_stretch(&mut self, setting: &Analysis, means: &mut Means, state: &mut State) {
+        self.pending.is_whole = !self.pick(setting, &mut means.memory, state);
+        self.find_stretch(setting, means, state);
+        if !self.pending.is_whole && self.leaks(setting) {
+            self.pending.is_whole = true;
+            self.find_stretch(setting, means, state);
+        }
+    }
+
     /// Finds the ranges, by what is to be visited. A stretch of the order begins where no way leads back behind it, so
-    /// that what stands before it is looked at once. Its ranges are found anew, by what comes into it: first they grow,
-    /// then they get narrower, and then they grow again, where that broke something. Where something else comes out of
-    /// it than before, that is to be visited.
+    /// that what stands before it is looked at once. Where something else comes out of it than before, that is to be
+    /// visited.
     pub fn settle(&mut self, setting: &Analysis, means: &mut Means, state: &mut State) {
         let order = setting.shape.order.blocks.as_slice();
         let mut is_asked = false;
@@ -513,17 +662,12 @@ impl FunctionRanges {
                 self.pending.start = place;
                 is_asked = false;
             }
-            let blocks = self.pending.blocks.as_slice();
-            is_asked |= order[place] < blocks.len() && blocks[order[place]];
+            is_asked |= self.pending.is_asked(order[place]);
             let behind = place.saturating_add(1);
             let end = setting.shape.end_of(order[place]).max(behind);
             self.pending.end = self.pending.end.max(end);
             if is_asked & (self.pending.end == behind) {
-                self.forget_stretch(setting);
-                self.visit_all(setting, means, true, state);
-                self.visit_all(setting, means, false, state);
-                self.visit_all(setting, means, true, state);
-                self.mark_behind(setting);
+                self.settle_stretch(setting, means, state);
             }
         }
         (self.calls, self.returned) = self.summarize(setting, &mut means.memory, state);

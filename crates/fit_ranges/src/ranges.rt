@@ -275,6 +275,17 @@ impl Ranges {
         (block == 0) | self.cells(function, block).is_some()
     }
 
+    /// Whether a block runs otherwise than before the ranges were last found, or something else is known where it
+    /// begins.
+    pub fn is_fresh(&self, function: usize, block: usize) -> bool {
+        let flows = self.flows.as_slice();
+        if function < flows.len() {
+            let blocks = flows[function].blocks.as_slice();
+            return block >= blocks.len() || blocks[block].is_fresh;
+        }
+        true
+    }
+
     /// What is known where a way of a block ends, of what is live there; nothing of one that can't be gone.
     pub fn way_cells(&self, function: usize, block: usize, way: usize) -> Option<&[Cell]> {
         let flows = self.flows.as_slice();

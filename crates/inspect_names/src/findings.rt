@@ -2,8 +2,8 @@
 ghost use Rattle.std.specs.Prelude.{◌≡◌, ◌∷◌, ◌++◌, IfOk, OnOk, Some, map};
 ghost use Rattle.inspect_names.specs.Findings.{code_text, fault_place, finding_place};
 
-use inspect_source::{Setting, mark_of, whole_reason};
 use inspect_check::Faults;
+use inspect_source::{Setting, mark_of, whole_reason};
 use sbx_asm::{AsmFault, Cause, Line, LocationCounter, Scope, Survey, survey_lines};
 use std::alloc::{AllocError, Global};
 use std::fmt::{self, Error, Formatter, Write};

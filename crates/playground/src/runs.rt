@@ -7,9 +7,9 @@ ghost use Rattle.playground.specs.Told.{IsRunLine, IsStatesText, IsTraceText, Sp
 use crate::denied::{Denied, MEMORY, NO_IMAGE, OK, ROOM, WINDOWS, status_of};
 use crate::images::image_in;
 use crate::room::hand_on;
-use inspect_states::state_windows;
 use inspect_json::run_line;
 use inspect_run::{Progress, run_windows, watch_windows};
+use inspect_states::state_windows;
 use sbx_raw::RunFault;
 use std::alloc::Global;
 

@@ -1,9 +1,9 @@
 //! One sweep over a function that answers what isn't shown of it: in an order in which what a test shows is known where
 //! it makes a later one needless.
-use crate::asks::{Ask, Asking, NotShown, asks_behind, asks_of};
+use crate::asks::{Ask, Asking, NotShown, asks_behind, asks_beside};
 use crate::cuts::register;
 use crate::plans::{TestKind, plan_of};
-use crate::settling::{Answered, LOST_BY_CALL, Tests};
+use crate::settling::{Answered, LOST_BY_CALL, Looked, Tests};
 use crate::sweep::{Carried, CarriedWord, Chain, NOT_CARRIED, Sweep, cells_along};
 use fit_code::{Heap, Program};
 use fit_graph::{LocationSet, cells_of, successors_in};
@@ -115,6 +115,42 @@ fn carried_word(
 }
 
 impl Tests {
+    /// Of which of so many blocks of a function it is known from looking at them before whether something isn't shown.
+    fn known_blocks(
+        &mut self,
+        ranges: &Ranges,
+        (function, count): (usize, usize),
+        found: &mut [bool],
+    ) -> Vec<bool> {
+        let mut are_known = self.memory.repeat(false, count);
+        let slots = are_known.as_mut_slice();
+        if matches!(self.looked, Looked::Nothing) || function >= self.shown.len() {
+            return are_known;
+        }
+        let before = self.shown[function].as_slice();
+        for block in 0..slots.len() {
+            if block < before.len() && block < found.len() {
+                slots[block] = matches!(self.looked, Looked::All)
+                    || !ranges.is_fresh(function, block);
+                found[block] = slots[block] & before[block];
+            }
+        }
+        are_known
+    }
+
+    /// Keeps of which blocks of a function something isn't shown.
+    fn keep_found(&mut self, function: usize, found: &[bool]) {
+        let alloc = self.memory.alloc;
+        for _ in self.shown.len()..function.saturating_add(1) {
+            self.memory.push(&mut self.shown, Vec::new(alloc));
+        }
+        let kept = self.memory.copy(found);
+        let shown = self.shown.as_mut_slice();
+        if function < shown.len() {
+            shown[function] = kept;
+        }
+    }
+
     /// Looks at what isn't shown of a function, by its ranges; says of each of so many blocks whether something isn't.
     /// What is undefined can't be answered, since what may be is 0 already.
     fn look(
@@ -125,6 +161,8 @@ impl Tests {
         state: &mut State,
     ) -> Vec<bool> {
         let mut found = self.memory.repeat(false, count);
+        let are_asked = found.as_mut_slice();
+        let are_known = self.known_blocks(ranges, (function, count), are_asked);
         let asking = Asking {
             alloc: self.memory.alloc,
             program,
@@ -132,11 +170,10 @@ impl Tests {
             by_object: self.by_object,
             wraps: self.wrapping.contains(&function),
         };
-        let Ok(asks) = asks_of(&asking, function, state) else {
+        let Ok(asks) = asks_beside(&asking, function, are_known.as_slice(), state) else {
             self.memory.is_refused = true;
             return found;
         };
-        let are_asked = found.as_mut_slice();
         for ask in asks.as_slice() {
             let is_undefined = matches!(ask.lack, NotShown::Defined(_) | NotShown::Given(_));
             if is_undefined & self.refused.is_ok() {
@@ -147,6 +184,7 @@ impl Tests {
                 are_asked[ask.block] = true;
             }
         }
+        self.keep_found(function, &*are_asked);
         found
     }
 

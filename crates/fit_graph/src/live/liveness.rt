@@ -1,9 +1,9 @@
 //! Liveness: the locations that are read later before they are written, whatever the words on the way are.
 use crate::cells::FunctionShape;
-use crate::live::effects::{effects_of, of_registers};
+use crate::live::effects::{Effects, effects_of, of_registers};
 use crate::live::locations::LocationSet;
 use crate::means::Means;
-use fit_code::{Block, End, Function, NO_LINE, Program, RegisterSet, Step, operands_read};
+use fit_code::{Block, End, Function, Heap, NO_LINE, Program, RegisterSet, Step, operands_read};
 use v8_formats::Three;
 use v8_word::Reg;
 
@@ -120,13 +120,83 @@ fn pass_steps(
     is_new
 }
 
+/// What the steps of a block read of what stands there before them, and what they write. Those of a block with calls
+/// change with what is known of callees.
+#[derive(Clone, Copy)]
+struct BlockEffects {
+    has_calls: bool,
+    reads: LocationSet,
+    writes: LocationSet,
+}
+
+/// Puts what an instruction writes into a set.
+fn add_writes(writes: &mut LocationSet, effects: &Effects) {
+    writes.pass(&of_registers(effects.writes, RegisterSet::NONE));
+    if let Some(word) = effects.word_written {
+        writes.insert(word);
+    }
+}
+
+impl BlockEffects {
+    /// Those of a block in a frame of so many bytes.
+    fn of(frame: u32, block: &Block) -> BlockEffects {
+        let mut found = BlockEffects {
+            has_calls: false,
+            reads: LocationSet::none(),
+            writes: LocationSet::none(),
+        };
+        for step in block.steps.as_slice().iter().rev() {
+            found.pass(frame, step);
+        }
+        found
+    }
+
+    /// Takes in a step that stands before those that were.
+    fn pass(&mut self, frame: u32, step: &Step) {
+        self.has_calls |= step.callee.is_some() | step.slot.is_some();
+        let effects = effects_of(frame, &step.instr);
+        self.reads.pass(&effects);
+        add_writes(&mut self.writes, &effects);
+    }
+}
+
+/// The effects of a function's blocks.
+fn effects_of_blocks(memory: &mut Heap, function: &Function) -> Vec<BlockEffects> {
+    let mut lists = Vec::new(memory.alloc);
+    for block in function.blocks.as_slice() {
+        memory.push(&mut lists, BlockEffects::of(function.frame, block));
+    }
+    lists
+}
+
+/// Goes over a block of a function, whose steps have these effects; says whether more is live or asked for than before.
+fn pass_block(
+    counts: &mut [RegisterCounts],
+    (function, results): (&Function, u8),
+    (block, effects): (&Block, &BlockEffects),
+    (live, place): (&mut [LocationSet], usize),
+) -> bool {
+    let mut is_new = false;
+    let mut found = live_behind(function, results, block, &*live);
+    if effects.has_calls {
+        is_new = pass_steps(counts, &mut found, function.frame, block);
+    } else {
+        found.take(&effects.writes);
+        let _grew = found.add(&effects.reads);
+    }
+    if place < live.len() {
+        is_new |= live[place].add(&found);
+    }
+    is_new
+}
+
 /// Goes over the blocks of the function of a number once: those that follow first, but where a loop goes back. Counts
 /// what it takes for granted at its entry, but for the first function of a program, which is called by nobody. Says
 /// whether more is live or asked for than before.
 fn pass_function(
     counts: &mut [RegisterCounts],
-    number: usize,
-    function: &Function,
+    (number, function): (usize, &Function),
+    effects: &[BlockEffects],
     shape: &mut FunctionShape,
 ) -> bool {
     if number >= counts.len() {
@@ -136,10 +206,9 @@ fn pass_function(
     let (blocks, live) = (function.blocks.as_slice(), shape.live.as_mut_slice());
     let mut is_new = false;
     for place in shape.order.blocks.as_slice().iter().rev() {
-        if (*place < blocks.len()) & (*place < live.len()) {
-            let mut found = live_behind(function, results, &blocks[*place], live);
-            is_new |= pass_steps(counts, &mut found, function.frame, &blocks[*place]);
-            is_new |= live[*place].add(&found);
+        if (*place < blocks.len()) & (*place < effects.len()) {
+            let block = (&blocks[*place], &effects[*place]);
+            is_new |= pass_block(counts, (function, results), block, (&mut *live, *place));
         }
     }
     let from = if function.framed { IN } else { OUT };
@@ -149,18 +218,35 @@ fn pass_function(
     is_new
 }
 
-/// Goes over all functions once, of these shapes, those that are called first. Says whether more is live or asked for
-/// than before.
+/// Goes over all functions once, of these shapes and effects, those that are called first. Says whether more is live or
+/// asked for than before.
 fn pass_all(
     counts: &mut [RegisterCounts],
     functions: &[Function],
+    effects: &[Vec<BlockEffects>],
     shapes: &mut [FunctionShape],
 ) -> bool {
     let mut is_new = false;
     for number in (0..functions.len()).rev() {
-        if number < shapes.len() {
-            let (function, shape) = (&functions[number], &mut shapes[number]);
-            is_new |= pass_function(counts, number, function, shape);
+        if (number < shapes.len()) & (number < effects.len()) {
+            let (named, shape) = ((number, &functions[number]), &mut shapes[number]);
+            is_new |= pass_function(counts, named, effects[number].as_slice(), shape);
+        }
+    }
+    is_new
+}
+
+/// Goes over all functions until no more is live or asked for; says whether there is, after so many rounds.
+fn pass_rounds(
+    counts: &mut [RegisterCounts],
+    functions: &[Function],
+    effects: &[Vec<BlockEffects>],
+    shapes: &mut [FunctionShape],
+) -> bool {
+    let mut is_new = true;
+    for _ in 0..ROUNDS {
+        if is_new {
+            is_new = pass_all(counts, functions, effects, shapes);
         }
     }
     is_new
@@ -181,12 +267,12 @@ pub fn find_live(
     };
     let mut found = means.memory.repeat(none, functions.len());
     let counts = found.as_mut_slice();
-    let mut is_new = true;
-    for _ in 0..ROUNDS {
-        if is_new {
-            is_new = pass_all(counts, functions, shapes);
-        }
+    let mut effects = Vec::new(means.memory.alloc);
+    for function in functions {
+        let listed = effects_of_blocks(&mut means.memory, function);
+        means.memory.push(&mut effects, listed);
     }
+    let is_new = pass_rounds(counts, functions, effects.as_slice(), shapes);
     if is_new {
         let what = "rounds over which locations are live";
         means.spend(NO_LINE, what, ROUNDS as u64);

@@ -71,4 +71,43 @@ impl LocationSet {
         }
         grew
     }
+
+    /// Whether no location is in the set.
+    pub fn is_empty(&self) -> bool {
+        let mut some: u64 = 0;
+        for place in 0..WORDS {
+            some |= self.words[place];
+        }
+        some == 0
+    }
+
+    /// Puts a location in.
+    pub fn insert(&mut self, location: u16) {
+        self.words[usize::from(location / 64) % WORDS] |= 1 << (location % 64);
+    }
+
+    /// Takes another set's locations out.
+    pub fn take(&mut self, other: &LocationSet) {
+        for place in 0..WORDS {
+            self.words[place] &= !other.words[place];
+        }
+    }
+
+    /// What is in both sets.
+    pub fn intersection(&self, other: &LocationSet) -> LocationSet {
+        let mut both = LocationSet::none();
+        for place in 0..WORDS {
+            both.words[place] = self.words[place] & other.words[place];
+        }
+        both
+    }
+
+    /// Whether no location is in both sets.
+    pub fn is_disjoint(&self, other: &LocationSet) -> bool {
+        let mut both: u64 = 0;
+        for place in 0..WORDS {
+            both |= self.words[place] & other.words[place];
+        }
+        both == 0
+    }
 }

@@ -1,7 +1,9 @@
 //! The knowledge of a function's blocks so far.
+use crate::flow::spread::differing;
 use fit_code::{Block, Function, Heap, RegisterSet};
 use fit_graph::{Effects, LocationSet, effects_in, effects_of, range_from};
 use sbx_range::Cell;
+use std::alloc::Global;
 use std::mem;
 
 /// A block is narrowed at most so often.
@@ -14,13 +16,28 @@ pub struct BlockRanges {
     pub cells: Option<Vec<Cell>>,
     /// What is known where each of its ways ends; nothing of one that can't be gone.
     pub ways: [Option<Vec<Cell>>; 2],
-    /// The same before its ranges were last forgotten.
+    /// The same before its ranges were last forgotten, or tried.
     before: [Option<Vec<Cell>>; 2],
+    /// What was known then where it begins.
+    cells_before: Option<Vec<Cell>>,
+    /// Whether its ranges were tried since, so that what was known before is noted.
+    is_tried: bool,
     /// What it reads or writes.
-    touched: LocationSet,
+    pub touched: LocationSet,
     /// How often its cells grew since they were last forgotten, and how often they were narrowed.
     pub changes: u32,
     narrowings: u32,
+    /// Whether it runs otherwise than when its ranges were found: it is new, or its steps or its end are others, or
+    /// what a callee gives back, or what is live behind it.
+    pub is_other: bool,
+    is_new: bool,
+    /// The ways that lead to it since then, and what was known along those that don't any more.
+    pub came: Vec<usize>,
+    pub lost: Option<Vec<Cell>>,
+    /// The locations of which something else may be known where it begins.
+    pub spread: LocationSet,
+    /// Whether it runs otherwise than before the ranges were found anew, or something else is known where it begins.
+    pub is_fresh: bool,
 }
 
 /// Whether both are the same.
@@ -73,25 +90,77 @@ pub fn touched_in(function: &Function, block: &Block) -> LocationSet {
 
 impl BlockRanges {
     /// Nothing is known of a block.
-    pub fn nothing() -> BlockRanges {
+    pub fn nothing(alloc: Global) -> BlockRanges {
         BlockRanges {
             cells: None,
             ways: [None, None],
             before: [None, None],
+            cells_before: None,
+            is_tried: false,
             touched: LocationSet::none(),
             changes: 0,
             narrowings: 0,
+            is_other: true,
+            is_new: true,
+            came: Vec::new(alloc),
+            lost: None,
+            spread: LocationSet::none(),
+            is_fresh: true,
         }
     }
 
-    /// Forgets what is known of a block that reads or writes these locations, but for what was known where its ways
-    /// end.
+    /// Notes what is known of a block that reads or writes these locations, and forgets it.
     pub fn forget(&mut self, touched: LocationSet) {
-        self.before = mem::replace(&mut self.ways, [None, None]);
-        self.cells = None;
+        self.cells_before = mem::replace(&mut self.cells, None);
+        let ways = mem::replace(&mut self.ways, [None, None]);
+        if !self.is_tried {
+            self.before = ways;
+        }
+        self.is_tried = false;
         self.touched = touched;
         self.changes = 0;
         self.narrowings = 0;
+        self.is_other = false;
+        self.is_new = false;
+    }
+
+    /// Tries a block that reads or writes these locations: notes what was known where its ways end, and puts this in
+    /// its place.
+    pub fn try_with(&mut self, ways: [Option<Vec<Cell>>; 2], touched: LocationSet) {
+        let before = mem::replace(&mut self.ways, ways);
+        if !self.is_tried {
+            self.before = before;
+        }
+        self.is_tried = true;
+        self.touched = touched;
+    }
+
+    /// Its ranges are found: notes whether something else is known where it begins than before.
+    pub fn found(&mut self) {
+        self.is_fresh |= !are_equal(&self.cells, &self.cells_before);
+        self.spread = LocationSet::none();
+        self.came.clear();
+        self.lost = None;
+    }
+
+    /// Whether a way led to it before, given by its number.
+    pub fn was_led_to(&self, way: usize) -> bool {
+        !self.is_new & !self.came.as_slice().contains(&way)
+    }
+
+    /// Whether other ways lead to it than before.
+    pub fn is_led_anew(&self) -> bool {
+        !self.is_new & (!self.came.is_empty() | self.lost.is_some())
+    }
+
+    /// The locations of which something else is known where a way ends than before.
+    pub fn differing_along(&self, way: usize) -> LocationSet {
+        differing(&self.ways[way % 2], &self.before[way % 2])
+    }
+
+    /// Whether what is known where a way of another block ends is what is known where it begins.
+    pub fn is_as(&self, other: &BlockRanges, way: usize) -> bool {
+        self.cells.is_some() && are_equal(&self.cells, &other.ways[way % 2])
     }
 
     /// Whether something else is known where a way ends than before its ranges were forgotten.
