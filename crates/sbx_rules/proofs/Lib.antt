@@ -1,6 +1,6 @@
 pub mod Asking
 pub mod Quiet
 pub mod Computed
-pub mod Depths
+pub mod Everywhere
 pub mod Examples
 pub mod Regions
