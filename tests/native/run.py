@@ -10,6 +10,8 @@ Compares accepted images as compiled C with what their runs have to be: exit wor
   limits     images that are made to be slow to compile, and a compiler that hangs, fails or isn't there
   cache      a cache that is cut off, read-only, not there, and written by two at once
   calls      refused images, other words, objects, a conversation
+  speed      beside a board, and beside the same C by gcc -O2; bytes a second, steps, translation, size. It isn't tried
+             where no part is named
 
 What isn't installed is told and skipped."""
 import concurrent.futures
@@ -22,8 +24,9 @@ import tempfile
 
 sys.dont_write_bytecode = True
 HERE = os.path.dirname(os.path.abspath(__file__))
-sys.path.insert(0, f"{os.path.dirname(HERE)}/lib")
+sys.path[:0] = [f"{os.path.dirname(HERE)}/lib", HERE]
 from run import EXAMPLES, FIT, SANDBOX, TOP, Ran, built, bytes_of, program, put, run, text_of
+from speed import dense_source, speed
 from tally import Tally, Words
 
 NATIVE, HEADERS = f"{TOP}/native", f"{TOP}/embed/native"
@@ -182,14 +185,6 @@ def programs(tally, _asked):
             tally.check(f"{name}: counts", len(here.err.split()) == 4, here.said[:200])
 
 
-def dense_source(words):
-    """A source of one block of so many words: the text that a compiler is slow on."""
-    body = [" add %o0,1,%o0", " xor %o0,85,%o1", " sub %o1,%o0,%o2"]
-    lines = [body[k % 3] for k in range(words - 3)]
-    return "\n".join([".services exit,get,put", f".function main,leaf,0,0,{words + 100}", f".fuel {words + 100}",
-                      " mov 0,%o0", *lines, " mov 0,%o0", " ta 0", ""])
-
-
 def fake_compiler(room, name, script):
     """A compiler that does what a script says."""
     path = f"{room}/{name}"
@@ -290,7 +285,7 @@ def calls(tally, _asked):
     tally.check("the header has no tab", "\t" not in text_of(f"{HEADERS}/geyserpan_native.h"))
 
 
-PARTS = {it.__name__: it for it in (verdicts, programs, limits, cache, calls)}
+PARTS = {it.__name__: it for it in (verdicts, programs, limits, cache, calls, speed)}
 
 
 def main(words):
@@ -300,7 +295,7 @@ def main(words):
     asked = reader.parse_args(words)
     tally = Tally("native")
     built("native")
-    for part in asked.parts or PARTS:
+    for part in asked.parts or [it for it in PARTS if it != "speed"]:
         PARTS[part](tally, asked)
     return tally.end()
 

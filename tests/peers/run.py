@@ -21,11 +21,8 @@ HERE = os.path.dirname(os.path.abspath(__file__))
 sys.path.insert(0, f"{os.path.dirname(HERE)}/lib")
 from run import SANDBOX, TOP, built, has, program, put, text_of
 from tally import Tally, Words
+from workloads import NAMES, READERS, WORK, input_bytes, source_of
 
-WORK = f"{HERE}/workloads"
-NAMES = ["loops", "sieve", "crc", "crcpage1", "echo", "chain", "calls", "muldiv", "copy", "stride"]
-READERS = ("crc", "crcpage1", "echo")
-BYTES = 4_000_000
 # What takes a module's budget down, at the head of each function and of each loop.
 TICK = (" (global.set $fuel (i64.sub (global.get $fuel) (i64.const 8)))"
         " (if (i64.lt_s (global.get $fuel) (i64.const 0)) (then unreachable))")
@@ -37,15 +34,6 @@ BPF = {"pcap": (["-lpcap"], "pcap/bpf.h", "libpcap-dev"),
        "dpdk": (["-include", "rte_config.h", "-march=native", "-lrte_bpf"], "rte_bpf.h", "libdpdk-dev")}
 # How often the workload without a loop is run, and the rounds that are unrolled in it.
 ROUNDS, UNROLLED = 2000, 5000
-
-
-def input_bytes():
-    """The input of the workloads that read, as the module makes it for itself."""
-    made, x = bytearray(), 1
-    for _ in range(BYTES):
-        x = (x * 1103515245 + 12345) % 2**32
-        made.append(x >> 16 & 255)
-    return bytes(made)
 
 
 def metered(text):
@@ -95,13 +83,6 @@ def as_number(output):
     """The answer of a program that prints it as a decimal number."""
     found = re.search(rb"i32:(\d+)", output or b"")
     return int(found[1]) if found else None
-
-
-def source_of(name):
-    """The source of a workload; that of crcpage1 is crc's with its table a page further on, where it meets no line of
-    the code's."""
-    text = text_of(f"{WORK}/{name.removesuffix('page1')}.s")
-    return text.replace(".skip 1024", ".skip 5120").replace("524288", "528384") if name == "crcpage1" else text
 
 
 def assembled(folder, name, text):
