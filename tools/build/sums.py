@@ -5,7 +5,7 @@ import sys
 
 sys.dont_write_bytecode = True
 from libraries import TOP, all_below, crates, lowest_first
-from programs import logic
+from standing import logic
 
 __all__ = ["logic", "sources", "sum_of"]
 

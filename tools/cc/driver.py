@@ -15,7 +15,7 @@ from telling import Teller, demangled
 
 sys.path[:0] = [f"{TOP}/tools/debug", f"{TOP}/tools"]
 from origins import Files, Origins
-from programs import called, make_stand
+from standing import called, file_fault, make_stand
 
 # So many seconds of processor ./fit may take.
 SECONDS = 300
@@ -292,7 +292,7 @@ def main(name, words):
         say(*fault.lines, *usage)
         return fault.status
     except OSError as error:
-        say(f"{name}: {error.filename}: {error.strerror}")
+        say(f"{name}: {file_fault(error)}")
         return 4
     except KeyboardInterrupt:
         return 130

@@ -112,7 +112,7 @@ class Words:
         while self.left and not self.left[0].startswith("-") and ending_of(self.left[0]) not in ENDINGS:
             path = self.left.popleft()
             if not os.path.exists(path):
-                raise Fault(4, f"{self.name}: --against: {path}: no such file or folder")
+                raise Fault(4, f"{self.name}: --against: {path}: no such file")
             inside = sorted(os.listdir(path)) if os.path.isdir(path) else None
             self.request.inputs += [path] if inside is None else [f"{path}/{it}" for it in inside]
         if not self.request.inputs:

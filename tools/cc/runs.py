@@ -7,7 +7,7 @@ import sys
 
 from compilers import PLUS, TOP
 from fault import Fault
-from programs import called
+from standing import called
 from request import ending_of, is_plus
 
 sys.path.insert(0, f"{TOP}/tools/debug")

@@ -9,7 +9,7 @@ from effects import bit, written
 from exits import CALLED, NO_FUNCTION, TOLD, failing, telling
 from loaded import Fault, tool
 from maps import MOST_LINE, UNKNOWN
-from programs import called
+from standing import called
 from tape import Turn
 
 # What a test's kind says, by the upper half of an exit word, and the signal that it comes as; the lower half is its

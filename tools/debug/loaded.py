@@ -8,7 +8,7 @@ TOP = os.path.dirname(os.path.dirname(os.path.dirname(os.path.abspath(__file__))
 sys.path[:0] = [f"{TOP}/tools/page", f"{TOP}/tools"]
 from declared import HEADER, REGION, REGIONS_HEADER, Declared, Handlers
 from memory import CODE, DATA, PAGE, PAGES, SYSTEM, TABLES, table_words
-from programs import called
+from standing import FAULTS, called
 
 __all__ = ["CODE", "DATA", "TOP", "Fault", "Loaded", "physical", "tool"]
 STACK_END = 0x100000
@@ -35,8 +35,7 @@ def tool(program, *words, given=None):
 
 def unread(path, error):
     """The fault of a file that can't be read, in the words of docs/use/faults.md."""
-    is_missing = isinstance(error, (FileNotFoundError, NotADirectoryError))
-    return Fault(4, f"inspect: {path}: {'no such file' if is_missing else error.strerror.lower()}")
+    return Fault(4, f"inspect: {path}: {FAULTS.get(error.errno, error.strerror.lower())}")
 
 
 def bytes_of(path):

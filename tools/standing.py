@@ -1,4 +1,6 @@
-"""The programs of the repository, as its own scripts call them: proved and built where that is due, several at once."""
+"""The programs of the repository, as its own scripts call them: proved and built where that is due, several at once;
+and the words in which programs and scripts tell of a file."""
+import errno
 import os
 import shutil
 import subprocess
@@ -14,8 +16,22 @@ PROGRAMS = {
     "board": ("board", "data/hello.img /dev/null"),
 }
 BUILD = f"{TOP}/tools/build/build-program"
+# What is told of a file by an error of the system; the system's own words of another one.
+FAULTS = {
+    errno.ENOENT: "no such file",
+    errno.ENOTDIR: "no such file",
+    errno.EISDIR: "is a directory",
+    errno.EACCES: "permission denied",
+    errno.EPERM: "permission denied",
+}
 # What stands for a program's script, by its name: the program itself, once it is known to be current.
 STANDS_FOR = {}
+
+
+def file_fault(error):
+    """What an error of the system says of a file, as docs/use/faults.md has it."""
+    why = FAULTS.get(error.errno, (error.strerror or "can't be read").lower())
+    return f"{error.filename}: {why}" if error.filename else why
 
 
 def path_of(crate):
