@@ -34,9 +34,13 @@ def file_fault(error):
     return f"{error.filename}: {why}" if error.filename else why
 
 
+# The crate that is a library for C.
+ARCHIVED = "geyserpan"
+
+
 def path_of(crate):
-    """The path of a crate's program, which may not stand."""
-    return f"{TOP}/crates/{crate}/out/{crate}"
+    """The path of a crate's program, or of the library for C, which may not stand."""
+    return f"{TOP}/crates/{crate}/out/{f'lib{crate}.a' if crate == ARCHIVED else crate}"
 
 
 def called(name):

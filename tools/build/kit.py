@@ -8,7 +8,7 @@ import sys
 sys.dont_write_bytecode = True
 # What is called of a kit's `rt`, and of its crates, to prove a crate as `rt ci` does.
 CALLED = ("handles_of", "need", "stop", "stop_on_words")
-OF_A_CRATE = ("below", "compile_by", "prove", "words")
+OF_A_CRATE = ("below", "call", "compile_by", "makes_rlib", "prove", "words")
 OF_RTLIB = ("guarded", "help_of", "stop_on_links", "stop_on_text", "text_of")
 
 

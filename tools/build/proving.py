@@ -7,6 +7,7 @@ from concurrent.futures import FIRST_COMPLETED, ThreadPoolExecutor, wait
 
 from kept import Kept, made_of, sweep
 from libraries import MOST_JOBS, ROOMS, TOP, Failed, all_below, crates, lowest_first
+from standing import path_of
 
 ANEW = f"{TOP}/tools/build/rt-anew"
 # A build's room begins so.
@@ -126,7 +127,7 @@ class Build:
             raise Failed(f"the sources of {name} have changed while it was proved: call again")
         if name not in plan.programs:
             return Kept(name).keep(self.room, made)
-        os.replace(f"{self.room}/{name}", f"{TOP}/crates/{name}/out/{name}")
+        os.replace(f"{self.room}/{os.path.basename(path_of(name))}", path_of(name))
         return made
 
     def given(self, name, jobs):
