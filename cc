@@ -3,7 +3,9 @@
 import os
 import sys
 
-# What Python compiles of the scripts is kept beside the library, and not in the checkout.
+# What Python compiles of the scripts is kept beside the library, and not in the checkout; to compile it takes longer
+# than all that the scripts do.
+sys.dont_write_bytecode = False
 sys.pycache_prefix = os.path.expanduser(os.environ.get("XDG_CACHE_HOME") or "~/.cache") + "/geyserpan/python"
 TOP = os.path.dirname(os.path.realpath(__file__))
 NAME = "c++" if os.path.basename(__file__) == "c++" else "cc"

@@ -68,7 +68,7 @@ def try_words(author):
     author.called(3, USAGE, UPPER, "-o", image, "--frobnicate")
     for words, told in WORDS:
         author.called(3, told, UPPER, "--turns", "9", *words)
-    author.called(4, "no such file or folder", UPPER, "--against", "nowhere")
+    author.called(4, "nowhere: no such file", UPPER, "--against", "nowhere")
     for option in ("-o OUT.img", "--run", "--against INPUT..", "--turns N", "--arena BYTES", "--stack BYTES",
                    "--strict", "--region", "--notes", "--keep FOLDER", "-MMD", "CC_SPARC", "Status 0:"):
         author.called(0, option, "--help")
@@ -108,7 +108,7 @@ def try_page(author):
 def try_sources(author):
     """Further sources: notes, headers, faults, two files, levels."""
     author.makes("beside.c:5: note: the index into name (32 bytes) may be 1 to 32: a test was added", "beside.c")
-    author.called(4, "none.c: No such file or directory", "none.c", "-o", "none.img")
+    author.called(4, "none.c: no such file", "none.c", "-o", "none.img")
     author.puts(author.makes("accepted", "library.c"), b"1 2 3 5 8 00005|ff\n", b"3 1 8 5 2")
     author.puts(author.makes("accepted", "limits.c"), b"A")
     author.puts(author.makes("accepted", "two.c", author.at("one.c"), "-DFACTOR=2"), b"B")

@@ -1,11 +1,13 @@
-# What a program or a library was made of: sums of sources, and the logic of the kit, for the scripts of this folder.
+# What a program or a library was made of: sums of sources, for the scripts of this folder.
 import hashlib
 import os
-import shutil
 import sys
 
 sys.dont_write_bytecode = True
 from libraries import TOP, all_below, crates, lowest_first
+from standing import logic
+
+__all__ = ["logic", "sources", "sum_of"]
 
 # The folders of a crate that say what a program does and that it has to be proved; its proofs may change without it.
 PARTS = ("src", "specs")
@@ -37,13 +39,3 @@ def sum_of(crate):
                 with open(f"{at}/{name}", "rb") as file:
                     found.update(repr((os.path.relpath(f"{at}/{name}", TOP), file.read())).encode())
     return found.hexdigest()
-
-
-def logic():
-    """The logic that the kit on the PATH proves by; None where there is no kit."""
-    rt = shutil.which("rt")
-    if rt is None:
-        return None
-    with open(os.path.join(os.path.dirname(os.path.dirname(os.path.realpath(rt))), "KIT-ID"),
-              encoding="utf-8") as file:
-        return file.readline().strip().partition(" logic ")[2]

@@ -1,5 +1,4 @@
 """The two compilers for SPARC, and how they make one assembly of sources and of the library."""
-import concurrent.futures
 import functools
 import os
 import re
@@ -58,6 +57,21 @@ def limited(words, seconds=SECONDS, **how):
     limit = ["sh", "-c", f'ulimit -t {seconds}; exec "$@"', "sh"]
     ran = subprocess.run([*limit, *words], stderr=subprocess.PIPE, text=True, errors="replace", check=False, **how)
     return ran, ran.returncode in (-9, -24, 137, 152) or "CPU time limit" in ran.stderr
+
+
+def side_by_side(call, items):
+    """What a call returns for each of some items, as many at a time as there are processors."""
+    if len(items) < 2:
+        return [call(it) for it in items]
+    from concurrent.futures import ThreadPoolExecutor  # (which takes longer to load than most calls need)
+    with ThreadPoolExecutor() as lanes:
+        return list(lanes.map(call, items))
+
+
+@functools.lru_cache(maxsize=None)
+def runtime_files():
+    """The paths of all files of the library, in one order."""
+    return sorted(f"{at}/{name}" for at, _, names in os.walk(f"{TOP}/runtime") for name in names)
 
 
 def found_compiler():
@@ -141,11 +155,11 @@ class Compiler:
         sources = [it for it in self.request.files if ending_of(it) != ".s"]
         made = [f"{work}/{number}-{os.path.basename(it)}{self.ending}" for number, it in enumerate(sources)]
 
-        def compiled(source, path):
+        def compiled(both):
+            source, path = both
             more = [*self.kind, *self.by_level(), *self.dependencies(f"{path}.d"), "-o", path]
             return self.called(source, self.request.level, self.request.flags, *more)
-        with concurrent.futures.ThreadPoolExecutor() as lanes:
-            ran = list(lanes.map(compiled, sources, made))
+        ran = side_by_side(compiled, list(zip(sources, made)))
         self.told = "".join(it.stderr for it in ran)
         if any(it.returncode for it in ran):
             raise Fault(2, self.told.rstrip("\n"))

@@ -1,5 +1,4 @@
 """./cc and ./c++: from sources to an image that is accepted."""
-import dataclasses
 import os
 import re
 import shutil
@@ -14,8 +13,9 @@ from request import ending_of, request_of
 from runtime import Runtime
 from telling import Teller, demangled
 
-sys.path.insert(0, f"{TOP}/tools/debug")
+sys.path[:0] = [f"{TOP}/tools/debug", f"{TOP}/tools"]
 from origins import Files, Origins
+from standing import called, file_fault, make_stand
 
 # So many seconds of processor ./fit may take.
 SECONDS = 300
@@ -116,7 +116,7 @@ class Build:
         self.made = self.assembled()
         is_traced = self.request.is_traced or self.teller.has_namesakes
         self.origins = (Origins if is_traced else Files)(self.made, self.work)
-        words = [f"{TOP}/fit", *self.origins.given, "-o", self.source, *self.request.fitting]
+        words = [called("fit"), *self.origins.given, "-o", self.source, *self.request.fitting]
         ran, is_long = limited(words, SECONDS)
         if is_long:
             raise Fault(2, f"{self.request.name}: ./fit took more than {SECONDS} seconds of processor: compile by -Os, "
@@ -155,7 +155,7 @@ class Build:
 def assembled(source, image):
     """What ./sandbox tells of a source, or of its image; nothing where both are accepted."""
     for words in (["asm", source, image], ["verify", image]):
-        ran = subprocess.run([f"{TOP}/sandbox", *words], stdout=subprocess.PIPE, stderr=subprocess.STDOUT, text=True,
+        ran = subprocess.run([called("sandbox"), *words], stdout=subprocess.PIPE, stderr=subprocess.STDOUT, text=True,
                              errors="replace", check=False)
         if ran.returncode:
             return ran.stdout.strip()
@@ -188,7 +188,7 @@ def image_of(request, work):
     if level and level != request.level:
         size = "for size" if level == build.compiler.size_level else "more plainly"
         say(f"{request.name}: compiled again {size}, by {level}, since {why}")
-        build, told = image_by(dataclasses.replace(request, level=level), f"{work}/again")
+        build, told = image_by(request.at(level), f"{work}/again")
     build.keep()
     if build.ran.returncode:
         build.refuse()
@@ -240,6 +240,9 @@ def perform(request):
     """Does what was asked for; returns the status."""
     if request.prints:
         return preprocess(request)
+    status = make_stand(request.name, "fit", "sandbox")
+    if status:
+        return status
     with tempfile.TemporaryDirectory() as work:
         build = image_of(request, work)
         image = build.image
@@ -289,7 +292,7 @@ def main(name, words):
         say(*fault.lines, *usage)
         return fault.status
     except OSError as error:
-        say(f"{name}: {error.filename}: {error.strerror}")
+        say(f"{name}: {file_fault(error)}")
         return 4
     except KeyboardInterrupt:
         return 130

@@ -1,6 +1,6 @@
 """What the words of ./cc and ./c++ ask for."""
 import collections
-import dataclasses
+import copy
 import os
 import re
 
@@ -16,26 +16,22 @@ PASSED = r"-(I|D|U|std=|W|MP|MG|ftrapv|fwrapv|funsigned-char|fsigned-char|fno-bu
 IDLE = r"-(lm|lc|pipe|g\w*|static|no-pie|fno-pic|fno-pie|fno-exceptions|fno-rtti|ffreestanding|s)"
 
 
-@dataclasses.dataclass
 class Request:
     """A call of cc."""
 
-    name: str = "cc"
-    files: list = dataclasses.field(default_factory=list)
-    out: str = None
-    level: str = "-O2"
-    flags: list = dataclasses.field(default_factory=list)
-    fitting: list = dataclasses.field(default_factory=list)
-    keep: str = None
-    arena: int = 65536
-    inputs: list = dataclasses.field(default_factory=list)
-    runs: bool = False
-    notes: bool = False
-    maps: bool = False
-    debugs: bool = False
-    prints: str = None
-    depends: str = None
-    dependencies: str = None
+    # (the module that writes such classes takes as long to load as all of these)
+    out = keep = prints = depends = dependencies = None
+    runs = notes = maps = debugs = False
+    level, arena = "-O2", 65536
+
+    def __init__(self, name="cc"):
+        self.name, self.files, self.flags, self.fitting, self.inputs = name, [], [], [], []
+
+    def at(self, level):
+        """The same call at another level."""
+        other = copy.copy(self)
+        other.level = level
+        return other
 
     @property
     def is_traced(self):
@@ -63,7 +59,7 @@ class Words:
 
     def __init__(self, name, words):
         self.name, self.left = name, collections.deque(words)
-        self.request = Request(name=name)
+        self.request = Request(name)
 
     def fault(self, text):
         """A word that asks for nothing."""
@@ -116,7 +112,7 @@ class Words:
         while self.left and not self.left[0].startswith("-") and ending_of(self.left[0]) not in ENDINGS:
             path = self.left.popleft()
             if not os.path.exists(path):
-                raise Fault(4, f"{self.name}: --against: {path}: no such file or folder")
+                raise Fault(4, f"{self.name}: --against: {path}: no such file")
             inside = sorted(os.listdir(path)) if os.path.isdir(path) else None
             self.request.inputs += [path] if inside is None else [f"{path}/{it}" for it in inside]
         if not self.request.inputs:

@@ -7,6 +7,7 @@ import sys
 
 from compilers import PLUS, TOP
 from fault import Fault
+from standing import called
 from request import ending_of, is_plus
 
 sys.path.insert(0, f"{TOP}/tools/debug")
@@ -21,7 +22,7 @@ MOST_TURNS = 9999999999
 
 def end_of(image, given):
     """The exit word of a run on an input, or None where it can't be told."""
-    words = [f"{TOP}/inspect", "run", "--limit", str(MOST_TURNS), image]
+    words = [called("inspect"), "run", "--limit", str(MOST_TURNS), image]
     ran = subprocess.run(words, input=given, stdout=subprocess.PIPE, stderr=subprocess.DEVNULL, check=False)
     told = ran.stdout.decode("utf-8", "replace")
     word = re.search(r"^end: exit with the word ([0-9A-F]{8})$", told, re.M)
@@ -31,7 +32,7 @@ def end_of(image, given):
 def run_image(request, image, mapped):
     """Runs an image on standard input; returns the status."""
     given = sys.stdin.buffer.read()
-    ran = subprocess.run([f"{TOP}/sandbox", "run", image], input=given, check=False)
+    ran = subprocess.run([called("sandbox"), "run", image], input=given, check=False)
     told = end_told(image, given, mapped) if ran.returncode == 1 else None
     if told is not None:
         print(f"{request.name}: {told}", file=sys.stderr)
@@ -94,7 +95,7 @@ class Comparison:
         wanted = self.natively(given)
         if wanted is None:
             return f"natively no end after {SECONDS} seconds"
-        came = subprocess.run([f"{TOP}/sandbox", "run", self.image], input=given, stdout=subprocess.PIPE, check=False)
+        came = subprocess.run([called("sandbox"), "run", self.image], input=given, stdout=subprocess.PIPE, check=False)
         word = end_of(self.image, given) if came.returncode else 0
         parts = [difference(wanted[0], came.stdout)]
         if self.ends_differ(wanted[1], word):

@@ -1,12 +1,11 @@
 """The library of runtime/, made once for each compiler, and kept."""
-import concurrent.futures
 import glob
 import hashlib
 import os
 import subprocess
 import tempfile
 
-from compilers import HEADERS, PLUS, TOP
+from compilers import HEADERS, PLUS, TOP, runtime_files, side_by_side
 from fault import Fault
 from kept import settle
 
@@ -23,10 +22,9 @@ class Runtime:
         settings = (version, compiler.target, compiler.kind, compiler.size_level, compiler.library_flags, HEADERS,
                     PLUS, WORDS, self.request.arena, self.request.is_plus)
         digest = hashlib.sha256(repr(settings).encode())
-        for path in sorted(glob.glob(f"{TOP}/runtime/**/*", recursive=True)):
-            if os.path.isfile(path):
-                with open(path, "rb") as file:
-                    digest.update(path[len(TOP) :].encode() + file.read())
+        for path in runtime_files():
+            with open(path, "rb") as file:
+                digest.update(path[len(TOP) :].encode() + file.read())
         cache = os.path.expanduser(os.environ.get("XDG_CACHE_HOME") or "~/.cache")
         self.folder = f"{cache}/geyserpan/cc/{digest.hexdigest()[:32]}"
         try:
@@ -38,24 +36,23 @@ class Runtime:
         """Where a part is kept."""
         return f"{self.folder}/{name}"
 
-    def made(self, source, ending, *words):
-        """Compiles a source of the library, where it isn't kept; returns the path."""
-        path = self.place(f"{os.path.basename(os.path.dirname(source))}-{os.path.basename(source)}{ending}")
-        if not os.path.exists(path):
-            handle, draft = tempfile.mkstemp(ending, dir=self.folder)
-            os.close(handle)
-            flags = [*WORDS, f"-DGEYSERPAN_ARENA={self.request.arena}"]
-            ran = self.compiler.called(source, self.compiler.size_level, flags, *words, "-o", draft)
-            if ran.returncode:
-                os.unlink(draft)
-                raise Fault(125, f"{self.request.name}: {source} can't be compiled: {ran.stderr}")
-            settle(draft, path)
-        return path
+    def make(self, source, path, words):
+        """Compiles a source of the library to a path."""
+        handle, draft = tempfile.mkstemp(os.path.splitext(path)[1], dir=self.folder)
+        os.close(handle)
+        flags = [*WORDS, f"-DGEYSERPAN_ARENA={self.request.arena}"]
+        ran = self.compiler.called(source, self.compiler.size_level, flags, *words, "-o", draft)
+        if ran.returncode:
+            os.unlink(draft)
+            raise Fault(125, f"{self.request.name}: {source} can't be compiled: {ran.stderr}")
+        settle(draft, path)
 
-    def all(self, sources, *words):
-        """Compiles sources side by side; returns the paths."""
-        with concurrent.futures.ThreadPoolExecutor() as lanes:
-            return list(lanes.map(lambda it: self.made(it, *words), sorted(sources)))
+    def all(self, sources, ending, *words):
+        """Compiles those of the library's sources that aren't kept, side by side; returns the paths of all."""
+        paths = {it: self.place(f"{os.path.basename(os.path.dirname(it))}-{os.path.basename(it)}{ending}")
+                 for it in sorted(sources)}
+        side_by_side(lambda it: self.make(*it, words), [it for it in paths.items() if not os.path.exists(it[1])])
+        return list(paths.values())
 
     def objects(self, *words):
         """The C library, and what C++ has of it."""

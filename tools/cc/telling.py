@@ -1,13 +1,13 @@
 """What is told of tests, refusals and faults: by file, line and function of C, and what to write."""
 import collections
-import glob
+import functools
 import os
 import re
 import shutil
 import subprocess
 
 from assembly import files_of, plain_objects, where
-from compilers import TOP
+from compilers import TOP, runtime_files
 
 # So many notes are told line by line.
 FEW = 10
@@ -49,7 +49,7 @@ class Teller:
     def __init__(self, request, assembly, helpers, work):
         self.request, self.assembly, self.work = request, assembly, work
         self.paths, self.known = {}, {}
-        self.library = {os.path.basename(it) for it in glob.glob(f"{TOP}/runtime/**/*.*", recursive=True)}
+        self.library = set(map(os.path.basename, runtime_files()))
         for path in [*assembly.files.values(), *(path for it in helpers for path in files_of(it)), *request.files]:
             self.paths.setdefault(os.path.basename(path), set()).add(self.shown(path))
 
@@ -111,14 +111,18 @@ class Teller:
         rest = [count for _, count in counts.most_common()[FEW:]]
         return ", ".join([*told, f"{len(rest)} more {sum(rest)}"] if rest else told)
 
-    def function(self, name, line):
-        """The function that a line of C stands in, as well as the text tells; else the file's name."""
+    @functools.lru_cache(maxsize=None)
+    def lines_of(self, name):
+        """The lines of a source; none where it can't be read."""
         try:
             with open(self.path(name), encoding="utf-8", errors="replace") as file:
-                lines = file.read().splitlines()[:line]
+                return file.read().splitlines()
         except OSError:
-            return name
-        for text in reversed(lines):
+            return []
+
+    def function(self, name, line):
+        """The function that a line of C stands in, as well as the text tells; else the file's name."""
+        for text in reversed(self.lines_of(name)[:line]):
             text = re.sub(r"__attribute__\(\(.*?\)\)\s*", "", text)
             head = re.match(r"(?!typedef|#|//|/\*| \*)[A-Za-z_][^;={}]*?(\w+)\s*\((?!.*;\s*$)", text)
             if head and head[1] not in ("if", "for", "while", "switch", "__attribute__", "sizeof", "return"):

@@ -7,8 +7,9 @@ import tempfile
 
 from effects import bit, written
 from exits import CALLED, NO_FUNCTION, TOLD, failing, telling
-from loaded import TOP, Fault, tool
+from loaded import Fault, tool
 from maps import MOST_LINE, UNKNOWN
+from standing import called
 from tape import Turn
 
 # What a test's kind says, by the upper half of an exit word, and the signal that it comes as; the lower half is its
@@ -149,7 +150,7 @@ def told_of(word, place=None):
 
 def look_at_end(path, given, ending):
     """Looks through the last turns of a run on an open input, by the lines of its states, for the test it ended in."""
-    words = [f"{TOP}/inspect", "states", "--windows", str(WINDOWS), "--limit", str(ending.turns), path]
+    words = [called("inspect"), "states", "--windows", str(WINDOWS), "--limit", str(ending.turns), path]
     with subprocess.Popen(words, stdin=given, stdout=subprocess.PIPE, bufsize=1 << 20) as told:
         lines = list(collections.deque(told.stdout, maxlen=LAST))
     turns = (Turn(it.decode()) for it in reversed(lines[:-1]) if is_own(it))

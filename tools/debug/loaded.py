@@ -5,9 +5,10 @@ import subprocess
 import sys
 
 TOP = os.path.dirname(os.path.dirname(os.path.dirname(os.path.abspath(__file__))))
-sys.path.insert(0, f"{TOP}/tools/page")
+sys.path[:0] = [f"{TOP}/tools/page", f"{TOP}/tools"]
 from declared import HEADER, REGION, REGIONS_HEADER, Declared, Handlers
 from memory import CODE, DATA, PAGE, PAGES, SYSTEM, TABLES, table_words
+from standing import FAULTS, called
 
 __all__ = ["CODE", "DATA", "TOP", "Fault", "Loaded", "physical", "tool"]
 STACK_END = 0x100000
@@ -24,7 +25,7 @@ class Fault(Exception):
 
 def tool(program, *words, given=None):
     """What one of the repository's programs prints; what it told goes on where it fails."""
-    ran = subprocess.run([f"{TOP}/{program}", *words], stdin=given or subprocess.DEVNULL, stdout=subprocess.PIPE,
+    ran = subprocess.run([called(program), *words], stdin=given or subprocess.DEVNULL, stdout=subprocess.PIPE,
                          stderr=subprocess.PIPE, check=False)
     if ran.returncode:
         why = ran.stderr.decode("utf-8", "replace").strip() or f"{program}: status {ran.returncode}"
@@ -34,8 +35,7 @@ def tool(program, *words, given=None):
 
 def unread(path, error):
     """The fault of a file that can't be read, in the words of docs/use/faults.md."""
-    is_missing = isinstance(error, (FileNotFoundError, NotADirectoryError))
-    return Fault(4, f"inspect: {path}: {'no such file' if is_missing else error.strerror.lower()}")
+    return Fault(4, f"inspect: {path}: {FAULTS.get(error.errno, error.strerror.lower())}")
 
 
 def bytes_of(path):

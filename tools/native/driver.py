@@ -22,6 +22,9 @@ sys.dont_write_bytecode = True
 from cache import Cache
 from compilers import HEADERS, TOP, Failed, compiler_of
 
+sys.path.insert(0, f"{TOP}/tools")
+from standing import file_fault
+
 RUN = f"{HEADERS}/geyserpan_native_run.c"
 HEADER = f"{HEADERS}/geyserpan_native.h"
 OTHER_WORDS, FAILED = 3, 4
@@ -151,7 +154,7 @@ def main(words):
     except Failed as failed:
         print(f"native: {failed}", file=sys.stderr)
     except OSError as error:
-        print(f"native: {error.filename or 'a file'}: {error.strerror}", file=sys.stderr)
+        print(f"native: {file_fault(error)}", file=sys.stderr)
     except KeyboardInterrupt:
         return 130
     return FAILED

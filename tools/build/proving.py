@@ -1,0 +1,190 @@
+# Proves programs, and the libraries below them, from nothing and side by side, as `rt ci` does: each crate over the
+# statements of those below it, which takes half of what a proof takes that others can go on from.
+import os
+import shutil
+import tempfile
+from concurrent.futures import FIRST_COMPLETED, ThreadPoolExecutor, wait
+
+from kept import Kept, made_of, sweep
+from libraries import MOST_JOBS, ROOMS, TOP, Failed, all_below, crates, lowest_first
+from standing import path_of
+
+ANEW = f"{TOP}/tools/build/rt-anew"
+# A build's room begins so.
+PREFIX = "build."
+# The processor seconds of a crate's proof, as they were measured of all: each, each line of code, of specifications and
+# proofs, and of the libraries below, whose statements are read; a program is compiled, too.
+EACH, A_LINE, A_PROOF_LINE, A_LINE_BELOW, A_LINE_COMPILED = 10, 0.06, 0.004, 0.0005, 0.003
+# A crate that is checked with several jobs takes so much more memory, and less time, for each further one.
+MORE_MEMORY, GAIN = 0.6, 0.5
+
+
+def lines_in(folder):
+    """The lines of the files below a folder."""
+    count = 0
+    for at, _, names in os.walk(folder):
+        for name in names:
+            with open(f"{at}/{name}", "rb") as file:
+                count += file.read().count(b"\n")
+    return count
+
+
+class Plan:
+    """What has to be proved for some programs, and in which order."""
+
+    def __init__(self, rt, programs):
+        listed = crates()
+        wanted = set(programs).union(*(all_below(it, listed) for it in programs))
+        self.names = [it for it in lowest_first(listed) if it in wanted]
+        self.below = {it: [low for low in self.names if low in all_below(it, listed)] for it in self.names}
+        self.programs, self.sums = programs, {}
+        with open(f"{rt.KIT}/WHAT", encoding="utf-8") as file:
+            self.kit = file.read()
+        with open(f"{TOP}/crates.txt", encoding="utf-8") as file:
+            self.listed = [it for it in file if it[:1].isalpha()]
+        known, rt.rtlib.Crate = {}, rt.Crate
+        self.memory = {it: rt.need(rt.Crate(f"{TOP}/crates/{it}", TOP, known)) for it in self.names}
+        self.seconds = self.reckoned()
+        sweep(listed)
+        for it in self.names:
+            self.stands(it)
+        self.left = [it for it in self.names if it not in self.sums]
+        self.behind = self.chains()
+
+    def reckoned(self):
+        """The processor seconds that each crate is reckoned to take."""
+        own = {it: lines_in(f"{TOP}/crates/{it}/src") for it in self.names}
+        seconds = {}
+        for it in self.names:
+            below = sum(own[low] for low in self.below[it])
+            proofs = lines_in(f"{TOP}/crates/{it}/specs") + lines_in(f"{TOP}/crates/{it}/proofs")
+            seconds[it] = EACH + A_LINE * own[it] + A_PROOF_LINE * proofs + A_LINE_BELOW * below
+            if it in self.programs:
+                seconds[it] += A_LINE_COMPILED * below
+        return seconds
+
+    def chains(self):
+        """The seconds of the longest chain of crates that wait for each one, with its own."""
+        longest = {it: self.seconds[it] for it in self.left}
+        for name in reversed(self.left):
+            for it in self.below[name]:
+                if it in longest:
+                    longest[it] = max(longest[it], self.seconds[it] + longest[name])
+        return longest
+
+    def made_of(self, name):
+        """The sum of what a crate is made of, once the sums of all below it are known."""
+        return made_of(name, self.kit, self.listed, {it: self.sums[it] for it in self.below[name]})
+
+    def stands(self, name):
+        """Whether a library stands proved; if so, its sum is known then."""
+        if name in self.programs or not all(it in self.sums for it in self.below[name]):
+            return False
+        was_made_of, found = Kept(name).note()
+        if was_made_of != self.made_of(name):
+            return False
+        self.sums[name] = found
+        return True
+
+    def ready(self, left, given):
+        """Those left that wait for none, the longest chain first."""
+        return sorted((it for it in left if given.issuperset(self.below[it])), key=lambda it: -self.behind[it])
+
+    def minutes(self, lanes):
+        """The minutes that so many processors are reckoned to take."""
+        left, given, running, now = list(self.left), set(self.sums), {}, 0
+        while left or running:
+            ready = self.ready(left, given)
+            for at, it in enumerate(ready[: lanes - len(running)]):
+                jobs = jobs_of(lanes - len(running), len(ready) - at)
+                left.remove(it)
+                running[it] = now + self.seconds[it] / (1 + GAIN * (jobs - 1))
+            done = min(running, key=running.get)
+            now = running.pop(done)
+            given.add(done)
+        return max(1, round(now / 60))
+
+
+def jobs_of(idle, waiting):
+    """How many of the processors that are idle one crate gets where so many wait."""
+    return max(1, min(idle // waiting, MOST_JOBS))
+
+
+class Build:
+    """A build of what a plan has left, in a room."""
+
+    def __init__(self, rt, children, plan, tell):
+        self.rt, self.children, self.plan, self.tell, self.room = rt, children, plan, tell, None
+
+    def made(self, name, jobs):
+        """Proves and builds one crate over those below it, which stand in the room; returns a library's sum."""
+        plan = self.plan
+        made = plan.made_of(name)
+        status, said = self.children.run([ANEW, name, self.room, str(jobs)], TOP)
+        if status:
+            raise Failed(f"{told(said)}{name} could not be built")
+        if plan.made_of(name) != made:
+            raise Failed(f"the sources of {name} have changed while it was proved: call again")
+        if name not in plan.programs:
+            return Kept(name).keep(self.room, made)
+        os.replace(f"{self.room}/{os.path.basename(path_of(name))}", path_of(name))
+        return made
+
+    def given(self, name, jobs):
+        """The sum of a library that stands after all, since what is below it came out as it was, or is proved now."""
+        if self.plan.stands(name):
+            Kept(name).lay_out(self.room)
+            return self.plan.sums[name]
+        return self.made(name, jobs)
+
+    def begin(self, pool, left, running, memory):
+        """Begins what there are processors and memory for."""
+        lanes, ready = self.rt.processors(), self.plan.ready(left, set(self.plan.sums))
+        for at, it in enumerate(ready):
+            idle = lanes - sum(jobs for _, jobs, _ in running.values())
+            needs, room = self.plan.memory[it], memory - sum(it for _, _, it in running.values())
+            if idle < 1 or running and needs > room:
+                continue
+            spare = 1 + int(max(0, room / needs - 1) / MORE_MEMORY)
+            jobs = min(jobs_of(idle, len(ready) - at), spare)
+            left.remove(it)
+            running[pool.submit(self.given, it, jobs)] = it, jobs, needs * (1 + MORE_MEMORY * (jobs - 1))
+
+    def all(self):
+        """Proves and builds all that is left; raises Failed with what the first failure said."""
+        for it in self.plan.programs:
+            os.makedirs(f"{TOP}/crates/{it}/out", exist_ok=True)
+        os.makedirs(ROOMS, exist_ok=True)
+        for it in os.listdir(ROOMS):
+            if it.startswith(PREFIX):
+                shutil.rmtree(f"{ROOMS}/{it}", ignore_errors=True)
+        self.room = tempfile.mkdtemp(prefix=PREFIX, dir=ROOMS)
+        try:
+            for it in self.plan.sums:
+                Kept(it).lay_out(self.room)
+            self.in_lanes()
+        finally:
+            self.children.end()
+            shutil.rmtree(self.room, ignore_errors=True)
+
+    def in_lanes(self):
+        """Proves side by side, as many at a time as processors and memory allow."""
+        left, running, memory, count = list(self.plan.left), {}, 0.85 * self.rt.free(), 0
+        with ThreadPoolExecutor(self.rt.processors()) as pool:
+            try:
+                while left or running:
+                    self.begin(pool, left, running, memory)
+                    for it in wait(running, return_when=FIRST_COMPLETED).done:
+                        name, _, _ = running.pop(it)
+                        self.plan.sums[name] = it.result()
+                        count += 1
+                        self.tell(name, count)
+            except BaseException:
+                self.children.end()
+                raise
+
+
+def told(said):
+    """What a proof that fails said, without the functions that are proved and the counts of what was read."""
+    quiet = (": proved", " checked=0")
+    return "".join(f"{it}\n" for it in said.splitlines() if not it.endswith(quiet))
