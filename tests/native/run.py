@@ -21,11 +21,13 @@ import stat
 import subprocess
 import sys
 import tempfile
+import time
 
 sys.dont_write_bytecode = True
 HERE = os.path.dirname(os.path.abspath(__file__))
 sys.path[:0] = [f"{os.path.dirname(HERE)}/lib", HERE]
 from run import EXAMPLES, FIT, SANDBOX, TOP, Ran, built, bytes_of, program, put, run, text_of
+from shapes import SHAPES, branches, calls, source_of, straight
 from speed import dense_source, speed
 from tally import Tally, Words
 
@@ -193,10 +195,28 @@ def fake_compiler(room, name, script):
     return path
 
 
+def greatest(tally, room):
+    """Images that are made to be slow to compile: one block of as many words as there may be, as many blocks as there
+    may be, which go to the last one, and as many functions as there may be, each below the one before."""
+    for shape in (straight, branches, calls):
+        count, *_ = SHAPES[shape]
+        source, image = put(f"{room}/{shape.__name__}.s", source_of(shape, count)), f"{room}/{shape.__name__}.img"
+        made = run([SANDBOX, "asm", source, image])
+        tally.check(f"an image of {shape.__name__}", made.status == 0, made.said[:200])
+        given = bytes(k * 7 % 251 for k in range(70_000))
+        board = run([SANDBOX, "run", image], given)
+        began = time.monotonic()
+        here = run([NATIVE, "run", image], given, 200, env={**os.environ, "XDG_CACHE_HOME": f"{room}/cache"})
+        how = "on the engine" if b"engine" in here.err else "compiled"
+        print(f"{shape.__name__}: {how}, after {time.monotonic() - began:.0f} seconds", flush=True)
+        tally.same(f"{shape.__name__}: output and status", (here.out, here.status), (board.out, board.status))
+
+
 def limits(tally, _asked):
     built("sandbox", "host")
     hello = f"{EXAMPLES}/hello/hello.img"
     with tempfile.TemporaryDirectory() as room:
+        greatest(tally, room)
         put(f"{room}/dense.s", dense_source(65_000).encode())
         made = run([SANDBOX, "asm", f"{room}/dense.s", f"{room}/dense.img"])
         tally.check("a block of 65,000 words", made.status == 0, made.said[:200])
