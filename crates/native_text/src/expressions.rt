@@ -1,10 +1,17 @@
 //! Expressions in C, each in brackets of its own.
+ghost use Rattle.std.specs.Prelude.{◌≡◌, ℕ, List, ◌++◌, OnOk};
+ghost use Rattle.native_text.specs.Spelling.{applied_text, term_text};
+ghost use Rattle.native_text.specs.Terms.{term_of};
+ghost use Rattle.native_text.specs.Words.{IsWordTerm};
+
 use crate::text::ProgramText;
 use native_lang::{Expr, Operator};
 use std::alloc::AllocError;
 
 /// What stands before the first operand, between the two, and behind the second.
-fn signs_of(operator: Operator) -> (&'static str, &'static str, &'static str) {
+fn signs_of(operator: Operator) -> (&'static str, &'static str, &'static str)
+    ensures { (a b : List ℕ) → applied_text operator a b ≡ result.0.now ++ a ++ result.1.now ++ b ++ result.2.now }
+{
     match operator {
         Operator::Sum => ("(", " + ", ")"),
         Operator::Difference => ("(", " - ", ")"),
@@ -25,7 +32,10 @@ fn signs_of(operator: Operator) -> (&'static str, &'static str, &'static str) {
 
 impl ProgramText {
     /// An expression.
-    pub(crate) fn expression(&mut self, e: &Expr) -> Result<(), AllocError> {
+    pub(crate) fn expression(&mut self, e: &Expr) -> Result<(), AllocError>
+        ensures text { OnOk result (self.new ≡ self.old ++ term_text (term_of e.now)) }
+        ensures words { OnOk result (IsWordTerm (term_of e.now)) }
+    {
         match e {
             Expr::Number(word) => self.word(*word),
             Expr::Variable(x) => self.variable(*x),

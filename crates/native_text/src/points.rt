@@ -1,16 +1,31 @@
 //! Where a run by steps may pause: before each byte that it gets or puts, where a loop begins again, and behind a call.
 //! So it passes each block once at most between two places where it may pause.
+ghost use Rattle.std.specs.Prelude.{◌≡◌, false, slice_get};
+ghost use Rattle.native_text.specs.Terms.{action_of};
+ghost use Rattle.native_text.specs.Lines.{marked};
+ghost use Rattle.native_text.specs.Spelling.{action_codes};
+
 use native_lang::variables::{CARRY, NEGATIVE};
 use native_lang::{Arm, BlockEnd, ProgramBlock, Stmt};
 use std::alloc::{AllocError, Global};
 
 /// The labels where a pause may be made.
 #[derive(Drop)]
-struct Heads {
-    marks: Vec<bool>,
+pub(crate) struct Heads {
+    pub marks: Vec<bool>,
 }
 
 impl Heads {
+    /// Whether a label is marked.
+    pub(crate) fn has(&self, label: u32) -> bool
+        ensures { result ≡ marked (slice_get self.now.marks.items label) }
+    {
+        match self.marks.get(label as usize) {
+            Some(mark) => *mark,
+            None => false,
+        }
+    }
+
     /// Marks a label.
     fn mark(&mut self, label: u32) {
         if let Some(mark) = self.marks.get_mut(label as usize) {
@@ -35,10 +50,7 @@ impl Heads {
 
 /// Of each label, whether a block of that label or a higher one goes to it, which each loop has one of, or a function
 /// returns to it.
-pub(crate) fn pause_points(
-    alloc: Global,
-    blocks: &[ProgramBlock],
-) -> Result<Vec<bool>, AllocError> {
+pub(crate) fn pause_points(alloc: Global, blocks: &[ProgramBlock]) -> Result<Heads, AllocError> {
     let mut marks = Vec::new(alloc);
     marks.resize(blocks.len(), false)?;
     let mut heads = Heads { marks };
@@ -53,12 +65,14 @@ pub(crate) fn pause_points(
             BlockEnd::Exit(_) => {}
         }
     }
-    Ok(heads.marks)
+    Ok(heads)
 }
 
 /// Whether a statement makes condition codes. Codes and Y are undefined where a block of an accepted image begins, so a
 /// pause in one keeps the codes only where a statement before it made them.
-pub(crate) fn makes_codes(stmt: &Stmt) -> bool {
+pub(crate) fn makes_codes(stmt: &Stmt) -> bool
+    ensures { action_codes false (action_of stmt.now) ≡ result }
+{
     match stmt {
         Stmt::Set(x, _) => *x >= NEGATIVE && *x <= CARRY,
         _ => false,

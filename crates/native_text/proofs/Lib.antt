@@ -1,0 +1,10 @@
+pub mod Arms
+pub mod Blocks
+pub mod Bytes
+pub mod Bodies
+pub mod Readings
+pub mod Worded
+pub mod Letters
+pub mod Phrases
+pub mod Written
+pub mod Once
