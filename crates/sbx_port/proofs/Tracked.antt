@@ -203,7 +203,7 @@ stands_beside n met j w s t f empty = record {
   output = f.device.4 ∙ ap (λ (o : List ℕ). w ++ o) empty ∙ append-nil w;
 }
 
-runs_as : (n k limit : ℕ) (start : State n) (read : List ℕ) (met : Bool) (w : List ℕ) (s : State n) → Tracks n start k read met w s
+pub runs_as : (n k limit : ℕ) (start : State n) (read : List ℕ) (met : Bool) (w : List ℕ) (s : State n) → Tracks n start k read met w s
     → s.world.memory.device.output ≡ [] → k ≤ limit → (ending_of n s.world ≡ None → k ≡ limit) → RunsAs n start limit s read met w
 runs_as n k limit start read met w s tracks empty within whole = λ j.
     let (mid, counted, follows) = tracks j in
@@ -214,7 +214,7 @@ runs_as n k limit start read met w s tracks empty within whole = λ j.
     )
 
 -- the run goes on from here, to an end or to the limit
-runs_on : (n k limit : ℕ) (start : State n) (read : List ℕ) (met : Bool) (w : List ℕ) (s : State n) → Tracks n start k read met w s → k ≤ limit
+pub runs_on : (n k limit : ℕ) (start : State n) (read : List ℕ) (met : Bool) (w : List ℕ) (s : State n) → Tracks n start k read met w s → k ≤ limit
     → (j : List ℕ) → (end : State n) × IsRun n limit (with_input start (read ++ beyond met j)) end
     × (rest : List ℕ) × (end.world.memory.device.output ≡ w ++ (s.world.memory.device.output ++ rest))
 runs_on n k limit start read met w s tracks within = λ j.

@@ -1,7 +1,6 @@
 -- What each thing that happens to a board leaves of a run in pieces, and what the run says of its output.
-use Rattle.std.proofs.Common.{◌≡◌, ℕ, zero, suc, ◌+◌, ◌-◌, ◌<◌, ◌≤◌, ◌⊎◌, inl, inr, Bool, true, false, List, [], ◌∷◌, ◌++◌, length, Option, None, Some, refl}
+use Rattle.std.proofs.Common.{◌≡◌, ℕ, zero, suc, ◌-◌, ◌<◌, ◌≤◌, inl, inr, Bool, true, false, List, [], ◌∷◌, ◌++◌, length, Option, None, Some, refl}
 use Rattle.std.proofs.Common.{sym, ap, subst, ◌∙◌, append_assoc, arith, rules}
-use Rattle.std.proofs.lemmas.List.{append-nil}
 use Rattle.v8_core.specs.Cpu.{Cpu}
 use Rattle.v8_core.specs.MmuRegs.{MmuRegs}
 use Rattle.v8_core.specs.Stop.{Stop}
@@ -11,20 +10,18 @@ use Rattle.v8_loaded.specs.Layout.{Pages}
 use Rattle.v8_loaded.specs.States.{IsState}
 use Rattle.v8_board.specs.Contained.{Contents, IsContained}
 use Rattle.v8_board.specs.declared.outcome.Counts.{Counts}
-use Rattle.v8_board.specs.declared.outcome.Ending.{Ending}
 use Rattle.v8_board.specs.declared.outcome.Ending.TheVariants.{Exit}
 use Rattle.v8_board.specs.Contains.{Contains, Keeps}
-use Rattle.v8_board.specs.Runs.{IsRun, Turns, state_after, ending_or_limit, outcome_of}
-use Rattle.v8_board.specs.Seen.{State, ending_by, ending_of, turned}
+use Rattle.v8_board.specs.Runs.{IsRun, ending_or_limit, outcome_of}
+use Rattle.v8_board.specs.Seen.{State, ending_by, ending_of}
 use Rattle.v8_board.specs.Start.{IsStart, contents_of, pages_of}
-use Rattle.v8_board.proofs.Running.{Counted, one_turn_more}
+use Rattle.v8_board.proofs.Running.{Counted}
 use Rattle.sbx_image.specs.Parts.{Parts}
 use Rattle.sbx_flat.specs.Runs.{AreBytes, Behaves, FlatSafe, budget}
-use Rattle.sbx_port.specs.Following.{Fine, FollowsOn, beyond, with_input, with_output}
-use Rattle.sbx_port.specs.Ports.{mark, unknown}
-use Rattle.sbx_port.specs.Streams.{IsSlice, RunsAs, StandsBeside}
-use Rattle.sbx_port.proofs.Followed.{ending_follow, turn_follow}
-use Rattle.sbx_port.proofs.Tracked.{bytes_after, no_bytes, no_lack, nothing_came, tracks_first, way_delivered, way_sliced}
+use Rattle.sbx_port.specs.Following.{Fine, beyond, with_input, with_output}
+use Rattle.sbx_port.specs.Ports.{unknown}
+use Rattle.sbx_port.specs.Streams.{IsSlice, StandsBeside}
+use Rattle.sbx_port.proofs.Tracked.{bytes_after, no_bytes, no_lack, nothing_came, runs_as, runs_on, tracks_first, way_delivered, way_sliced}
 use Rattle.sbx_run.specs.Answer.{ExitsAsFlat}
 use Rattle.sbx_run.specs.WholeRuns.{IsImage}
 use Rattle.sbx_run.proofs.Ends.{safe_images_exit}
@@ -42,90 +39,6 @@ contained_with n g held mmu x i o c = record {
   kept = c.kept;
   mode = elim c.mode [ inl ended ↦ inl ended | inr running ↦ inr (record { running = running.running; mode = running.mode }) ];
 }
-
--- ---- whole runs, of which a board has made some turns. Output only grows.
-
-one_grows : (n : ℕ) (s : State n) → (rest : List ℕ) × ((turned n s).1.world.memory.device.output ≡ s.world.memory.device.output ++ rest)
-one_grows n s =
-    let d = s.world.memory.device in
-    let f : FollowsOn n true 0 [] [] d.output (with_output s []) s =
-    record { cpu = refl; ram = refl; device = (d.input, sym (append-nil d.input), sym (append-nil d.input), refl, sym (append-nil d.output), refl); mmu = refl; counts = refl } in
-    let t = turn_follow n true 0 [] [] d.output (with_output s []) s f tt in
-    ((turned n (with_output s [])).1.world.memory.device.output, t.1.device.4)
-
-output_grows : (n k d : ℕ) (s : State n) → (rest : List ℕ) × ((state_after n (k + d) s).world.memory.device.output ≡ (state_after n k s).world.memory.device.output ++ rest)
-output_grows n k zero s =
-    let here : k + 0 ≡ k = omega arith in
-    ([], ap (λ (i : ℕ). (state_after n i s).world.memory.device.output) here ∙ sym (append-nil (state_after n k s).world.memory.device.output))
-output_grows n k (suc d) s =
-    let before = output_grows n k d s in
-    let more = one_grows n (state_after n (k + d) s) in
-    let next : k + suc d ≡ suc (k + d) = omega arith in (
-      before.0 ++ more.0,
-      ap (λ (i : ℕ). (state_after n i s).world.memory.device.output) next ∙ more.1 ∙ ap (λ (w : List ℕ). w ++ more.0) before.1
-          ∙ append_assoc (state_after n k s).world.memory.device.output before.0 more.0,
-    )
-
-ended_or_not : (o : Option Ending) → (o ≡ None) ⊎ (o ≡ None → ⊥)
-ended_or_not None = inl refl
-ended_or_not (Some e) = inr (λ none. search rules)
-
--- some turns within the limit go on to a whole run
-goes_to_the_end : (n limit gap : ℕ) (old mid : State n) (t : Turns n old mid) → t.count + gap ≡ limit
-    → (end : State n) × (run : IsRun n limit old end) × (d : ℕ) × (run.turns.count ≡ t.count + d)
-goes_to_the_end n limit zero old mid t is = (mid, record { turns = t; within = omega arith; whole = λ none. omega arith }, 0, omega arith)
-goes_to_the_end n limit (suc gap) old mid t is =
-    elim (ended_or_not (ending_of n mid.world)) [
-      | inl none ↦
-          let more = one_turn_more n t.count old mid (turned n mid).1 (turned n mid).0 (t, refl) none refl in
-          let sum : more.0.count + gap ≡ limit = omega (arith, more.1, is) in
-          let whole = goes_to_the_end n limit gap old (turned n mid).1 more.0 sum in
-          (whole.0, whole.1, suc whole.2, omega (arith, more.1, whole.3))
-      | inr over ↦ (mid, record { turns = t; within = omega (arith, is); whole = λ none. absurd (over none) }, 0, omega arith)
-    ]
-
-stands_beside : (n : ℕ) (met : Bool) (j w : List ℕ) (s t : State n) → FollowsOn n met mark [] j w s t → s.world.memory.device.output ≡ [] → StandsBeside n w s t
-stands_beside n met j w s t f empty = record {
-  cpu = f.cpu;
-  ram = f.ram;
-  stopped = f.device.5;
-  mmu = f.mmu;
-  counts = f.counts;
-  output = f.device.4 ∙ ap (λ (o : List ℕ). w ++ o) empty ∙ append-nil w;
-}
-
-runs_as : (n k limit : ℕ) (start : State n) (read : List ℕ) (met : Bool) (w : List ℕ) (s : State n) → Tracks n start k read met w s
-    → s.world.memory.device.output ≡ [] → k ≤ limit → (ending_of n s.world ≡ None → k ≡ limit) → RunsAs n start limit s read met w
-runs_as n k limit start read met w s tracks empty within whole = λ j.
-    let (mid, counted, follows) = tracks j in
-    let (t, so_many) = counted in (
-      mid,
-      record { turns = t; within = omega arith; whole = λ none. so_many ∙ whole (ending_follow n met mark [] j w s mid follows ∙ none) },
-      stands_beside n met j w s mid follows empty,
-    )
-
--- the run goes on from here, to an end or to the limit
-runs_on : (n k limit : ℕ) (start : State n) (read : List ℕ) (met : Bool) (w : List ℕ) (s : State n) → Tracks n start k read met w s → k ≤ limit
-    → (j : List ℕ) → (end : State n) × IsRun n limit (with_input start (read ++ beyond met j)) end
-    × (rest : List ℕ) × (end.world.memory.device.output ≡ w ++ (s.world.memory.device.output ++ rest))
-runs_on n k limit start read met w s tracks within = λ j.
-    let (mid, counted, follows) = tracks j in
-    let (t, so_many) = counted in
-    let from = with_input start (read ++ beyond met j) in
-    let gap : t.count + (limit - t.count) ≡ limit = omega arith in
-    let (end, run, d, sum) = goes_to_the_end n limit (limit - t.count) from mid t gap in
-    let grown = output_grows n t.count d from in
-    let o = s.world.memory.device.output in (
-      end,
-      run,
-      grown.0,
-      ap (λ (u : State n). u.world.memory.device.output) run.turns.is
-          ∙ ap (λ (i : ℕ). (state_after n i from).world.memory.device.output) sum
-          ∙ grown.1
-          ∙ ap (λ (u : State n). u.world.memory.device.output ++ grown.0) (sym t.is)
-          ∙ ap (λ (p : List ℕ). p ++ grown.0) follows.device.4
-          ∙ append_assoc w o grown.0,
-    )
 
 -- ---- a beginning
 
