@@ -1,8 +1,7 @@
 -- The lines of a body, block after block.
 use Rattle.std.proofs.Common.{◌≡◌, ℕ, suc, ◌+◌, ◌<◌, Bool, false, List, [], ◌∷◌, ◌++◌, length, drop, get_or, refl, sym, ap, ◌∙◌, append_assoc, add-one, drop-cons}
-use Rattle.std.specs.Prelude.{slice_get}
 use Rattle.native_lang.specs.declared.program.ProgramBlock.{ProgramBlock}
-use Rattle.native_text.specs.Lines.{CodeLine, block_lines, body_lines, marked, next_number}
+use Rattle.native_text.specs.Lines.{CodeLine, block_lines, body_lines, next_number}
 use Rattle.native_text.specs.Spelling.{lines_text, all_points}
 use Rattle.native_text.specs.Programs.{bodies_text, twice_text}
 use Rattle.native_text.proofs.Blocks.{all_codes, lines_text-append, all_points-append}
@@ -28,7 +27,7 @@ front_of xs i x lt is = rw add-one (drop-cons xs i x lt ∙ ap (λ y. y ∷ drop
 
 -- one block more: the text
 pub body-text-more : (marks : List Bool) (blocks : List ProgramBlock) (i n m label : ℕ) (is_head : Bool) (block : ProgramBlock) (whole old new : List ℕ)
-    → i < length blocks → block ≡ get_or blocks i block → is_head ≡ marked (slice_get marks label)
+    → i < length blocks → block ≡ get_or blocks i block → is_head ≡ get_or marks label false
     → old ++ lines_text n false (body_lines marks label (drop i blocks)) ≡ whole
     → new ≡ old ++ lines_text n false (block_lines label is_head block) → m ≡ all_points n (block_lines label is_head block)
     → new ++ lines_text m false (body_lines marks (next_number label) (drop (i + 1) blocks)) ≡ whole
@@ -46,7 +45,7 @@ body-text-more marks blocks i n m label is_head block whole old new lt is head s
 
 -- and the points
 pub body-points-more : (marks : List Bool) (blocks : List ProgramBlock) (i n m label whole : ℕ) (is_head : Bool) (block : ProgramBlock)
-    → i < length blocks → block ≡ get_or blocks i block → is_head ≡ marked (slice_get marks label)
+    → i < length blocks → block ≡ get_or blocks i block → is_head ≡ get_or marks label false
     → all_points n (body_lines marks label (drop i blocks)) ≡ whole
     → m ≡ all_points n (block_lines label is_head block)
     → all_points m (body_lines marks (next_number label) (drop (i + 1) blocks)) ≡ whole

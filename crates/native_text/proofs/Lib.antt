@@ -1,4 +1,5 @@
 pub mod Arms
+pub mod Marks
 pub mod Blocks
 pub mod Bytes
 pub mod Bodies

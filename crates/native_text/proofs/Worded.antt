@@ -1,8 +1,7 @@
 -- The numbers of lines and rows that are put together are words.
 use Rattle.std.proofs.Common.{◌≡◌, ℕ, ◌+◌, ◌<◌, Bool, true, false, List, [], ◌∷◌, ◌++◌, length, drop, get_or, sym, ap, subst, ◌∙◌}
-use Rattle.std.specs.Prelude.{slice_get}
 use Rattle.native_lang.specs.declared.program.ProgramBlock.{ProgramBlock}
-use Rattle.native_text.specs.Lines.{CodeLine, Label, block_lines, body_lines, head_lines, marked, next_number}
+use Rattle.native_text.specs.Lines.{CodeLine, Label, block_lines, body_lines, head_lines, next_number}
 use Rattle.native_text.specs.Words.{AreWordLines, AreWordRows, AreWords, IsWord}
 use Rattle.native_text.proofs.Bodies.{front_of}
 
@@ -25,7 +24,7 @@ rows-words (first ∷ rows) row v w = (v.0, rows-words rows row v.1 w)
 
 -- one block more: with the words of the blocks that are left the body's are whole
 pub body-words-more : (marks : List Bool) (blocks : List ProgramBlock) (i label : ℕ) (is_head : Bool) (block : ProgramBlock)
-    → i < length blocks → block ≡ get_or blocks i block → is_head ≡ marked (slice_get marks label)
+    → i < length blocks → block ≡ get_or blocks i block → is_head ≡ get_or marks label false
     → AreWordLines (block_lines label is_head block) → AreWordLines (body_lines marks (next_number label) (drop (i + 1) blocks))
     → AreWordLines (body_lines marks label (drop i blocks))
 body-words-more marks blocks i label is_head block lt is head v w =

@@ -1,3 +1,4 @@
+pub mod Pauses
 pub mod Terms
 pub mod Lines
 pub mod Spelling

@@ -1,5 +1,5 @@
 -- The lines of a program's body.
-use Rattle.std.specs.Prelude.{ℕ, ◌+◌, ◌%◌, ◌^◌, ◌==◌, Bool, List, [], ◌∷◌, ◌++◌, map, if◌then◌else◌, slice_get, Option, Some, None, false}
+use Rattle.std.specs.Prelude.{ℕ, ◌+◌, ◌%◌, ◌^◌, ◌==◌, Bool, List, [], ◌∷◌, ◌++◌, map, if◌then◌else◌, get_or, false}
 use Rattle.native_lang.specs.declared.stmt.Stmt.{Stmt}
 use Rattle.native_lang.specs.declared.program.Arm.{Arm}
 use Rattle.native_lang.specs.declared.program.ProgramBlock.{ProgramBlock}
@@ -40,13 +40,8 @@ block_lines label is_head block =
     Label label ∷ head_lines is_head ++ action_lines block.statements.items
     ++ ending_lines (next_number label) (ending_of block.end)
 
--- whether a label is marked
-abbrev pub marked : Option Bool → Bool
-marked None = false
-marked (Some mark) = mark
-
 -- the blocks from a label on, of which some are marked as heads
 abbrev pub body_lines : List Bool → ℕ → List ProgramBlock → List CodeLine
 body_lines marks label [] = []
 body_lines marks label (block ∷ blocks) =
-    block_lines label (marked (slice_get marks label)) block ++ body_lines marks (next_number label) blocks
+    block_lines label (get_or marks label false) block ++ body_lines marks (next_number label) blocks

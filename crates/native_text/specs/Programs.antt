@@ -22,7 +22,7 @@ joined (row ∷ rows) = row ++ joined rows
 abbrev pub array_text : List ℕ → List (List ℕ) → List ℕ
 array_text head rows = head ++ codes " = {\n" ++ rows_text rows ++ codes "    0};\n"
 
--- these bytes and zeros behind them are those bytes
+-- some bytes are these first ones, and zeros behind them
 abbrev pub IsPadded : List ℕ → List ℕ → Type 0
 IsPadded front bytes = bytes ≡ front ++ replicate (length bytes - length front) 0
 

@@ -70,7 +70,8 @@ action_text n has_codes (Divides x over sign y a b) =
     division_text sign ++ variable_text x ++ codes ", " ++ variable_text over ++ codes ", " ++ term_text y
     ++ codes ", " ++ term_text a ++ codes ", " ++ term_text b ++ codes ");\n"
 action_text n has_codes (Gets x) =
-    codes "    GET(" ++ decimal (next_number n) ++ codes ", " ++ keeping_text has_codes ++ variable_text x ++ codes ");\n"
+    codes "    GET(" ++ decimal (next_number n) ++ codes ", " ++ keeping_text has_codes ++ variable_text x
+    ++ codes ");\n"
 action_text n has_codes (Puts e) =
     codes "    PUT(" ++ decimal (next_number n) ++ codes ", " ++ keeping_text has_codes ++ term_text e ++ codes ");\n"
 action_text n has_codes (Counts k) = codes "    TURNS(" ++ word_text k ++ codes ");\n"

@@ -10,6 +10,7 @@ use Rattle.native_lang.specs.declared.program.Arm.{Arm}
 use Rattle.native_lang.specs.declared.program.BlockEnd.{BlockEnd}
 use Rattle.native_lang.specs.declared.program.BlockEnd.TheVariants as end
 use Rattle.native_lang.specs.declared.program.ProgramBlock.{ProgramBlock}
+use Rattle.native_text.specs.Pauses.{pauses}
 
 -- ---- expressions
 
@@ -53,13 +54,15 @@ action_of stmt.Pop = Pops
 
 -- ---- blocks
 
+-- on at a label; at the first label where the term isn't 0, else at the second; over, with an exit word; at the label
+-- whose word a variable holds
 pub data Ending : Type 0 where
   Onto : ℕ → Ending
   Chosen : Term → ℕ → ℕ → Ending
   Ended : Term → Ending
   Sought : ℕ → List Arm → Ending
 
--- of one arm the word isn't asked for: each run has it
+-- where there is one arm, its word isn't asked for: each run has it
 abbrev pub sought : ℕ → List Arm → Ending
 sought x (arm ∷ []) = Onto arm.label
 sought x arms = Sought x arms
@@ -70,14 +73,24 @@ ending_of (end.If e first second) = Chosen (term_of e) first second
 ending_of (end.Exit e) = Ended (term_of e)
 ending_of (end.Dispatch x arms) = sought x arms.items
 
+-- a block, and whether a run by steps may pause where it begins
 pub record TextBlock : Type 0 where
   pub label : ℕ
+  pub pauses : Bool
   pub actions : List Action
   pub ending : Ending
 
--- each block's label is its place
-abbrev pub blocks_of : ℕ → List ProgramBlock → List TextBlock
-blocks_of label [] = []
-blocks_of label (block ∷ blocks) =
-    record { label = label; actions = map action_of block.statements.items; ending = ending_of block.end }
-    ∷ blocks_of (label + 1) blocks
+-- blocks from a label on, each one's label its place
+abbrev pub blocks_from : (ℕ → Bool) → ℕ → List ProgramBlock → List TextBlock
+blocks_from may label [] = []
+blocks_from may label (block ∷ blocks) =
+    record {
+      label = label;
+      pauses = may label;
+      actions = map action_of block.statements.items;
+      ending = ending_of block.end;
+    }
+    ∷ blocks_from may (label + 1) blocks
+
+abbrev pub blocks_of : List ProgramBlock → List TextBlock
+blocks_of blocks = blocks_from (pauses blocks) 0 blocks

@@ -35,7 +35,8 @@ impl ProgramText {
 
     /// Bytes in rows.
     fn rows(&mut self, bytes: &[u8]) -> Result<(), AllocError>
-        ensures { OnOk result ((rows : List (List ℕ)) × (self.new ≡ self.old ++ rows_text rows) × (joined rows ≡ bytes.now) × AreWordRows rows) }
+        ensures { OnOk result ((rows : List (List ℕ)) × (self.new ≡ self.old ++ rows_text rows)
+            × (joined rows ≡ bytes.now) × AreWordRows rows) }
     {
         for row in bytes.chunks(IN_ROW) {
             self.put("    ")?;
@@ -47,8 +48,8 @@ impl ProgramText {
 
     /// An array's name and its bytes, in rows. An array of C has an element at least, so a zero stands at its end.
     pub(crate) fn array(&mut self, head: &str, bytes: &[u8]) -> Result<(), AllocError>
-        ensures { OnOk result ((rows : List (List ℕ)) × (self.new ≡ self.old ++ array_text head.now rows) × IsPadded (joined rows) bytes.now
-            × AreWordRows rows) }
+        ensures { OnOk result ((rows : List (List ℕ)) × (self.new ≡ self.old ++ array_text head.now rows)
+            × IsPadded (joined rows) bytes.now × AreWordRows rows) }
     {
         self.put(head)?;
         self.put(" = {\n")?;

@@ -1,4 +1,5 @@
 //! A program of the little language as C: a line a statement, with the words of the header `geyserpan_native.h`.
+//! The text reads back as the program.
 #![tactic(auto)]
 
 mod data;

@@ -1,8 +1,8 @@
 //! Where a run by steps may pause: before each byte that it gets or puts, where a loop begins again, and behind a call.
 //! So it passes each block once at most between two places where it may pause.
-ghost use Rattle.std.specs.Prelude.{◌≡◌, false, slice_get};
+ghost use Rattle.std.specs.Prelude.{◌≡◌, ◌==◌, IfOk, false, get_or};
 ghost use Rattle.native_text.specs.Terms.{action_of};
-ghost use Rattle.native_text.specs.Lines.{marked};
+ghost use Rattle.native_text.specs.Pauses.{IsMarked, MarksMore, goes_back, leads_back, returns_to};
 ghost use Rattle.native_text.specs.Spelling.{action_codes};
 
 use native_lang::variables::{CARRY, NEGATIVE};
@@ -18,7 +18,7 @@ pub(crate) struct Heads {
 impl Heads {
     /// Whether a label is marked.
     pub(crate) fn has(&self, label: u32) -> bool
-        ensures { result ≡ marked (slice_get self.now.marks.items label) }
+        ensures { result ≡ get_or self.now.marks.items label false }
     {
         match self.marks.get(label as usize) {
             Some(mark) => *mark,
@@ -27,43 +27,61 @@ impl Heads {
     }
 
     /// Marks a label.
-    fn mark(&mut self, label: u32) {
-        if let Some(mark) = self.marks.get_mut(label as usize) {
-            *mark = true;
+    #[tactic(auto, using(crate::proofs::Marks::marking))]
+    fn mark(&mut self, label: u32)
+        ensures { MarksMore self.old.marks.items self.new.marks.items (λ k. label == k) }
+    {
+        if (label as usize) < self.marks.len() {
+            self.marks[label as usize] = true;
         }
     }
 
     /// Marks a label that a block of another label goes to, which isn't below it.
-    fn note(&mut self, from: usize, to: u32) {
+    #[tactic(auto, using(crate::proofs::Marks::noting))]
+    fn note(&mut self, from: usize, to: u32)
+        ensures { MarksMore self.old.marks.items self.new.marks.items (λ k. goes_back k from to) }
+    {
         if to as usize <= from {
             self.mark(to);
         }
     }
 
     /// Marks where functions return to.
-    fn note_arms(&mut self, arms: &[Arm]) {
+    fn note_arms(&mut self, arms: &[Arm])
+        ensures { MarksMore self.old.marks.items self.new.marks.items (λ k. returns_to k arms.now) }
+    {
         for arm in arms {
             self.mark(arm.label);
+        }
+    }
+
+    /// Marks where a block's end leads back to.
+    #[tactic(auto, using(crate::proofs::Marks::ending))]
+    fn note_end(&mut self, from: usize, end: &BlockEnd)
+        ensures { MarksMore self.old.marks.items self.new.marks.items (λ k. leads_back k from end.now) }
+    {
+        match end {
+            BlockEnd::Goto(to) => self.note(from, *to),
+            BlockEnd::If(_, first, second) => {
+                self.note(from, *first);
+                self.note(from, *second);
+            }
+            BlockEnd::Dispatch(_, arms) => self.note_arms(arms.as_slice()),
+            BlockEnd::Exit(_) => {}
         }
     }
 }
 
 /// Of each label, whether a block of that label or a higher one goes to it, which each loop has one of, or a function
 /// returns to it.
-pub(crate) fn pause_points(alloc: Global, blocks: &[ProgramBlock]) -> Result<Heads, AllocError> {
+pub(crate) fn pause_points(alloc: Global, blocks: &[ProgramBlock]) -> Result<Heads, AllocError>
+    ensures { IfOk result (λ heads. IsMarked heads.marks.items blocks.now) }
+{
     let mut marks = Vec::new(alloc);
     marks.resize(blocks.len(), false)?;
     let mut heads = Heads { marks };
     for (from, block) in blocks.iter().enumerate() {
-        match &block.end {
-            BlockEnd::Goto(to) => heads.note(from, *to),
-            BlockEnd::If(_, first, second) => {
-                heads.note(from, *first);
-                heads.note(from, *second);
-            }
-            BlockEnd::Dispatch(_, arms) => heads.note_arms(arms.as_slice()),
-            BlockEnd::Exit(_) => {}
-        }
+        heads.note_end(from, &block.end);
     }
     Ok(heads)
 }

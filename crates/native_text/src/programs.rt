@@ -1,8 +1,8 @@
 //! A whole program in C: what it was made of, its data, and its body twice, as a run and as a run by steps.
-ghost use Rattle.std.specs.Prelude.{◌≡◌, ℕ, List, ◌++◌, IfOk, OnOk, codes, false, length};
-ghost use Rattle.native_text.specs.Lines.{CodeLine, body_lines};
+ghost use Rattle.std.specs.Prelude.{◌≡◌, ℕ, List, ◌++◌, IfOk, OnOk, false, length};
+ghost use Rattle.native_text.specs.Lines.{body_lines};
 ghost use Rattle.native_text.specs.Spelling.{all_points, lines_text};
-ghost use Rattle.native_text.specs.Programs.{IsPadded, bodies_text, constant_text, head_text, joined, resumes_text, twice_text};
+ghost use Rattle.native_text.specs.Programs.{IsPadded, constant_text, head_text, joined, resumes_text, twice_text};
 ghost use Rattle.native_text.specs.Words.{AreWordLines, AreWordRows, AreWords, IsWord};
 ghost use Rattle.native_text.specs.Reading.{ReadsBack};
 
@@ -23,7 +23,8 @@ pub struct ImageNote<'a> {
 
 /// The body of all blocks.
 fn body_of(alloc: Global, blocks: &[ProgramBlock], heads: &Heads) -> Result<Body, AllocError>
-    ensures text { IfOk result (λ body. body.text ≡ lines_text 0 false (body_lines heads.now.marks.items 0 blocks.now)) }
+    ensures text { IfOk result (λ body. body.text
+        ≡ lines_text 0 false (body_lines heads.now.marks.items 0 blocks.now)) }
     ensures points { IfOk result (λ body. body.points ≡ all_points 0 (body_lines heads.now.marks.items 0 blocks.now)) }
     ensures words { OnOk result (AreWordLines (body_lines heads.now.marks.items 0 blocks.now)) }
 {
@@ -51,7 +52,8 @@ impl ProgramText {
     /// What the header has to know of a program.
     fn head(&mut self, program: &NativeProgram, named: &ImageNote<'_>) -> Result<(), AllocError>
         ensures { OnOk result ((rows : List (List ℕ)) × IsPadded (joined rows) program.now.data.items
-            × (self.new ≡ self.old ++ head_text (length program.now.data.items) named.now.stack_bytes named.now.image.now rows)
+            × (self.new ≡ self.old
+            ++ head_text (length program.now.data.items) named.now.stack_bytes named.now.image.now rows)
             × IsWord named.now.stack_bytes × AreWords named.now.image.now × AreWordRows rows) }
     {
         self.put("/* An accepted image as C, by Geyserpan's `native`. */\n")?;
@@ -89,7 +91,7 @@ impl ProgramText {
     }
 }
 
-/// A program as C.
+/// A program as C. Its lines are read as the program's blocks, its head is the data's, and no other lines have its text.
 pub fn write_program(
     alloc: Global,
     program: &NativeProgram,

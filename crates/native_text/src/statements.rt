@@ -1,12 +1,11 @@
 //! Statements in C, a line each.
-ghost use Rattle.std.specs.Prelude.{◌≡◌, ℕ, Bool, List, [], ◌∷◌, ◌++◌, OnOk, codes, false};
+ghost use Rattle.std.specs.Prelude.{◌≡◌, ℕ, Bool, [], ◌∷◌, ◌++◌, OnOk, codes, false};
 ghost use Rattle.std.specs.Fmt.{decimal};
-ghost use Rattle.native_text.specs.Terms.{Ended, action_of, ending_of, sought, term_of};
-ghost use Rattle.native_text.specs.Terms.{Loads, Stores};
-ghost use Rattle.native_text.specs.Lines.{Branch, Does, Head, Switch, action_lines, block_lines, ending_lines, head_lines};
-ghost use Rattle.native_text.specs.Lines.{jump_lines, next_number};
+ghost use Rattle.native_text.specs.Terms.{Loads, Stores, action_of, ending_of, sought, term_of};
+ghost use Rattle.native_text.specs.Lines.{Branch, action_lines, block_lines, ending_lines, head_lines, jump_lines};
+ghost use Rattle.native_text.specs.Lines.{next_number};
 ghost use Rattle.native_text.specs.Spelling.{action_points, action_text, all_points, arms_text, bits_text};
-ghost use Rattle.native_text.specs.Spelling.{keeping_text, label_text, lines_text, switch_text, term_text, variable_text};
+ghost use Rattle.native_text.specs.Spelling.{keeping_text, lines_text, switch_text, term_text, variable_text};
 ghost use Rattle.native_text.specs.Words.{AreWordArms, AreWordLines, IsWordAction, IsWordTerm};
 
 use crate::text::ProgramText;
@@ -34,7 +33,8 @@ fn bits_of(width: NumberWidth) -> &'static str
 impl ProgramText {
     /// A name and an opening bracket, an expression, and the end of a line.
     fn line(&mut self, name: &str, e: &Expr, end: &str) -> Result<(), AllocError>
-        ensures text { OnOk result (self.new ≡ self.old ++ codes "    " ++ name.now ++ term_text (term_of e.now) ++ end.now) }
+        ensures text { OnOk result (self.new ≡ self.old ++ codes "    " ++ name.now
+            ++ term_text (term_of e.now) ++ end.now) }
         ensures words { OnOk result (IsWordTerm (term_of e.now)) }
     {
         self.put("    ")?;
@@ -75,7 +75,8 @@ impl ProgramText {
 
     /// A store.
     fn store(&mut self, width: NumberWidth, address: &Expr, e: &Expr) -> Result<(), AllocError>
-        ensures text { OnOk result (self.new ≡ self.old ++ action_text 0 false (Stores width (term_of address.now) (term_of e.now))) }
+        ensures text { OnOk result (self.new ≡ self.old
+            ++ action_text 0 false (Stores width (term_of address.now) (term_of e.now))) }
         ensures words { OnOk result (IsWordAction (Stores width (term_of address.now) (term_of e.now))) }
     {
         self.put("    STORE")?;
@@ -95,8 +96,11 @@ impl ProgramText {
     ) -> Result<(), AllocError>
         ensures text { OnOk result (self.new ≡ self.old ++ name.now ++ variable_text variables.0 ++ codes ", "
             ++ variable_text variables.1 ++ codes ", " ++ term_text (term_of operands.entry.0.now) ++ codes ", "
-            ++ term_text (term_of operands.entry.1.now) ++ codes ", " ++ term_text (term_of operands.entry.2.now) ++ codes ");\n") }
-        ensures words { OnOk result (IsWordTerm (term_of operands.entry.0.now) × IsWordTerm (term_of operands.entry.1.now) × IsWordTerm (term_of operands.entry.2.now)) }
+            ++ term_text (term_of operands.entry.1.now) ++ codes ", "
+            ++ term_text (term_of operands.entry.2.now) ++ codes ");\n") }
+        ensures words { OnOk result (IsWordTerm (term_of operands.entry.0.now)
+            × IsWordTerm (term_of operands.entry.1.now)
+            × IsWordTerm (term_of operands.entry.2.now)) }
     {
         self.put(name)?;
         self.variable(variables.0)?;
@@ -113,7 +117,8 @@ impl ProgramText {
 
     /// A jump to a label, unless it comes next.
     fn jump(&mut self, label: u32, next: u32) -> Result<(), AllocError>
-        ensures text { OnOk result ((n : ℕ) (has_codes : Bool) → self.new ≡ self.old ++ lines_text n has_codes (jump_lines next label)) }
+        ensures text { OnOk result ((n : ℕ) (has_codes : Bool) → self.new ≡ self.old
+            ++ lines_text n has_codes (jump_lines next label)) }
         ensures words { OnOk result (AreWordLines (jump_lines next label)) }
     {
         if label == next {
@@ -126,7 +131,8 @@ impl ProgramText {
 
     /// A branch to one of two labels.
     fn branch(&mut self, e: &Expr, first: u32, second: u32, next: u32) -> Result<(), AllocError>
-        ensures text { OnOk result ((n : ℕ) (has_codes : Bool) → self.new ≡ self.old ++ lines_text n has_codes (Branch (term_of e.now) first ∷ jump_lines next second)) }
+        ensures text { OnOk result ((n : ℕ) (has_codes : Bool) → self.new ≡ self.old
+            ++ lines_text n has_codes (Branch (term_of e.now) first ∷ jump_lines next second)) }
         ensures words { OnOk result (AreWordLines (Branch (term_of e.now) first ∷ jump_lines next second)) }
     {
         self.line("if (", e, ") goto ")?;
@@ -166,7 +172,8 @@ impl ProgramText {
     /// to one of them.
     #[tactic(auto, using(crate::proofs::Arms::switches))]
     fn dispatch(&mut self, x: u8, arms: &[Arm], next: u32) -> Result<(), AllocError>
-        ensures text { OnOk result ((n : ℕ) (has_codes : Bool) → self.new ≡ self.old ++ lines_text n has_codes (ending_lines next (sought x arms.now))) }
+        ensures text { OnOk result ((n : ℕ) (has_codes : Bool) → self.new ≡ self.old
+            ++ lines_text n has_codes (ending_lines next (sought x arms.now))) }
         ensures words { OnOk result (AreWordLines (ending_lines next (sought x arms.now))) }
     {
         match arms {
@@ -177,7 +184,8 @@ impl ProgramText {
 
     /// The end of a block; the label that stands next in the text is given.
     fn end(&mut self, end: &BlockEnd, next: u32) -> Result<(), AllocError>
-        ensures text { OnOk result ((n : ℕ) (has_codes : Bool) → self.new ≡ self.old ++ lines_text n has_codes (ending_lines next (ending_of end.now))) }
+        ensures text { OnOk result ((n : ℕ) (has_codes : Bool) → self.new ≡ self.old
+            ++ lines_text n has_codes (ending_lines next (ending_of end.now))) }
         ensures words { OnOk result (AreWordLines (ending_lines next (ending_of end.now))) }
     {
         match end {
@@ -203,7 +211,8 @@ impl Body {
 
     /// A name, and the number of the next point.
     pub fn point(&mut self, name: &str) -> Result<(), AllocError>
-        ensures text { OnOk result (self.new.text ≡ self.old.text ++ codes "    " ++ name.now ++ decimal (next_number self.old.points) ++ codes ", ") }
+        ensures text { OnOk result (self.new.text ≡ self.old.text ++ codes "    " ++ name.now
+            ++ decimal (next_number self.old.points) ++ codes ", ") }
         ensures points { OnOk result (self.new.points ≡ next_number self.old.points) }
     {
         self.points = self.points.wrapping_add(1);
@@ -224,7 +233,8 @@ impl Body {
 
     /// A statement. A pause in it keeps the condition codes where they are made.
     fn statement(&mut self, stmt: &Stmt, has_codes: bool) -> Result<(), AllocError>
-        ensures text { OnOk result (self.new.text ≡ self.old.text ++ action_text self.old.points has_codes (action_of stmt.now)) }
+        ensures text { OnOk result (self.new.text ≡ self.old.text
+            ++ action_text self.old.points has_codes (action_of stmt.now)) }
         ensures points { OnOk result (self.new.points ≡ action_points self.old.points (action_of stmt.now)) }
         ensures words { OnOk result (IsWordAction (action_of stmt.now)) }
     {
@@ -266,7 +276,8 @@ impl Body {
 
     /// The statements of a block.
     fn statements(&mut self, statements: &[Stmt]) -> Result<(), AllocError>
-        ensures text { OnOk result (self.new.text ≡ self.old.text ++ lines_text self.old.points false (action_lines statements.now)) }
+        ensures text { OnOk result (self.new.text ≡ self.old.text
+            ++ lines_text self.old.points false (action_lines statements.now)) }
         ensures points { OnOk result (self.new.points ≡ all_points self.old.points (action_lines statements.now)) }
         ensures words { OnOk result (AreWordLines (action_lines statements.now)) }
     {
@@ -280,7 +291,8 @@ impl Body {
 
     /// The line of a label where a run by steps may pause.
     fn head(&mut self, is_head: bool) -> Result<(), AllocError>
-        ensures text { OnOk result (self.new.text ≡ self.old.text ++ lines_text self.old.points false (head_lines is_head)) }
+        ensures text { OnOk result (self.new.text ≡ self.old.text
+            ++ lines_text self.old.points false (head_lines is_head)) }
         ensures points { OnOk result (self.new.points ≡ all_points self.old.points (head_lines is_head)) }
     {
         if is_head {
@@ -297,8 +309,10 @@ impl Body {
         label: u32,
         is_head: bool,
     ) -> Result<(), AllocError>
-        ensures text { OnOk result (self.new.text ≡ self.old.text ++ lines_text self.old.points false (block_lines label is_head block.now)) }
-        ensures points { OnOk result (self.new.points ≡ all_points self.old.points (block_lines label is_head block.now)) }
+        ensures text { OnOk result (self.new.text ≡ self.old.text
+            ++ lines_text self.old.points false (block_lines label is_head block.now)) }
+        ensures points { OnOk result (self.new.points
+            ≡ all_points self.old.points (block_lines label is_head block.now)) }
         ensures words { OnOk result (AreWordLines (block_lines label is_head block.now)) }
     {
         self.text.label(label)?;

@@ -37,6 +37,6 @@ returns c =
       f,
       words,
       text,
-      record { data_bytes = refl; stack_bytes = refl; image = refl; start = begun.1; blocks = are_read marks blocks },
+      record { data_bytes = refl; stack_bytes = refl; image = refl; start = begun.1; blocks = are_read marks blocks (rw c.as_slice.ensures.value at c.in_ok-heads.ensures) },
       λ g w same. file_once f g words w (sym text ∙ same),
     )
