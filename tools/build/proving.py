@@ -14,12 +14,12 @@ ANEW = f"{TOP}/tools/build/rt-anew"
 PREFIX = "build."
 # The processor seconds of a crate's proof, as they were measured of all: each, each line of code, of specifications and
 # proofs, and of the libraries below, whose statements are read; a program is compiled, too.
-EACH, A_LINE, A_PROOF_LINE, A_LINE_BELOW, A_LINE_COMPILED = 10, 0.06, 0.004, 0.0005, 0.003
+EACH, A_LINE, A_PROOF_LINE, A_LINE_BELOW, A_LINE_COMPILED = 8, 0.08, 0.002, 0.0003, 0.003
 # A crate that is checked with several jobs takes so much more memory, and less time, for each further one.
 MORE_MEMORY, GAIN = 0.6, 0.35
 # A crate gets so many jobs even where others wait, if the chain behind it is so many times as long as all that is left
 # takes on all processors.
-LONG, OF_LONG = 1.2, 3
+LONG, OF_LONG = 2, 2
 
 
 def lines_in(folder):
