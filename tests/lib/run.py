@@ -11,6 +11,9 @@ import sys
 from tally import NOT_BUILT
 
 TOP = os.path.dirname(os.path.dirname(os.path.dirname(os.path.abspath(__file__))))
+sys.path.insert(0, f"{TOP}/tools")
+from standing import make_stand
+
 EXAMPLES = f"{TOP}/examples"
 SANDBOX, INSPECT, HOST, FIT, CC = (f"{TOP}/{it}" for it in ("sandbox", "inspect", "host", "fit", "cc"))
 # A run of each program that asks for work, so that its script builds it where that is due.
@@ -55,7 +58,10 @@ def run_within(words, given=b"", seconds=SECONDS, **how):
 
 
 def built(*names):
-    """Has the programs of these scripts stand, or ends the suite: they are proved and built where that is due."""
+    """Has the programs of these scripts stand, or ends the suite: they are proved and built where that is due, in one
+    build."""
+    if make_stand("tests", *names):
+        raise SystemExit(NOT_BUILT)
     for name in names:
         ran = run([f"{TOP}/{name}", *SAMPLES[name]], seconds=None)
         if ran.status != 0:

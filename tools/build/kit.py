@@ -1,15 +1,20 @@
 # The kit on the PATH, for the scripts of this folder, and its `rt` as a module where that is made as they know it.
 import importlib.machinery
 import importlib.util
+import inspect
 import os
 import shutil
 import sys
 
 sys.dont_write_bytecode = True
-# What is called of a kit's `rt`, and of its crates, to prove a crate as `rt ci` does.
-CALLED = ("handles_of", "need", "stop", "stop_on_words")
-OF_A_CRATE = ("below", "call", "compile_by", "makes_rlib", "prove", "words")
-OF_RTLIB = ("guarded", "help_of", "stop_on_links", "stop_on_text", "text_of")
+# What is called of a kit's `rt` to prove a crate as `rt ci` does, and with what: of the script, of its crates, and of
+# what it shares with older ones.
+CALLED = {"free": "()", "handles_of": "(root)", "need": "(crate)", "processors": "()", "stop": "(why)",
+          "stop_on_words": "(crate)"}
+OF_A_CRATE = {"below": "(self)", "call": "(self, *words)", "compile_by": "(self, backend, words, to)",
+              "makes_rlib": "(self)", "prove": "(self, *commands)",
+              "words": "(self, flags, tests=False, keeps=True, as_source=False)"}
+OF_RTLIB = {"guarded": "()", "help_of": "(verb)", "stop_on_links": "(folder)", "stop_on_text": "(crate, verb)"}
 
 
 def path():
@@ -30,8 +35,10 @@ def loaded(script):
     return made if hasattr(made, "main") and hasattr(crate, "stamp") and hasattr(crate, "call") else None
 
 
-def has(holder, names):
-    return all(callable(getattr(holder, it, None)) for it in names)
+def has(holder, called):
+    """Whether something has functions of these names with these parameters."""
+    return all(callable(getattr(holder, name, None)) and str(inspect.signature(getattr(holder, name))) == parameters
+               for name, parameters in called.items())
 
 
 def by_statements():

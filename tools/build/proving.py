@@ -14,9 +14,12 @@ ANEW = f"{TOP}/tools/build/rt-anew"
 PREFIX = "build."
 # The processor seconds of a crate's proof, as they were measured of all: each, each line of code, of specifications and
 # proofs, and of the libraries below, whose statements are read; a program is compiled, too.
-EACH, A_LINE, A_PROOF_LINE, A_LINE_BELOW, A_LINE_COMPILED = 10, 0.06, 0.004, 0.0005, 0.003
+EACH, A_LINE, A_PROOF_LINE, A_LINE_BELOW, A_LINE_COMPILED = 8, 0.08, 0.002, 0.0003, 0.003
 # A crate that is checked with several jobs takes so much more memory, and less time, for each further one.
-MORE_MEMORY, GAIN = 0.6, 0.5
+MORE_MEMORY, GAIN = 0.6, 0.35
+# A crate gets so many jobs even where others wait, if the chain behind it is so many times as long as all that is left
+# takes on all processors.
+LONG, OF_LONG = 2, 2
 
 
 def lines_in(folder):
@@ -90,24 +93,27 @@ class Plan:
         """Those left that wait for none, the longest chain first."""
         return sorted((it for it in left if given.issuperset(self.below[it])), key=lambda it: -self.behind[it])
 
+    def jobs(self, name, left, waiting, lanes, idle):
+        """How many of the processors that are idle a crate gets where so many wait."""
+        rest = sum(self.seconds[it] for it in left)
+        is_long = self.behind[name] > LONG * rest / lanes
+        return max(1, min(max(idle // waiting, OF_LONG if is_long else 1), idle, MOST_JOBS))
+
     def minutes(self, lanes):
         """The minutes that so many processors are reckoned to take."""
         left, given, running, now = list(self.left), set(self.sums), {}, 0
         while left or running:
             ready = self.ready(left, given)
-            for at, it in enumerate(ready[: lanes - len(running)]):
-                jobs = jobs_of(lanes - len(running), len(ready) - at)
-                left.remove(it)
-                running[it] = now + self.seconds[it] / (1 + GAIN * (jobs - 1))
+            for at, it in enumerate(ready):
+                idle = lanes - sum(jobs for _, jobs in running.values())
+                if idle > 0:
+                    jobs = self.jobs(it, left, len(ready) - at, lanes, idle)
+                    left.remove(it)
+                    running[it] = now + self.seconds[it] / (1 + GAIN * (jobs - 1)), jobs
             done = min(running, key=running.get)
-            now = running.pop(done)
+            now = running.pop(done)[0]
             given.add(done)
         return max(1, round(now / 60))
-
-
-def jobs_of(idle, waiting):
-    """How many of the processors that are idle one crate gets where so many wait."""
-    return max(1, min(idle // waiting, MOST_JOBS))
 
 
 class Build:
@@ -146,7 +152,7 @@ class Build:
             if idle < 1 or running and needs > room:
                 continue
             spare = 1 + int(max(0, room / needs - 1) / MORE_MEMORY)
-            jobs = min(jobs_of(idle, len(ready) - at), spare)
+            jobs = min(self.plan.jobs(it, left, len(ready) - at, lanes, idle), spare)
             left.remove(it)
             running[pool.submit(self.given, it, jobs)] = it, jobs, needs * (1 + MORE_MEMORY * (jobs - 1))
 

@@ -240,6 +240,8 @@ def perform(request):
     """Does what was asked for; returns the status."""
     if request.prints:
         return preprocess(request)
+    for it in request.files:
+        open(it, "rb").close()  # (one that isn't there is told before anything is built)
     status = make_stand(request.name, "fit", "sandbox")
     if status:
         return status
