@@ -1,18 +1,14 @@
 //! An accepted image as a program of the little language: a block for each of the image's, one for each place behind a
-//! call, one for the returns of each function, and one for each annulled delay slot.
-//!
-//! No contract says yet that the program does what the image does: that is tested.
+//! call, one for the returns of each function, and one for each annulled delay slot. It is proved that the program is a
+//! translation of the image, and so that its runs are the image's (`native_ends`).
 #![tactic(auto)]
 
 mod blocks;
-mod codes;
-mod expressions;
+mod data;
 mod labels;
-mod results;
-#[cfg(test)]
-mod tests;
+mod program;
+mod returns;
 mod transfers;
 mod translation;
-mod words;
 
-pub use translation::translate;
+pub use program::translate;

@@ -1,207 +1,200 @@
 //! The translation of an image, block by block.
-ghost use Rattle.std.specs.Prelude.{◌≤◌, IfOk, length};
+ghost use Rattle.std.specs.Prelude.{◌≡◌, ℕ, ◌+◌, ◌<◌, ◌≤◌, Bool, true, false, length, IfOk, Some, slice_get, slice_index};
+ghost use Rattle.sbx_image.specs.Order.{code_end};
+ghost use Rattle.native_ends.specs.Translations.{AsksFor, HasSlot, LiesIn};
+ghost use Rattle.native_flow.specs.Labelling.{AreStarts, labels_of};
+ghost use Rattle.native_flow.specs.Making.{Passes, Stands};
+ghost use Rattle.native_flow.specs.Translating.{Grows, IsBlockFrom, IsStretch, edges_from, is_closing};
+ghost use Rattle.native_flow.specs.Translating.{is_exit, is_get, with_one};
+ghost use Rattle.sbx_flat.specs.Effects.{service_of};
+ghost use Rattle.sbx_flat.specs.Turns.{asked};
 
 use crate::blocks::BlockMaking;
-use crate::labels::{Labels, function_end, label_of, words_between};
+use crate::labels::{Labels, word_address, word_place};
 use crate::transfers::{Branched, TransferPlace, back, branch, call};
-use native_lang::variables::CALLED;
-use native_lang::{Arm, BlockEnd, Expr, NativeProgram, ProgramBlock};
+use native_lang::{BlockEnd, ProgramBlock};
 use sbx_flat::{asked, service_of};
 use sbx_image::Image;
-use sbx_verify::Accepted;
 use std::alloc::{AllocError, Global};
-use v8_map::{CODE_START, DATA_START, STACK_END};
+use v8_formats::{Branch, Trap};
 use v8_meaning::Operation;
-use v8_word::Reg;
 
-/// The most bytes that a program's data have.
-const BLOCK: usize = 0x8_0000;
-
-/// The bytes above a frame's base where its window is saved.
-const SAVE_AREA: u32 = 64;
-
-/// What is made of an image so far.
-#[derive(Drop)]
-struct Translation<'a> {
-    alloc: Global,
-    image: &'a Image,
-    labels: Labels,
-    blocks: Vec<ProgramBlock>,
-    /// The blocks of annulled delay slots, whose labels are behind all others.
-    edges: Vec<ProgramBlock>,
-}
-
-impl Translation<'_> {
-    /// The label of the next edge.
-    fn edge_label(&self) -> u32 {
-        self.labels
-            .returns(self.image.functions().len())
-            .wrapping_add(label_of(self.edges.len()))
-    }
-
-    /// The block that a transfer of control ends.
-    fn closed(
-        &mut self,
-        making: BlockMaking,
-        operation: &Operation,
-        place: &TransferPlace,
-        function: usize,
-    ) -> Result<ProgramBlock, AllocError> {
-        match operation {
-            Operation::BranchOnCondition(it) => {
-                let edge_label = self.edge_label();
-                let made = branch(self.alloc, making, place, it, &self.labels, edge_label)?;
-                let Branched { block, edge } = made;
-                if let Some(edge) = edge {
-                    self.edges.push(edge)?;
-                }
-                Ok(block)
-            }
-            Operation::Call(displacement) => call(making, place, *displacement, &self.labels),
-            Operation::JumpAndLink(jump) => {
-                back(making, place, jump, self.labels.returns(function))
-            }
-            _ => making.ended(BlockEnd::Goto(self.labels.at(place.behind()))),
-        }
-    }
-
-    /// The block of the words from a label on up to the next one.
-    fn block(
-        &mut self,
-        words: &[u32],
-        start: u32,
-        function: usize,
-    ) -> Result<ProgramBlock, AllocError> {
-        let mut making = BlockMaking::new(self.alloc);
-        let mut address = start;
-        for (k, word) in words.iter().enumerate() {
-            let operation = asked(*word);
-            match &operation {
-                Operation::BranchOnCondition(_) | Operation::Call(_) | Operation::JumpAndLink(_) =>
-                    {
-                        let slot = asked(words.get(k.saturating_add(1)).copied().unwrap_or(0));
-                        return self.closed(
-                            making,
-                            &operation,
-                            &TransferPlace { address, slot },
-                            function,
-                        );
-                    }
-                Operation::TrapOnCondition(trap) => match service_of(trap) {
-                    Some(0) => return making.exit(),
-                    Some(1) => making.get()?,
-                    _ => making.put()?,
-                },
-                _ => making.word(&operation)?,
-            }
-            address = address.wrapping_add(4);
-        }
-        making.ended(BlockEnd::Goto(self.labels.at(address)))
-    }
-
-    /// Where the block of a label ends: where the next one begins, or the function.
-    fn end_of(&self, label: usize, function: usize) -> u32 {
-        let end = function_end(self.image, function);
-        match self.labels.starts.get(label.saturating_add(1)) {
-            Some(next) => end.min(*next),
-            None => end,
-        }
-    }
-
-    /// The block where a run begins: %sp is set.
-    fn start(&self) -> Result<ProgramBlock, AllocError> {
-        let mut making = BlockMaking::new(self.alloc);
-        let stack_pointer = Expr::Number(STACK_END.wrapping_sub(SAVE_AREA));
-        making.statements.assign(Reg::SP, stack_pointer)?;
-        making.ended(BlockEnd::Goto(self.labels.at(CODE_START)))
-    }
-
-    /// All blocks that begin at words, in the labels' order.
-    fn blocks_of_words(&mut self) -> Result<(), AllocError> {
-        let mut function = 0;
-        for label in 0..self.labels.starts.len() {
-            let Some(start) = self.labels.starts.get(label).copied() else {
-                return Ok(());
-            };
-            if start >= function_end(self.image, function) {
-                function = function.saturating_add(1);
-            }
-            let words = words_between(self.image, start, self.end_of(label, function));
-            let block = self.block(words, start, function)?;
-            self.blocks.push(block)?;
-        }
-        Ok(())
-    }
-
-    /// The block where a function returns: behind the call whose address is in CALLED.
-    fn returns_of(&self, entry: u32) -> Result<ProgramBlock, AllocError> {
-        let mut arms = Vec::new(self.alloc);
-        for site in self.labels.sites.as_slice() {
-            if site.entry == entry {
-                let label = self.labels.at(site.address.wrapping_add(8));
-                arms.push(Arm {
-                    word: site.address,
-                    label,
-                })?;
-            }
-        }
-        Ok(ProgramBlock {
-            statements: Vec::new(self.alloc),
-            end: BlockEnd::Dispatch(CALLED, arms),
-        })
-    }
-
-    /// The blocks that begin at no word: what is never reached, where functions return, and the edges.
-    fn other_blocks(&mut self) -> Result<(), AllocError> {
-        self.blocks.push(ProgramBlock {
-            statements: Vec::new(self.alloc),
-            end: BlockEnd::Exit(Expr::Number(0)),
-        })?;
-        for function in self.image.functions() {
-            let block = self.returns_of(function.entry)?;
-            self.blocks.push(block)?;
-        }
-        Ok(())
-    }
-}
-
-/// The first bytes of the data's block: each region's at its place.
-fn data_of(alloc: Global, image: &Image) -> Result<Vec<u8>, AllocError>
-    ensures { IfOk result (λ bytes. length bytes.items ≤ 524288) }
+/// Whether a block ends with an operation: a transfer of control, or the service that ends a run.
+fn is_closing(operation: &Operation) -> bool
+    ensures { result ≡ is_closing operation.now }
 {
-    let mut data = Vec::new(alloc);
-    for (k, region) in image.regions().iter().enumerate() {
-        let start = image.region_start(k).unwrap_or(DATA_START);
-        let place = start.saturating_sub(DATA_START) as usize;
-        data.resize(place.max(data.len()), 0)?;
-        data.extend_from_slice(region.bytes.as_slice())?;
+    match operation {
+        Operation::BranchOnCondition(_) | Operation::Call(_) | Operation::JumpAndLink(_) => true,
+        Operation::TrapOnCondition(trap) => service_of(trap) == Some(0),
+        _ => false,
     }
-    // The regions' pages are fewer.
-    data.truncate(BLOCK);
-    Ok(data)
 }
 
-/// The program of an accepted image.
-pub fn translate(alloc: Global, accepted: &Accepted) -> Result<NativeProgram, AllocError> {
-    let image = accepted.image();
-    let mut translation = Translation {
-        alloc,
-        image,
-        labels: Labels::of(alloc, image)?,
-        blocks: Vec::new(alloc),
-        edges: Vec::new(alloc),
-    };
-    let start = translation.start()?;
-    translation.blocks.push(start)?;
-    translation.blocks_of_words()?;
-    translation.other_blocks()?;
-    let Translation { blocks, edges, .. } = translation;
-    let mut blocks = blocks;
-    for edge in edges {
-        blocks.push(edge)?;
+/// Whether a trap asks for the next byte of the input.
+fn is_get(trap: &Trap) -> bool
+    ensures { result ≡ is_get (service_of trap.now) }
+{
+    service_of(trap) == Some(1)
+}
+
+/// A service that ends no run.
+fn serve(making: &mut BlockMaking, trap: &Trap) -> Result<(), AllocError>
+    ensures { IfOk result (λ _. is_exit (service_of trap.now) ≡ false →
+        Passes (Operation.TrapOnCondition trap.now) making.old making.new) }
+{
+    if is_get(trap) {
+        return making.get();
     }
-    Ok(NativeProgram {
-        blocks,
-        data: data_of(alloc, image)?,
-    })
+    making.put()
+}
+
+/// A word that ends no block.
+fn pass(making: &mut BlockMaking, operation: &Operation) -> Result<(), AllocError>
+    ensures { IfOk result (λ _. is_closing operation.now ≡ false → Passes operation.now making.old making.new) }
+{
+    match operation {
+        Operation::TrapOnCondition(trap) => serve(making, trap),
+        _ => making.word(operation),
+    }
+}
+
+/// What the word behind one asks for, if there is one.
+fn slot_behind(words: &[u32], k: usize) -> Operation
+    requires { k < length words.now }
+    ensures { (word : ℕ) → slice_get words.now (k + 1) ≡ Some word → asked word ≡ result }
+{
+    match words.get(k + 1) {
+        Some(word) => asked(*word),
+        None => Operation::Nothing,
+    }
+}
+
+/// The label of the next detached slot.
+fn edge_label(image: &Image, labels: &Labels, many: usize) -> u32
+    requires { many ≤ 65536 }
+    ensures { result ≡ edges_from image.now labels.now.starts.items + many }
+{
+    labels.returns(image.function_count() as usize) + many as u32
+}
+
+/// A detached slot more, if there is one.
+fn note_edge(edges: &mut Vec<ProgramBlock>, edge: Option<ProgramBlock>) -> Result<(), AllocError>
+    ensures { IfOk result (λ _. edges.new.items ≡ with_one edges.old.items edge) }
+{
+    match edge {
+        Some(edge) => {
+            edges.push(edge)?;
+            Ok(())
+        }
+        None => Ok(()),
+    }
+}
+
+/// The block that a branch ends. A slot that is made where the branch is taken alone is detached.
+fn branched(
+    image: &Image,
+    labels: &Labels,
+    edges: &mut Vec<ProgramBlock>,
+    making: BlockMaking,
+    place: &TransferPlace,
+    it: &Branch,
+) -> Result<ProgramBlock, AllocError>
+    requires { length edges.old.items ≤ 65536 }
+    ensures block { IfOk result (λ block. (f start : ℕ) (some : Bool) →
+        AsksFor image.now place.now.address (Operation.BranchOnCondition it.now) →
+        HasSlot image.now place.now.address place.now.slot →
+        Stands image.now (labels_of labels.now.starts.items) f start some place.now.address making →
+        IsBlockFrom image.now labels.now.starts.items edges.new.items start block) }
+    ensures grows { IfOk result (λ _. Grows edges.old.items edges.new.items) }
+{
+    let label = edge_label(image, labels, edges.as_slice().len());
+    let Branched { block, edge } = branch(making, place, it, labels, label)?;
+    note_edge(edges, edge)?;
+    Ok(block)
+}
+
+/// The block that an operation ends.
+fn closed(
+    image: &Image,
+    labels: &Labels,
+    edges: &mut Vec<ProgramBlock>,
+    making: BlockMaking,
+    operation: &Operation,
+    place: &TransferPlace,
+    function: usize,
+) -> Result<ProgramBlock, AllocError>
+    requires few { length edges.old.items ≤ 65536 }
+    requires number { function < 65536 }
+    ensures block { IfOk result (λ block. (start : ℕ) (some : Bool) → is_closing operation.now ≡ true →
+        AsksFor image.now place.now.address operation.now → HasSlot image.now place.now.address place.now.slot →
+        LiesIn image.now function place.now.address →
+        Stands image.now (labels_of labels.now.starts.items) function start some place.now.address making →
+        IsBlockFrom image.now labels.now.starts.items edges.new.items start block) }
+    ensures grows { IfOk result (λ _. Grows edges.old.items edges.new.items) }
+{
+    match operation {
+        Operation::BranchOnCondition(it) => branched(image, labels, edges, making, place, it),
+        Operation::Call(displacement) => call(making, place, *displacement, labels),
+        Operation::JumpAndLink(jump) => back(making, place, jump, labels.returns(function)),
+        Operation::TrapOnCondition(_) => making.exit(),
+        // No other operation ends a block.
+        _ => making.ended(BlockEnd::Goto(labels.nowhere())),
+    }
+}
+
+/// Where the program's next block begins, if there is one.
+fn next_start(starts: &[u32], number: usize) -> Option<u32>
+    requires { number < length starts.now }
+    ensures { result ≡ slice_get starts.now (number + 1) }
+{
+    starts.get(number + 1).copied()
+}
+
+/// The words of the program's block of a number: the first one, and the one behind the last.
+fn words_of(image: &Image, labels: &Labels, number: usize) -> (usize, usize)
+    requires number { number < length labels.now.starts.items }
+    requires starts { AreStarts image.now (code_end image.now) labels.now.starts.items labels.now.owners.items }
+    ensures { IsStretch image.now labels.now.starts.items labels.now.owners.items number result.0 result.1 }
+{
+    image.keeps_its_format();
+    let starts = labels.starts.as_slice();
+    let first = word_place(starts[number]);
+    match next_start(starts, number) {
+        Some(next) => (first, word_place(next)),
+        None => (first, image.word_count() as usize),
+    }
+}
+
+/// The block of a number, counted from 0.
+pub(crate) fn block(
+    alloc: Global,
+    image: &Image,
+    labels: &Labels,
+    edges: &mut Vec<ProgramBlock>,
+    number: usize,
+) -> Result<ProgramBlock, AllocError>
+    requires few { length edges.old.items ≤ 65536 }
+    requires number { number < length labels.now.starts.items }
+    requires starts { AreStarts image.now (code_end image.now) labels.now.starts.items labels.now.owners.items }
+    ensures block { IfOk result (λ block. IsBlockFrom image.now labels.now.starts.items edges.new.items
+        (slice_index labels.now.starts.items number) block) }
+    ensures grows { IfOk result (λ _. Grows edges.old.items edges.new.items) }
+{
+    image.keeps_its_format();
+    let (first, last) = words_of(image, labels, number);
+    let function = labels.owners.as_slice()[number];
+    let words = image.words();
+    let mut making = BlockMaking::new(alloc);
+    for k in first..last {
+        let operation = asked(words[k]);
+        if is_closing(&operation) {
+            let place = TransferPlace {
+                address: word_address(k),
+                slot: slot_behind(words, k),
+            };
+            return closed(image, labels, edges, making, &operation, &place, function);
+        }
+        pass(&mut making, &operation)?;
+    }
+    making.ended(BlockEnd::Goto(labels.at(word_address(last))))
 }

@@ -1,0 +1,12 @@
+pub mod Backward
+pub mod Onwards
+pub mod Flat
+pub mod Worlds
+pub mod Counts
+pub mod Where
+pub mod Spots
+pub mod Moves
+pub mod Along
+pub mod Cases
+pub mod Started
+pub mod Whole

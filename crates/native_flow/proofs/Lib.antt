@@ -1,0 +1,11 @@
+pub mod Rows
+pub mod Starting
+pub mod Sites
+pub mod Making
+pub mod Endings
+pub mod Stretches
+pub mod Growing
+pub mod Standing
+pub mod Laying
+pub mod Arming
+pub mod Assembling

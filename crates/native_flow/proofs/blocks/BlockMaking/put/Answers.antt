@@ -1,0 +1,12 @@
+use Rattle.std.proofs.Common.{[], ◌∷◌, ◌++◌, ap, ◌∙◌, arith}
+use Rattle.v8_meaning.specs.declared.operation.Operation.TheVariants.{TrapOnCondition}
+use Rattle.native_lang.specs.declared.expr.Expr.TheVariants.{Variable}
+use Rattle.native_lang.specs.declared.stmt.Stmt.TheVariants.{Put}
+use Rattle.native_flow.proofs.Making.{both, puts_byte, passes_service}
+use Rattle.native_flow.proofs.blocks.BlockMaking.put.Goals as goal
+
+pub returns : goal.returns
+returns c =
+    let mid = record c.count.new.self { statements = c.push.new.self } in
+    both c.turns.result (λ _ on turns t is. passes_service (TrapOnCondition t) c.args.self.now mid c.turns.new.self (Put (Variable 8)) (puts_byte t is)
+    (c.in_ok-push.ensures ∙ ap (λ l. l ++ Put (Variable 8) ∷ []) c.in_ok-count.ensures.list) c.in_ok-count.ensures.turns on turns) c.turns.ensures.list (c.turns.ensures.turns (omega arith))

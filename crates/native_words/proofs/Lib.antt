@@ -1,0 +1,17 @@
+pub mod Numbers
+pub mod Doubles
+pub mod Signs
+pub mod Eights
+pub mod Reading
+pub mod Writing
+pub mod Shown
+pub mod Turned
+pub mod Loading
+pub mod Pairs
+pub mod Storing
+pub mod Exchanging
+pub mod Framing
+pub mod Accessing
+pub mod Turning
+pub mod Plainly
+pub mod Others
