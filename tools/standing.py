@@ -79,8 +79,8 @@ def is_touched(path, since):
 
 
 def are_untouched(crates):
-    """Whether these crates' programs stand, nothing that they were made of was touched since, and the kit's logic is the
-    same. What was touched may still be as it was: the build compares contents."""
+    """Whether these crates' programs stand, nothing that they were made of was touched since, and the kit's logic is
+    the same. What was touched may still be as it was: the build compares contents."""
     since, by = {}, logic()
     for crate in crates:
         program = path_of(crate)

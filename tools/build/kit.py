@@ -11,8 +11,7 @@ sys.dont_write_bytecode = True
 # what it shares with older ones.
 CALLED = {"free": "()", "handles_of": "(root)", "need": "(crate)", "processors": "()", "stop": "(why)",
           "stop_on_words": "(crate)"}
-OF_A_CRATE = {"below": "(self)", "call": "(self, *words)", "compile_by": "(self, backend, words, to)",
-              "makes_rlib": "(self)", "prove": "(self, *commands)",
+OF_A_CRATE = {"below": "(self)", "link": "(self, made, program)", "makes_rlib": "(self)", "prove": "(self, *commands)",
               "words": "(self, flags, tests=False, keeps=True, as_source=False)"}
 OF_RTLIB = {"guarded": "()", "help_of": "(verb)", "stop_on_links": "(folder)", "stop_on_text": "(crate, verb)"}
 

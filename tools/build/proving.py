@@ -12,8 +12,8 @@ from standing import path_of
 ANEW = f"{TOP}/tools/build/rt-anew"
 # A build's room begins so.
 PREFIX = "build."
-# The processor seconds of a crate's proof, as they were measured of all: each, each line of code, of specifications and
-# proofs, and of the libraries below, whose statements are read; a program is compiled, too.
+# The processor seconds that a crate's proof is reckoned to take: each, each line of code, of specifications and proofs,
+# and of the libraries below, whose statements are read; a program is compiled, too.
 EACH, A_LINE, A_PROOF_LINE, A_LINE_BELOW, A_LINE_COMPILED = 8, 0.08, 0.002, 0.0003, 0.003
 # A crate that is checked with several jobs takes so much more memory, and less time, for each further one.
 MORE_MEMORY, GAIN = 0.6, 0.35
