@@ -1,7 +1,6 @@
 -- Blocks in the order of their labels are a translation.
-use Rattle.std.proofs.Common.{◌≡◌, ℕ, zero, suc, ◌+◌, ◌-◌, ◌<◌, ◌≤◌, Bool, true, false, List, [], ◌∷◌, ◌++◌, length, get_or, Option, Some, None, Ok, append_assoc, refl, sym, ap, ◌∙◌, subst, inl, inr, arith}
-use Rattle.std.specs.Prelude.{◌==◌, if◌then◌else◌, slice_get, slice_index}
-use Rattle.std.specs.Option.{option_map}
+use Rattle.std.proofs.Common.{◌≡◌, ℕ, zero, suc, ◌+◌, ◌-◌, ◌<◌, Bool, true, false, List, [], ◌∷◌, ◌++◌, length, get_or, Option, Some, None, Ok, append_assoc, refl, sym, ap, ◌∙◌, subst, arith}
+use Rattle.std.specs.Prelude.{◌==◌, slice_get, slice_index}
 use Rattle.std.proofs.lemmas.Bool.Decides.{nat_tests}
 use Rattle.std.proofs.lemmas.List.{length-append}
 use Rattle.std.proofs.lemmas.Option.{slice_get-get_or}
@@ -14,9 +13,9 @@ use Rattle.sbx_parts.proofs.Ordered.{in_order}
 use Rattle.sbx_flat.specs.Runs.{AreBytes}
 use Rattle.native_lang.specs.declared.program.NativeProgram.{NativeProgram}
 use Rattle.native_lang.specs.declared.program.ProgramBlock.{ProgramBlock}
-use Rattle.native_ends.specs.Translations.{Begins, DetachedSlot, HasBlock, HasDetached, IsMadeAt, IsTranslation, ReturnsBehind}
+use Rattle.native_ends.specs.Translations.{Begins, DetachedSlot, HasDetached, IsMadeAt, IsTranslation, ReturnsBehind}
 use Rattle.native_flow.specs.Assembling.{AreFrom, AreReturning, IsBeginning}
-use Rattle.native_flow.specs.Labelling.{AreStarts, HasCalls, Rises, label_at, labels_of}
+use Rattle.native_flow.specs.Labelling.{AreStarts, HasCalls, labels_of}
 use Rattle.native_flow.specs.Returning.{IsReturning}
 use Rattle.native_flow.specs.Translating.{Grows, IsAmong, IsBlockFrom, edges_from}
 use Rattle.native_flow.specs.declared.labels.Site.{Site}

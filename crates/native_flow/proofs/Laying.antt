@@ -5,7 +5,7 @@ use Rattle.std.proofs.lemmas.List.{append-nil, drop_all, drop_more, length-appen
 use Rattle.sbx_image.specs.Region.{Region}
 use Rattle.sbx_image.specs.Parts.{Parts}
 use Rattle.sbx_image.specs.Rules.{parts_keep}
-use Rattle.sbx_image.specs.Regions.{data_at, laid, on_pages, page_rights, pages_for}
+use Rattle.sbx_image.specs.Regions.{data_at, laid, on_pages, pages_for}
 use Rattle.sbx_image.proofs.Limits.{data_within}
 use Rattle.sbx_image.proofs.Within.{data_lies_at, laid_count}
 use Rattle.std.specs.Prelude.{Ok}

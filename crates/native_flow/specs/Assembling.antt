@@ -1,5 +1,5 @@
 -- The blocks of a program, in the order of their labels.
-use Rattle.std.specs.Prelude.{◌≡◌, ℕ, ◌+◌, ◌<◌, ◌≤◌, List, [], ◌∷◌, length, Option, Some, slice_get, slice_index}
+use Rattle.std.specs.Prelude.{◌≡◌, ℕ, ◌<◌, ◌≤◌, List, [], ◌∷◌, length, Some, slice_get, slice_index}
 use Rattle.sbx_image.specs.Order.{function_at}
 use Rattle.sbx_image.specs.Parts.{Parts}
 use Rattle.sbx_image.specs.Rules.{code_start}

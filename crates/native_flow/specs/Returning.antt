@@ -1,5 +1,5 @@
 -- Where functions return: behind their calls.
-use Rattle.std.specs.Prelude.{◌≡◌, ℕ, ◌+◌, ◌==◌, if◌then◌else◌, List, [], ◌∷◌, Vec, Some}
+use Rattle.std.specs.Prelude.{◌≡◌, ℕ, ◌==◌, if◌then◌else◌, List, [], ◌∷◌, Vec, Some}
 use Rattle.std.specs.Global.{Global}
 use Rattle.v8_meaning.specs.Operands.{target}
 use Rattle.v8_meaning.specs.declared.operation.Operation.TheVariants.{Call}
