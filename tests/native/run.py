@@ -26,8 +26,8 @@ import time
 sys.dont_write_bytecode = True
 HERE = os.path.dirname(os.path.abspath(__file__))
 sys.path[:0] = [f"{os.path.dirname(HERE)}/lib", HERE]
+import shapes
 from run import EXAMPLES, FIT, SANDBOX, TOP, Ran, built, bytes_of, program, put, run, text_of
-from shapes import SHAPES, branches, calls, source_of, straight
 from speed import dense_source, speed
 from tally import Tally, Words
 
@@ -198,10 +198,10 @@ def fake_compiler(room, name, script):
 def greatest(tally, room):
     """Images that are made to be slow to compile: one block of as many words as there may be, as many blocks as there
     may be, which go to the last one, and as many functions as there may be, each below the one before."""
-    for shape in (straight, branches, calls):
-        count, *_ = SHAPES[shape]
-        source, image = put(f"{room}/{shape.__name__}.s", source_of(shape, count)), f"{room}/{shape.__name__}.img"
-        made = run([SANDBOX, "asm", source, image])
+    for shape in (shapes.straight, shapes.branches, shapes.calls):
+        count, *_ = shapes.SHAPES[shape]
+        image = f"{room}/{shape.__name__}.img"
+        made = run([SANDBOX, "asm", put(f"{room}/one.s", shapes.source_of(shape, count)), image])
         tally.check(f"an image of {shape.__name__}", made.status == 0, made.said[:200])
         given = bytes(k * 7 % 251 for k in range(70_000))
         board = run([SANDBOX, "run", image], given)
