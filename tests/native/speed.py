@@ -15,8 +15,9 @@ from workloads import NAMES, READERS, input_bytes, source_of
 HEADERS = f"{TOP}/embed/native"
 # What ./native compiles with: counted and masked, as objects for hosts are.
 COMPILED = ["gcc", "-std=c11", "-O1", "-w", "-I", HEADERS]
-PLUG = ["gcc", "-O2", "-w", "-fwrapv", "-fno-strict-aliasing", "-DNATIVE", "-Dgetchar=getchar_unlocked",
-        "-Dputchar=putchar_unlocked", "-idirafter", f"{TOP}/runtime"]
+PLUG = ["gcc", "-O2", "-w", "-fwrapv", "-fno-strict-aliasing", "-DNATIVE", "-idirafter", f"{TOP}/runtime"]
+# An image shares its streams with nobody, so that the same C doesn't lock its own.
+UNLOCKED = "#include <stdio.h>\n#define getchar getchar_unlocked\n#define putchar putchar_unlocked\n"
 # The least that the figures have to be, or the most.
 LEAST_BOARD, LEAST_NATIVE, LEAST_MEGABYTES = 40, 0.8, 100
 MOST_STEP, MOST_TRANSLATION, MOST_BYTES = 200, 1, 12
@@ -29,7 +30,8 @@ def seconds_of(words, path):
     for _ in range(ROUNDS):
         before = resource.getrusage(resource.RUSAGE_CHILDREN)
         with open(path, "rb") as given:
-            out = subprocess.run(words, stdin=given, stdout=subprocess.PIPE, stderr=subprocess.DEVNULL, check=False).stdout
+            out = subprocess.run(words, stdin=given, stdout=subprocess.PIPE, stderr=subprocess.DEVNULL,
+                                 check=False).stdout
         after = resource.getrusage(resource.RUSAGE_CHILDREN)
         found.append(after.ru_utime + after.ru_stime - before.ru_utime - before.ru_stime)
     return min(found), out
@@ -66,11 +68,22 @@ class Room:
                        check=True)
         return to
 
+    def size_of_run(self, image):
+        """The bytes of machine code of an image's run."""
+        to = f"{self.folder}/one.o"
+        subprocess.run([*COMPILED, "-c", self.translated(image), "-o", to], check=True)
+        return int(re.search(r"^\w+ (\w+) t gp_run$", run(["nm", "-S", to]).out.decode(), re.M)[1], 16)
+
     def workload(self, name):
         """The image of a workload."""
         to = f"{self.folder}/{name}.img"
         subprocess.run([SANDBOX, "asm", put(f"{self.folder}/{name}.s", source_of(name).encode()), to], check=True)
         return to
+
+
+def names_of_c():
+    """The programs of examples/c."""
+    return sorted(it.removesuffix(".c") for it in os.listdir(f"{EXAMPLES}/c") if it.endswith(".c"))
 
 
 def words_in(image):
@@ -100,11 +113,12 @@ def beside_the_compiler(tally, room):
         tally.skip("instructions of the programs of examples/c", "valgrind, gcc-sparc64-linux-gnu")
         return
     put(f"{room.folder}/empty.c", b"int main(void) { return 0; }\n")
+    unlocked = put(f"{room.folder}/unlocked.h", UNLOCKED)
     bases, ratios = {}, []
-    for name in ("empty", *sorted(it.removesuffix(".c") for it in os.listdir(f"{EXAMPLES}/c") if it.endswith(".c"))):
+    for name in ("empty", *names_of_c()):
         source = f"{EXAMPLES}/c/{name}.c" if name != "empty" else f"{room.folder}/empty.c"
         image, native = f"{room.folder}/{name}.img", f"{room.folder}/{name}.native"
-        subprocess.run([*PLUG, source, "-o", native], check=True)
+        subprocess.run([*PLUG, "-include", unlocked, source, "-o", native], check=True)
         tally.check(f"an image of {name}", run([CC, source, "-o", image]).status == 0)
         given = bytes_of(f"{EXAMPLES}/c/in/{name}") if name != "empty" else b""
         counts = {"native": instructions_of([native], given), "here": instructions_of([room.compiled(image)], given)}
@@ -142,7 +156,7 @@ def piped(words, path):
 
 
 def translation(tally, room):
-    """The time that the greatest block takes, by the word, and the size of what is made of words from C."""
+    """The time that the greatest block takes, by the word, and the size of what is made of examples/c."""
     sources = {it: put(f"{room.folder}/dense{it}.s", dense_source(it).encode()) for it in (15_000, 60_000)}
     seconds = {}
     for count, source in sources.items():
@@ -152,15 +166,13 @@ def translation(tally, room):
     each = (seconds[60_000] - seconds[15_000]) / 45_000 * 1e6
     print(f"translation: {each:.2f} microseconds a word")
     tally.check(f"translation below {MOST_TRANSLATION} microsecond a word", each < MOST_TRANSLATION, f"{each:.2f}")
-    image = f"{room.folder}/json.img"
-    if not os.path.exists(image):
+    images = [it for it in (f"{room.folder}/{name}.img" for name in names_of_c()) if os.path.exists(it)]
+    if not images:
         tally.skip("the size of code", "gcc-sparc64-linux-gnu")
         return
-    subprocess.run([*COMPILED, "-c", room.translated(image), "-o", f"{room.folder}/json.o"], check=True)
-    listed = run(["nm", "-S", f"{room.folder}/json.o"]).out.decode()
-    size = int(re.search(r"^\w+ (\w+) t gp_run$", listed, re.M)[1], 16) / words_in(image)
-    print(f"code of a run: {size:.1f} bytes a word")
-    tally.check(f"code below {MOST_BYTES} bytes a word", size < MOST_BYTES, f"{size:.1f}")
+    each = sum(map(room.size_of_run, images)) / sum(map(words_in, images))
+    print(f"code of a run: {each:.1f} bytes a word")
+    tally.check(f"code below {MOST_BYTES} bytes a word", each < MOST_BYTES, f"{each:.1f}")
 
 
 def dense_source(words):

@@ -1,5 +1,6 @@
 /* Measures steps of a run: prints the nanoseconds of processor time that one takes, on an input of so many bytes that
    come in pieces of so many. The program puts out at most a byte for each that it gets. */
+#define _POSIX_C_SOURCE 200809L
 #include "geyserpan_native.h"
 #include <stdio.h>
 #include <stdlib.h>
