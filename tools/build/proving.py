@@ -3,6 +3,7 @@
 import os
 import shutil
 import tempfile
+import time
 from concurrent.futures import FIRST_COMPLETED, ThreadPoolExecutor, wait
 
 from kept import Kept, made_of, sweep
@@ -12,9 +13,12 @@ from standing import path_of
 ANEW = f"{TOP}/tools/build/rt-anew"
 # A build's room begins so.
 PREFIX = "build."
-# The processor seconds that a crate's proof is reckoned to take: each, each line of code, of specifications and proofs,
-# and of the libraries below, whose statements are read; a program is compiled, too.
-EACH, A_LINE, A_PROOF_LINE, A_LINE_BELOW, A_LINE_COMPILED = 8, 0.08, 0.002, 0.0003, 0.003
+# The processor seconds that a crate's proof is reckoned to take: each, each line of code, and each line of the code
+# below it, whose statements are read; a program is compiled, too. So it was on a slow machine, with all processors at
+# work. The lines of specifications and proofs told nothing more.
+EACH, A_LINE, A_LINE_BELOW, A_LINE_COMPILED = 17, 0.11, 0.0012, 0.003
+# Once this part of a build is done, its pace is known.
+SOME = 0.1
 # A crate that is checked with several jobs takes so much more memory, and less time, for each further one.
 MORE_MEMORY, GAIN = 0.6, 0.35
 # A crate gets so many jobs even where others wait, if the chain behind it is so many times as long as all that is left
@@ -60,8 +64,7 @@ class Plan:
         seconds = {}
         for it in self.names:
             below = sum(own[low] for low in self.below[it])
-            proofs = lines_in(f"{TOP}/crates/{it}/specs") + lines_in(f"{TOP}/crates/{it}/proofs")
-            seconds[it] = EACH + A_LINE * own[it] + A_PROOF_LINE * proofs + A_LINE_BELOW * below
+            seconds[it] = EACH + A_LINE * own[it] + A_LINE_BELOW * below
             if it in self.programs:
                 seconds[it] += A_LINE_COMPILED * below
         return seconds
@@ -99,9 +102,9 @@ class Plan:
         is_long = self.behind[name] > LONG * rest / lanes
         return max(1, min(max(idle // waiting, OF_LONG if is_long else 1), idle, MOST_JOBS))
 
-    def minutes(self, lanes):
-        """The minutes that so many processors are reckoned to take."""
-        left, given, running, now = list(self.left), set(self.sums), {}, 0
+    def minutes(self, lanes, left):
+        """The minutes that so many processors are reckoned to take for crates that are left."""
+        left, given, running, now = list(left), set(self.names).difference(left), {}, 0
         while left or running:
             ready = self.ready(left, given)
             for at, it in enumerate(ready):
@@ -113,7 +116,7 @@ class Plan:
             done = min(running, key=running.get)
             now = running.pop(done)[0]
             given.add(done)
-        return max(1, round(now / 60))
+        return now / 60
 
 
 class Build:
@@ -121,6 +124,7 @@ class Build:
 
     def __init__(self, rt, children, plan, tell):
         self.rt, self.children, self.plan, self.tell, self.room = rt, children, plan, tell, None
+        self.begun, self.whole = time.monotonic(), plan.minutes(rt.processors(), plan.left)
 
     def made(self, name, jobs):
         """Proves and builds one crate over those below it, which stand in the room; returns a library's sum."""
@@ -173,6 +177,15 @@ class Build:
             self.children.end()
             shutil.rmtree(self.room, ignore_errors=True)
 
+    def minutes_left(self, left, running):
+        """The minutes that the crates left are likely to take, and those that run, of which half is done, by the build's
+        own pace; None while that isn't known."""
+        lanes = self.rt.processors()
+        rest = (self.plan.minutes(lanes, left + running) + self.plan.minutes(lanes, left)) / 2
+        done = self.whole - rest
+        passed = (time.monotonic() - self.begun) / 60
+        return rest * passed / done if done > SOME * self.whole else None
+
     def in_lanes(self):
         """Proves side by side, as many at a time as processors and memory allow."""
         left, running, memory, count = list(self.plan.left), {}, 0.85 * self.rt.free(), 0
@@ -184,7 +197,7 @@ class Build:
                         name, _, _ = running.pop(it)
                         self.plan.sums[name] = it.result()
                         count += 1
-                        self.tell(name, count)
+                        self.tell(name, count, self.minutes_left(left, [it for it, _, _ in running.values()]))
             except BaseException:
                 self.children.end()
                 raise
