@@ -1,15 +1,16 @@
 //! Whether a block's fuel lasts.
-ghost use Rattle.std.specs.Prelude.{◌≡◌, ◌<◌, ◌≤◌, ◌^◌, ◌+ℤ◌, ◌-ℤ◌, pos, true, false, length, unsigned_abs, IfSome, Ok};
+ghost use Rattle.std.specs.Prelude.{◌≡◌, ◌+◌, ◌*◌, ◌<◌, ◌≤◌, ◌^◌, ◌+ℤ◌, ◌-ℤ◌, pos, true, false, length, unsigned_abs, IfSome, Ok};
 ghost use Rattle.std.specs.Prelude.{Some, map, not};
-ghost use Rattle.sbx_rules.specs.Known.{known};
+ghost use Rattle.sbx_rules.specs.Known.{known, range_at};
 ghost use Rattle.sbx_image.specs.Rules.{parts_keep};
 ghost use Rattle.sbx_rules.specs.Fuel.{IsEnough, IsPaid, IsWithinBudget};
 ghost use Rattle.sbx_image.specs.Order.{function_at};
 ghost use Rattle.sbx_rules.specs.Rules.{names_strange};
 ghost use Rattle.sbx_rules.specs.Ways.{fuel_at, state_at};
 ghost use Rattle.sbx_fuel.specs.Blocks.{IsKeptBlock, first_of, fuel_of};
-ghost use Rattle.sbx_fuel.specs.Least.{HasOnlyLocations, is_natural_sum};
-ghost use Rattle.sbx_fuel.specs.Margins.{AreSome};
+ghost use Rattle.sbx_form.specs.Forms.{AreWithin};
+ghost use Rattle.sbx_fuel.specs.Least.{HasOnlyLocations, is_natural_sum, least_over};
+ghost use Rattle.sbx_fuel.specs.Margins.{AreSome, start_terms};
 
 use crate::starts::{all_negated, fuel_terms, names_none};
 use crate::sums::{least_at_start, less_forms, taken_by};
@@ -57,6 +58,64 @@ fn constant_left(fuel: i64, next: i64, weight: u64) -> i128
     i128::from(fuel) - i128::from(next) - i128::from(weight)
 }
 
+/// The least value of a block's own terms.
+fn least_of_own(function: &Function, number: usize, block: &Block) -> Option<i128>
+    requires { length block.now.terms ≤ 8 }
+    ensures value { result ≡
+        least_over (range_at (first_of function.now number block.now)) (fuel_of function.now number block.now).terms }
+    ensures bound { IfSome result (λ m. unsigned_abs m ≤ 2 ^ 112) }
+{
+    let terms: ArrayVec<FormTerm, 8> = fuel_terms(function, number, block);
+    least_at_start(function, number, block, terms.as_slice())
+}
+
+/// The least value of a block's terms once those of the block after it are taken away, with room for `N` terms.
+fn least_of_both<const N: usize>(
+    function: &Function,
+    number: usize,
+    block: &Block,
+    now: &State,
+    next: &[FormTerm],
+) -> Option<i128>
+    requires room { length block.now.terms + 8 * length next.now ≤ N }
+    requires some_room { N ≤ 72 }
+    requires few { length next.now ≤ 8 }
+    requires small { AreWithin (2 ^ 31) next.now }
+    ensures value { result ≡
+        least_over (range_at (first_of function.now number block.now))
+        (start_terms (known now.now) next.now (fuel_of function.now number block.now).terms) }
+    ensures bound { IfSome result (λ m. unsigned_abs m ≤ 2 ^ 112) }
+{
+    let mut terms: ArrayVec<FormTerm, N> = fuel_terms(function, number, block);
+    less_forms(&mut terms, now, next);
+    least_at_start(function, number, block, terms.as_slice())
+}
+
+/// The same, with no more room than is needed: the fuel of most blocks is a number alone, or has one term.
+fn least_left(
+    function: &Function,
+    number: usize,
+    block: &Block,
+    now: &State,
+    next: &[FormTerm],
+) -> Option<i128>
+    requires own { length block.now.terms ≤ 8 }
+    requires few { length next.now ≤ 8 }
+    requires small { AreWithin (2 ^ 31) next.now }
+    ensures value { result ≡
+        least_over (range_at (first_of function.now number block.now))
+        (start_terms (known now.now) next.now (fuel_of function.now number block.now).terms) }
+    ensures bound { IfSome result (λ m. unsigned_abs m ≤ 2 ^ 112) }
+{
+    if next.is_empty() {
+        least_of_own(function, number, block)
+    } else if next.len() < 2 {
+        least_of_both::<16>(function, number, block, now, next)
+    } else {
+        least_of_both::<72>(function, number, block, now, next)
+    }
+}
+
 /// Whether a block's fuel lasts for the weight and the fuel of the block after it, where numbers are in their ranges.
 fn lasts_for(
     function: &Function,
@@ -77,12 +136,10 @@ fn lasts_for(
         IsPaid (first_of function.now number block.now) (fuel_of function.now number block.now) weight (known now.now)
         (fuel_of function.now target next.now) → ⊥ }
 {
-    let mut terms: ArrayVec<FormTerm, 72> = fuel_terms(function, number, block);
     let other: ArrayVec<FormTerm, 8> = fuel_terms(function, target, next);
-    less_forms(&mut terms, now, other.as_slice());
     is_natural_sum(
         constant_left(block.fuel, next.fuel, weight),
-        least_at_start(function, number, block, terms.as_slice()),
+        least_left(function, number, block, now, other.as_slice()),
         taken_by(now, other.as_slice()),
     )
 }

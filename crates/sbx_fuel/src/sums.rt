@@ -27,8 +27,8 @@ fn product(times: i128, number: i128) -> i128
 }
 
 /// Adds so many times a term to terms.
-fn add_times_term(terms: &mut ArrayVec<FormTerm, 72>, times: i128, term: FormTerm)
-    requires room { array_vec_len terms.old < 72 }
+fn add_times_term<const N: usize>(terms: &mut ArrayVec<FormTerm, N>, times: i128, term: FormTerm)
+    requires room { array_vec_len terms.old < N }
     requires small { AreWithin (2 ^ 90) terms.old.items }
     requires small_times { unsigned_abs times ≤ 2 ^ 31 }
     requires small_term { unsigned_abs term.coefficient ≤ 2 ^ 32 }
@@ -38,8 +38,8 @@ fn add_times_term(terms: &mut ArrayVec<FormTerm, 72>, times: i128, term: FormTer
 }
 
 /// Adds so many times a form's terms to terms.
-fn add_times(terms: &mut ArrayVec<FormTerm, 72>, times: i128, form: &[FormTerm])
-    requires room { array_vec_len terms.old + length form.now ≤ 72 }
+fn add_times<const N: usize>(terms: &mut ArrayVec<FormTerm, N>, times: i128, form: &[FormTerm])
+    requires room { array_vec_len terms.old + length form.now ≤ N }
     requires few { length form.now ≤ 8 }
     requires small { AreWithin (2 ^ 80) terms.old.items }
     requires small_times { unsigned_abs times ≤ 2 ^ 31 }
@@ -52,8 +52,8 @@ fn add_times(terms: &mut ArrayVec<FormTerm, 72>, times: i128, form: &[FormTerm])
 }
 
 /// Takes a term of another block's fuel away, where its location has a form: as many times the form's terms.
-fn less_form(terms: &mut ArrayVec<FormTerm, 72>, now: &State, term: FormTerm)
-    requires room { array_vec_len terms.old + 8 ≤ 72 }
+fn less_form<const N: usize>(terms: &mut ArrayVec<FormTerm, N>, now: &State, term: FormTerm)
+    requires room { array_vec_len terms.old + 8 ≤ N }
     requires small { AreWithin (2 ^ 80) terms.old.items }
     requires small_term { unsigned_abs term.coefficient ≤ 2 ^ 31 }
     ensures value { terms.new.items ≡
@@ -68,9 +68,13 @@ fn less_form(terms: &mut ArrayVec<FormTerm, 72>, now: &State, term: FormTerm)
 }
 
 /// Takes the terms of another block's fuel away, where their locations have forms.
-pub(crate) fn less_forms(terms: &mut ArrayVec<FormTerm, 72>, now: &State, next: &[FormTerm])
+pub(crate) fn less_forms<const N: usize>(
+    terms: &mut ArrayVec<FormTerm, N>,
+    now: &State,
+    next: &[FormTerm],
+)
     requires few { length next.now ≤ 8 }
-    requires room { array_vec_len terms.old ≤ 8 }
+    requires room { array_vec_len terms.old + 8 * length next.now ≤ N }
     requires small { AreWithin (2 ^ 31) terms.old.items }
     requires small_next { AreWithin (2 ^ 31) next.now }
     ensures value { terms.new.items ≡ start_terms (known now.now) next.now terms.old.items }

@@ -31,15 +31,12 @@ sum_is c =
     let v = c.constant_left.ensures.value in
     let number : to_z w128 (of_z w128 c.constant_left.result) ≡ before = omega (arith, ints) in
     let items : c.as_slice.result.now ≡ other = c.as_slice.ensures.value ∙ c.fuel_terms-other.ensures.value in
-    let others : c.as_slice-3.result.now ≡ other = c.as_slice-3.ensures.value ∙ c.fuel_terms-other.ensures.value in
-    let starts : c.less_forms.new.terms.items ≡ start_terms here other own =
-    c.less_forms.ensures.value
-    ∙ (ap (λ (ts : List FormTerm). start_terms here ts c.fuel_terms-terms.result.items) items ∙ ap (λ (ts : List FormTerm). start_terms here other ts) c.fuel_terms-terms.ensures.value) in
-    let least : c.least_at_start.result ≡ least_over (range_at first) (start_terms here other own) =
-    c.least_at_start.ensures.value ∙ ap (λ (ts : List FormTerm). least_over (range_at first) ts) (c.as_slice-2.ensures.value ∙ starts) in
+    let others : c.as_slice-2.result.now ≡ other = c.as_slice-2.ensures.value ∙ c.fuel_terms-other.ensures.value in
+    let least : c.least_left.result ≡ least_over (range_at first) (start_terms here other own) =
+    c.least_left.ensures.value ∙ ap (λ (ts : List FormTerm). least_over (range_at first) (start_terms here ts own)) items in
     let taken : c.taken_by.result ≡ taken_by here other = c.taken_by.ensures.value ∙ ap (λ (ts : List FormTerm). taken_by here ts) others in
     c.is_natural_sum.ensures
-    ∙ (ap (λ (z : ℤ). is_natural_sum z c.least_at_start.result c.taken_by.result) number
+    ∙ (ap (λ (z : ℤ). is_natural_sum z c.least_left.result c.taken_by.result) number
     ∙ (ap (λ (o : Option ℤ). is_natural_sum before o c.taken_by.result) least
     ∙ ap (λ (o : Option ℤ). is_natural_sum before (least_over (range_at first) (start_terms here other own)) o) taken))
 
@@ -68,9 +65,3 @@ is_natural_sum-requires-clause-other c = grind (arith, common_steps)
 
 pub taken_by-requires-clause-small : goal.taken_by-requires-clause-small
 taken_by-requires-clause-small c = grind (arith, common_steps)
-
-pub least_at_start-requires-clause-small : goal.least_at_start-requires-clause-small
-least_at_start-requires-clause-small c = grind (arith, common_steps)
-
-pub less_forms-requires-clause-small_next : goal.less_forms-requires-clause-small_next
-less_forms-requires-clause-small_next c = grind (arith, common_steps)

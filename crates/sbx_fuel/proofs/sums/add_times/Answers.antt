@@ -1,5 +1,5 @@
 use Rattle.std.proofs.lemmas.Grind.{common_steps}
-use Rattle.std.proofs.Common.{◌≡◌, ℤ, ◌+◌, ◌*◌, ◌*ℤ◌, ◌^◌, ◌≤◌, pos, arith, List, drop, get_or, length, sym, ap, ◌∙◌, subst, to_z, of_z}
+use Rattle.std.proofs.Common.{◌≡◌, ℤ, ◌+◌, ◌*◌, ◌*ℤ◌, ◌^◌, ◌≤◌, pos, arith, rules, List, drop, get_or, length, sym, ap, ◌∙◌, subst, to_z, of_z}
 use Rattle.std.specs.Prelude.{unsigned_abs}
 use Rattle.std.specs.Int.{w128}
 use Rattle.std.proofs.lemmas.Int.{to_z-of_z}
@@ -13,17 +13,22 @@ use Rattle.sbx_fuel.proofs.sums.add_times.Goals as goal
 none : FormTerm
 none = record { location = 0; coefficient = pos 0 }
 
-pub add_times_term-requires-clause-small : goal.add_times_term-requires-clause-small
-add_times_term-requires-clause-small c =
-    wider_bound (2 ^ 80 + c.loop-term.term-index * 2 ^ 63) (2 ^ 90) c.loop-term.terms.items (omega (arith, c.requires.few, c.loop-term-test.true)) c.loop-term.invariant.small
-
-pub add_times_term-requires-clause-small_term : goal.add_times_term-requires-clause-small_term
+pub add_times_term-requires : goal.add_times_term-requires
 unfolding none
-add_times_term-requires-clause-small_term c = within_at (2 ^ 32) c.args.form.now c.loop-term.term-index none c.requires.small_form c.loop-term-test.true
+add_times_term-requires g c = (
+  search rules,
+  (
+    omega (arith, c.loop-term.invariant.room, c.requires.room, c.loop-term-test.true),
+    (
+      wider_bound (2 ^ 80 + c.loop-term.term-index * 2 ^ 63) (2 ^ 90) c.loop-term.terms.items (omega (arith, c.requires.few, c.loop-term-test.true)) c.loop-term.invariant.small,
+      (grind (arith, common_steps), within_at (2 ^ 32) c.args.form.now c.loop-term.term-index none c.requires.small_form c.loop-term-test.true),
+    ),
+  ),
+)
 
 pub loop-term-preserved : goal.loop-term-preserved
 unfolding none
-loop-term-preserved c =
+loop-term-preserved g c =
     let k : ℤ = to_z w128 (of_z w128 c.args.times) in
     let e : k ≡ c.args.times = to_z-of_z w128 c.args.times c.ranges.times in
     let i = c.loop-term.term-index in
@@ -42,13 +47,10 @@ loop-term-preserved c =
     }
 
 pub returns : goal.returns
-returns c =
+returns g c =
     all_added (to_z w128
     (of_z w128 c.args.times)) c.args.times c.args.form.now c.loop-term.terms.items c.loop-term.term-index c.args.terms.now.items c.loop-term-test.false
     (to_z-of_z w128 c.args.times c.ranges.times) c.loop-term.invariant.value
 
-pub add_times_term-requires-clause-small_times : goal.add_times_term-requires-clause-small_times
-add_times_term-requires-clause-small_times c = grind (arith, common_steps)
-
 pub loop-term-init : goal.loop-term-init
-loop-term-init c = grind (arith, common_steps)
+loop-term-init g c = grind (arith, common_steps)

@@ -10,7 +10,7 @@ use Rattle.sbx_fuel.proofs.Counting.{sums_few, sums_within}
 use Rattle.sbx_fuel.proofs.sums.less_form.Goals as goal
 
 pub returns-in-Some-clause-few : goal.returns-in-Some-clause-few
-returns-in-Some-clause-few c =
+returns-in-Some-clause-few g c =
     let k : ℤ = to_z w128 (of_z w128 c.negated.result.coefficient) in
     let n = ap (λ (ts : List FormTerm). length ts) c.add_times.ensures in
     let m = sums_few k c.as_slice.result.now c.args.terms.now.items in
@@ -19,7 +19,7 @@ returns-in-Some-clause-few c =
     omega arith
 
 pub returns-in-Some-clause-within : goal.returns-in-Some-clause-within
-returns-in-Some-clause-within c =
+returns-in-Some-clause-within g c =
     let k : ℤ = to_z w128 (of_z w128 c.negated.result.coefficient) in
     let fits : SFits w128 c.negated.result.coefficient = search rules in
     let e : k ≡ c.negated.result.coefficient = to_z-of_z w128 c.negated.result.coefficient fits in
@@ -32,19 +32,13 @@ returns-in-Some-clause-within c =
     (wider_bound (m + length form * 2 ^ 63) (m + 2 ^ 66) _ (omega arith) (sums_within k form c.args.terms.now.items m small small_form h))
 
 pub returns-in_default-clause-within : goal.returns-in_default-clause-within
-returns-in_default-clause-within c = λ m h. wider_bound m (m + 2 ^ 66) c.args.terms.now.items (omega arith) h
+returns-in_default-clause-within g c = λ m h. wider_bound m (m + 2 ^ 66) c.args.terms.now.items (omega arith) h
 
 pub returns-in-Some-clause-value : goal.returns-in-Some-clause-value
-returns-in-Some-clause-value c = search rules
+returns-in-Some-clause-value g c = search rules
 
-pub add_times-requires-clause-small_form : goal.add_times-requires-clause-small_form
-add_times-requires-clause-small_form c = grind (arith, common_steps)
-
-pub add_times-requires-clause-small_times : goal.add_times-requires-clause-small_times
-add_times-requires-clause-small_times c = grind (arith, common_steps)
-
-pub add_times-requires-clause-small : goal.add_times-requires-clause-small
-add_times-requires-clause-small c = assumption
-
-pub add_times-requires-clause-room : goal.add_times-requires-clause-room
-add_times-requires-clause-room c = grind (arith, common_steps)
+pub add_times-requires : goal.add_times-requires
+add_times-requires g c = (
+  search rules,
+  (grind (arith, common_steps), (grind (arith, common_steps), (c.requires.small, (grind (arith, common_steps), grind (arith, common_steps))))),
+)
