@@ -152,7 +152,7 @@ ASKERS = (
     "with_capacity", "reserve", "reserve_exact", "try_reserve", "try_reserve_exact", "resize", "resize_with",
     "try_resize_with", "from_elem", "extend_from_within",
 )
-HANDED = ("repeated", "with_room", "zeros", "items_of")
+HANDED = ("with_room", "zeros", "items_of")
 
 # Calls that ask for as much as an iterator or a list says.
 GATHERS = ("extend", "collect", "join", "concat")

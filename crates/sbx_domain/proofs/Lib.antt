@@ -5,4 +5,5 @@ pub mod Examples
 pub mod Tables
 pub mod Moves
 pub mod Marked
+pub mod Padding
 pub mod Writes

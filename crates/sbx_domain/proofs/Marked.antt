@@ -68,6 +68,17 @@ marked_restored A xs ys moved = one_marked A 0 ys (omega arith) (λ k other. mov
         by_test true h = grind (arith, nat_tests)
         by_test false h = absurd (other (let below : k < 16 = grind (arith, nat_tests) in omega (arith, below)))
 
+-- from where nothing stands on, nothing has to go
+pub cleared_past : (A : Type 0) (from to n : ℕ) (xs : List (Option A)) → from ≤ n → ((k : ℕ) → n ≤ k → k < to → slice_index_or xs k None ≡ None)
+    → (k : ℕ) → n ≤ k → after_clear A from to xs k ≡ slice_index_or xs k None
+cleared_past A from to n xs low none k past = by_end (nat_lt k to) refl
+  where
+    by_end : (t : Bool) → nat_lt k to ≡ t → after_clear A from to xs k ≡ slice_index_or xs k None
+    by_end true h =
+        let below : k < to = grind (arith, nat_tests) in
+        after_clear_within A from to xs k (omega (arith, low, past)) below ∙ sym (none k past below)
+    by_end false h = after_clear_past A from to xs k (grind (arith, nat_tests))
+
 -- a part without a mark is passed by
 pub part_cleared : (A : Type 0) (from to n m : ℕ) (marks : List Bool) (xs ys : List (Option A)) → from ≤ n → n < m → ((k : ℕ) → n ≤ k → k < m → k / 16 ≡ n / 16)
     → slice_index_or marks (n / 16) false ≡ false → AreMarked from to marks xs → FilledTo A n (after_clear A from to xs) xs ys → FilledTo A m (after_clear A from to xs) xs ys

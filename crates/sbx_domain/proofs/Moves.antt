@@ -85,14 +85,21 @@ after_clear_past A from to xs k high =
 
 -- ---- entries that are copied
 
-pub all_copied : (A : Type 0) (n : ℕ) (from to old : List (Option A)) → length from ≡ 1040 → length to ≡ 1040 → length old ≡ 1040 → 1040 ≤ n →
-    FilledTo A n (λ k. slice_index_or from k None) old to → to ≡ from
-all_copied A n from to old size same before end rest =
-    ext_get_or {A = Option A} None to from (omega (arith, size, same))
-    (λ k within. all_filled A n (λ k. slice_index_or from k None) old to (λ k past. past_both k (omega (arith, past, end))) rest k)
+-- below an end nothing stands from a place on, so nothing stands there at all
+pub none_from : (A : Type 0) (n : ℕ) (xs : List (Option A)) → length xs ≡ 1040 → ((k : ℕ) → n ≤ k → k < 1040 → slice_index_or xs k None ≡ None)
+    → (k : ℕ) → n ≤ k → slice_index_or xs k None ≡ None
+none_from A n xs size none k past = by_test (nat_lt k 1040) refl
   where
-    past_both : (k : ℕ) → 1040 ≤ k → slice_index_or from k None ≡ slice_index_or old k None
-    past_both k past = get_or_past from k None (omega (arith, past, size)) ∙ sym (get_or_past old k None (omega (arith, past, before)))
+    by_test : (t : Bool) → nat_lt k 1040 ≡ t → slice_index_or xs k None ≡ None
+    by_test true h = none k past (grind (arith, nat_tests))
+    by_test false h = get_or_past xs k None (let end : 1040 ≤ k = grind (arith, nat_tests) in omega (arith, end, size))
+
+pub all_copied : (A : Type 0) (n : ℕ) (from to old : List (Option A)) → length from ≡ 1040 → length to ≡ 1040
+    → ((k : ℕ) → n ≤ k → slice_index_or from k None ≡ None) → ((k : ℕ) → n ≤ k → slice_index_or old k None ≡ None)
+    → FilledTo A n (λ k. slice_index_or from k None) old to → to ≡ from
+all_copied A n from to old size same none before rest =
+    ext_get_or {A = Option A} None to from (omega (arith, size, same))
+    (λ k within. all_filled A n (λ k. slice_index_or from k None) old to (λ k past. none k past ∙ sym (before k past)) rest k)
 
 -- ---- after a SAVE
 

@@ -1,11 +1,11 @@
 -- What a table knows after a write of one of its entries.
 use Rattle.std.proofs.Common.{◌≡◌, ℕ, suc, add-one, ◌+◌, ◌-◌, ◌<◌, ◌≤◌, Bool, true, false, List, ◌∷◌, length, drop, Option, Some, None, slice_index_or, slice_set, ap, refl, sym, arith, ◌∙◌}
-use Rattle.std.specs.Prelude.{◌==◌, nat_lt, if◌then◌else◌, replicate}
+use Rattle.std.specs.Prelude.{◌==◌, if◌then◌else◌}
 use Rattle.std.proofs.Math.Path.{fun_ext}
 use Rattle.std.proofs.Math.Seq.{drop-cons}
 use Rattle.std.proofs.lemmas.Bool.Decides.{nat_tests}
 use Rattle.std.proofs.lemmas.Grind.{get_or-set_at}
-use Rattle.std.proofs.lemmas.List.{get_or-set_other, get_or-replicate, get_or_past, length-replicate, drop_all}
+use Rattle.std.proofs.lemmas.List.{get_or-set_other, get_or_past, drop_all}
 use Rattle.sbx_range.specs.Range.{Range}
 use Rattle.sbx_flat.specs.Three.{Three}
 use Rattle.sbx_flat.specs.Operation.TheVariants.{Save}
@@ -64,21 +64,6 @@ known_unwritten s l e here = sym (written_by l e (known s) false here)
 
 abbrev none : Option Entry
 none = None
-
-pub blank : (n k : ℕ) → entries_of (replicate n none) k ≡ none
-blank n k = by_less (nat_lt k n) refl
-  where
-    size : length (replicate n none) ≡ n
-    size = length-replicate n none
-
-    by_less : (t : Bool) → nat_lt k n ≡ t → entries_of (replicate n none) k ≡ none
-    by_less true h = get_or-replicate n k none none (grind (arith, nat_tests))
-    by_less false h = get_or_past (replicate n none) k none (grind (arith, nat_tests, size))
-
--- blank entries know nothing
-pub nothing_in_blanks : (xs : List (Option Entry)) (n : ℕ) → xs ≡ replicate n None → known (record { entries = xs; y = None; icc = false; relation = None }) ≡ nothing_known
-unfolding known
-nothing_in_blanks xs n is = ap (λ ys. knowing None false None (entries_of ys)) is ∙ ap (knowing None false None) (fun_ext (λ k. blank n k))
 
 -- a range in the place of an entry's
 narrowed_entries : (f : Entries) (l : ℕ) (r : Range) → entries_with f l (with_range_of r (f l)) ≡ (λ k. if k == l then with_range_of r (f k) else f k)

@@ -12,7 +12,7 @@ mod operands;
 mod parts;
 mod relation;
 mod results;
-mod room;
+mod rows;
 mod state;
 mod words;
 

@@ -5,10 +5,11 @@ ghost use Rattle.sbx_domain.specs.Transfer.{is_global, is_in, is_kept_by_calls, 
 
 use crate::entry::{Entry, plain_entry};
 use crate::parts::{PARTS, clear_entries};
+use crate::rows::Rows;
 use sbx_range::Range;
 
 /// Outs become ins, and nothing else stays.
-pub(crate) fn save_entries<T: Copy>(entries: &mut [Option<T>], marks: &[bool; PARTS])
+pub(crate) fn save_entries<T: Copy>(entries: &mut Rows<T>, marks: &[bool; PARTS])
     requires size { length entries.old ≡ 1040 }
     requires marked { AreMarked 0 1040 marks.now entries.old }
     ensures size { length entries.new ≡ length entries.old }
@@ -16,15 +17,15 @@ pub(crate) fn save_entries<T: Copy>(entries: &mut [Option<T>], marks: &[bool; PA
         slice_index_or entries.new k None ≡ (if is_in k then slice_index_or entries.old (k - 16) None else None) }
 {
     for location in 24..32 {
-        let entry = entries[location - 16];
-        entries[location] = entry;
+        let entry = entries.get(location - 16);
+        entries.set(location, entry);
     }
     clear_entries(entries, marks, 0, 24);
     clear_entries(entries, marks, 32, 1_040);
 }
 
 /// Ins become outs, globals stay, and nothing else does.
-pub(crate) fn restore_entries<T: Copy>(entries: &mut [Option<T>], marks: &[bool; PARTS])
+pub(crate) fn restore_entries<T: Copy>(entries: &mut Rows<T>, marks: &[bool; PARTS])
     requires size { length entries.old ≡ 1040 }
     requires marked { AreMarked 0 1040 marks.now entries.old }
     ensures size { length entries.new ≡ length entries.old }
@@ -34,8 +35,8 @@ pub(crate) fn restore_entries<T: Copy>(entries: &mut [Option<T>], marks: &[bool;
         else (if is_out k then slice_index_or entries.old (k + 16) None else None)) }
 {
     for location in 8..16 {
-        let entry = entries[location + 16];
-        entries[location] = entry;
+        let entry = entries.get(location + 16);
+        entries.set(location, entry);
     }
     clear_entries(entries, marks, 16, 1_040);
 }
@@ -52,7 +53,7 @@ fn returned_entry(results: &[Range], location: usize) -> Option<Entry>
 }
 
 /// Outs get the results, globals nothing; locals, ins and frame words stay.
-pub(crate) fn return_entries(entries: &mut [Option<Entry>], results: &[Range])
+pub(crate) fn return_entries(entries: &mut Rows<Entry>, results: &[Range])
     requires { length entries.old ≡ 1040 }
     ensures size { length entries.new ≡ length entries.old }
     ensures moved { (k : ℕ) →
@@ -60,6 +61,6 @@ pub(crate) fn return_entries(entries: &mut [Option<Entry>], results: &[Range])
         (if is_kept_by_calls k then slice_index_or entries.old k None else result_entry results.now k) }
 {
     for location in 0..16 {
-        entries[location] = returned_entry(results, location);
+        entries.set(location, returned_entry(results, location));
     }
 }

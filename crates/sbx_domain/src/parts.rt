@@ -5,6 +5,8 @@ ghost use Rattle.sbx_domain.specs.Known.{is_empty_range, range_of_entry};
 ghost use Rattle.sbx_domain.specs.Parts.{AreMarked};
 
 use crate::entry::{Entry, is_empty};
+use crate::rows::Rows;
+use crate::state::LOCATIONS;
 
 /// Locations in a part: the globals and outs, the locals and ins, or sixteen words of the frame.
 pub(crate) const PART: usize = 16;
@@ -51,7 +53,7 @@ fn next_part(location: usize) -> usize
 
 /// Nothing stays from one location on and below another.
 pub(crate) fn clear_entries<T: Copy>(
-    entries: &mut [Option<T>],
+    entries: &mut Rows<T>,
     marks: &[bool; PARTS],
     from: usize,
     to: usize,
@@ -64,10 +66,11 @@ pub(crate) fn clear_entries<T: Copy>(
         slice_index_or entries.new k None ≡
         (if nat_le from k && nat_lt k to then None else slice_index_or entries.old k None) }
 {
+    let end = entries.end_below(to);
     let mut location = from;
-    while location < to {
+    while location < end {
         if is_marked(marks, location) {
-            entries[location] = None;
+            entries.remove(location);
             location += 1;
         } else {
             location = next_part(location);
@@ -77,8 +80,8 @@ pub(crate) fn clear_entries<T: Copy>(
 
 /// Makes entries equal to others, where each has its marks.
 pub(crate) fn copy_entries<T: Copy>(
-    from: &[Option<T>],
-    to: &mut [Option<T>],
+    from: &Rows<T>,
+    to: &mut Rows<T>,
     from_marks: &[bool; PARTS],
     to_marks: &[bool; PARTS],
 )
@@ -88,11 +91,11 @@ pub(crate) fn copy_entries<T: Copy>(
     requires to_marked { AreMarked 0 1040 to_marks.now to.old }
     ensures { to.new ≡ from.now }
 {
+    let end = from.end_below(LOCATIONS).max(to.end_below(LOCATIONS));
     let mut location = 0;
-    while location < from.len() {
+    while location < end {
         if is_marked_in_either(from_marks, to_marks, location) {
-            let entry = from[location];
-            to[location] = entry;
+            to.set(location, from.get(location));
             location += 1;
         } else {
             location = next_part(location);
@@ -101,7 +104,7 @@ pub(crate) fn copy_entries<T: Copy>(
 }
 
 /// Whether some entry's range holds no number.
-pub(crate) fn has_empty(entries: &[Option<Entry>], marks: &[bool; PARTS]) -> bool
+pub(crate) fn has_empty(entries: &Rows<Entry>, marks: &[bool; PARTS]) -> bool
     requires size { length entries.now ≡ 1040 }
     requires marked { AreMarked 0 1040 marks.now entries.now }
     ensures some { result ≡ true →
@@ -109,11 +112,12 @@ pub(crate) fn has_empty(entries: &[Option<Entry>], marks: &[bool; PARTS]) -> boo
     ensures none { result ≡ false → (l : ℕ) →
         is_empty_range (range_of_entry (slice_index_or entries.now l None)) ≡ false }
 {
+    let end = entries.end_below(LOCATIONS);
     let mut location = 0;
-    while location < entries.len() {
+    while location < end {
         if !is_marked(marks, location) {
             location = next_part(location);
-        } else if is_empty(&entries[location]) {
+        } else if is_empty(&entries.get(location)) {
             return true;
         } else {
             location += 1;

@@ -7,7 +7,7 @@ use crate::lin::Lin;
 use crate::moving::{restore_entries, return_entries, save_entries};
 use crate::parts::{PART, PARTS, clear_entries, copy_entries, has_empty, only};
 use crate::relation::{Related, Relation, without_location};
-use crate::room::repeated;
+use crate::rows::Rows;
 use sbx_range::{Cell, Pair, Range, refine_by_value};
 use std::alloc::{AllocError, Global};
 use std::marker::Model;
@@ -20,7 +20,7 @@ pub const LOCATIONS: usize = 1_040;
 /// what it knows.
 #[derive(Drop)]
 pub struct State {
-    entries: Vec<Option<Entry>>,
+    entries: Rows<Entry>,
     // by parts of 16 locations: in one without a mark nothing is known, and nothing walks over it
     marks: [bool; PARTS],
     y: Option<Range>,
@@ -35,9 +35,9 @@ impl Model for State {
 
     ghost Value = { Table };
 
-    ghost view = { λ s. record { entries = s.entries.items; y = s.y; icc = s.icc; relation = s.relation } };
+    ghost view = { λ s. record { entries = s.entries; y = s.y; icc = s.icc; relation = s.relation } };
 
-    ghost invariant = { λ s. (length s.entries.items ≡ 1040) × (length s.marks ≡ 65) × AreMarked 0 1040 s.marks s.entries.items };
+    ghost invariant = { λ s. (length s.entries ≡ 1040) × (length s.marks ≡ 65) × AreMarked 0 1040 s.marks s.entries };
 }
 
 impl State {
@@ -57,7 +57,7 @@ impl State {
         ensures { IfOk result (λ state. known state ≡ nothing_known) }
     {
         Ok(State {
-            entries: repeated(alloc, None, LOCATIONS)?,
+            entries: Rows::new(alloc)?,
             marks: [false; PARTS],
             y: None,
             icc: false,
@@ -70,11 +70,7 @@ impl State {
     pub fn entry(&self, location: u16) -> Option<Entry>
         ensures { result ≡ (known self.now).entry location }
     {
-        if usize::from(location) < LOCATIONS {
-            self.entries[location as usize]
-        } else {
-            None
-        }
+        self.entries.get(usize::from(location))
     }
 
     /// The range of a location, where it is defined.
@@ -111,7 +107,7 @@ impl State {
         ensures { known self.new ≡ with_entry location entry (known self.old) }
     {
         if 0 < location && usize::from(location) < LOCATIONS {
-            self.entries[location as usize] = entry;
+            self.entries.set(location as usize, entry);
             self.marks[location as usize / PART] = true;
             self.relation = without_location(location, self.relation);
         }
@@ -163,7 +159,7 @@ impl State {
     pub fn save(&mut self)
         ensures { (frame : ℕ) → (fields : Three) → known self.new ≡ transferred frame (Save fields) (known self.old) }
     {
-        save_entries(self.entries.as_mut_slice(), &self.marks);
+        save_entries(&mut self.entries, &self.marks);
         self.marks = only(1);
         self.y = None;
         self.icc = false;
@@ -174,7 +170,7 @@ impl State {
     pub(crate) fn pop(&mut self)
         ensures { known self.new ≡ restored (known self.old) }
     {
-        restore_entries(self.entries.as_mut_slice(), &self.marks);
+        restore_entries(&mut self.entries, &self.marks);
         self.marks = only(0);
         self.relation = None;
     }
@@ -184,7 +180,7 @@ impl State {
     pub fn return_with(&mut self, results: &[Range])
         ensures { known self.new ≡ called results.now (known self.old) }
     {
-        return_entries(self.entries.as_mut_slice(), results);
+        return_entries(&mut self.entries, results);
         self.marks[0] = true;
         self.y = None;
         self.icc = false;
@@ -195,7 +191,7 @@ impl State {
     fn clear(&mut self)
         ensures { known self.new ≡ nothing_known }
     {
-        clear_entries(self.entries.as_mut_slice(), &self.marks, 0, LOCATIONS);
+        clear_entries(&mut self.entries, &self.marks, 0, LOCATIONS);
         self.marks = [false; PARTS];
         self.y = None;
         self.icc = false;
@@ -225,12 +221,7 @@ impl State {
     pub fn copy_to(&self, other: &mut State)
         ensures { other.new ≡ self.now }
     {
-        copy_entries(
-            self.entries.as_slice(),
-            other.entries.as_mut_slice(),
-            &self.marks,
-            &other.marks,
-        );
+        copy_entries(&self.entries, &mut other.entries, &self.marks, &other.marks);
         let marks = self.marks;
         other.marks = marks;
         other.y = self.y;
@@ -244,7 +235,7 @@ impl State {
         ensures some { result ≡ true → (l : ℕ) × (is_empty_range (range_at (known self.now) l) ≡ true) }
         ensures none { result ≡ false → (l : ℕ) → is_empty_range (range_at (known self.now) l) ≡ false }
     {
-        has_empty(self.entries.as_slice(), &self.marks)
+        has_empty(&self.entries, &self.marks)
     }
 
     /// Puts a range in the place of a location's, where it is defined. This is no write: its form and the relation
@@ -254,7 +245,7 @@ impl State {
     {
         let entry = with_range(range, self.entry(location));
         if usize::from(location) < LOCATIONS {
-            self.entries[location as usize] = entry;
+            self.entries.set(location as usize, entry);
             self.marks[location as usize / PART] = true;
         }
     }

@@ -1,6 +1,5 @@
-use Rattle.std.proofs.Common.{◌≡◌, ◌-◌, length, None, ◌∙◌, arith, length-set, rules}
-use Rattle.std.proofs.lemmas.List.{get_or_read}
-use Rattle.sbx_domain.proofs.Moves.{after_clear_past, all_saved, next_in, no_in_yet, not_filled, one_more_filled, with_ins}
+use Rattle.std.proofs.Common.{◌≡◌, ◌+◌, List, Option, length, ap, sym, subst, ◌∙◌, arith, length-set, rules}
+use Rattle.sbx_domain.proofs.Moves.{FilledTo, after_clear_past, all_saved, next_in, no_in_yet, not_filled, one_more_filled, with_ins}
 use Rattle.sbx_domain.proofs.moving.save_entries.Goals as goal
 
 pub loop-location-init : goal.loop-location-init
@@ -12,12 +11,12 @@ loop-location-preserved g c =
     let xs = c.args.entries.now in
     let ys = c.loop-location.entries in
     let n = c.loop-location.location in
-    let e = c.index-entries-location.result in
+    let e = c.get-entry.result in
     let size : length ys ≡ length xs = c.loop-location.invariant.0 in (
-      length-set ys n e ∙ size,
-      one_more_filled A n (with_ins A xs) xs ys e (omega (arith, size, c.requires.size, c.loop-location-test.true))
-          (get_or_read ys (n - 16) e (omega (arith, size, c.requires.size, c.loop-location-test.true)) c.index-entries-location.is None
-          ∙ next_in A n xs ys c.loop-location.auto.location c.loop-location-test.true c.loop-location.invariant.1) c.loop-location.invariant.1,
+      ap (λ (zs : List (Option A)). length zs) c.set.ensures ∙ (length-set ys n e ∙ size),
+      subst (λ (zs : List (Option A)). FilledTo A (n + 1) (with_ins A xs) xs zs) (sym c.set.ensures)
+          (one_more_filled A n (with_ins A xs) xs ys e (omega (arith, size, c.requires.size, c.loop-location-test.true))
+          (c.get-entry.ensures ∙ next_in A n xs ys c.loop-location.auto.location c.loop-location-test.true c.loop-location.invariant.1) c.loop-location.invariant.1),
     )
 
 pub returns-clause-moved : goal.returns-clause-moved

@@ -1,6 +1,6 @@
 use Rattle.std.proofs.Common.{arith, sym, rules, ◌∙◌}
-use Rattle.sbx_domain.proofs.Marked.{part_cleared}
-use Rattle.sbx_domain.proofs.Moves.{after_clear, after_clear_below, after_clear_past, all_filled, filled_from}
+use Rattle.sbx_domain.proofs.Marked.{cleared_past, part_cleared}
+use Rattle.sbx_domain.proofs.Moves.{after_clear, after_clear_below, all_filled, filled_from}
 use Rattle.sbx_domain.proofs.parts.clear_entries.Goals as goal
 
 pub loop-location-init : goal.loop-location-init
@@ -26,7 +26,8 @@ returns-clause-cleared g c =
     let A = g.row.T.Denot in
     let xs = c.args.entries.now in
     λ k. all_filled A c.loop-location.location (after_clear A c.args.from c.args.to xs) xs c.loop-location.entries
-    (λ j past. after_clear_past A c.args.from c.args.to xs j (omega (arith, past, c.loop-location-test.false))) c.loop-location.invariant.2 k
+    (cleared_past A c.args.from c.args.to c.loop-location.location xs c.loop-location.invariant.1
+    (λ j past below. c.end_below-end.ensures.none j (omega (arith, past, c.loop-location-test.false)) below)) c.loop-location.invariant.2 k
 
 pub returns-clause-size : goal.returns-clause-size
 returns-clause-size g c = c.loop-location.invariant.0
