@@ -1,4 +1,6 @@
 pub mod Rows
+pub mod Pieces
+pub mod InPieces
 pub mod Starting
 pub mod Sites
 pub mod Making

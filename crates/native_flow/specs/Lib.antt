@@ -4,3 +4,4 @@ pub mod Transfers
 pub mod Translating
 pub mod Returning
 pub mod Assembling
+pub mod Pieces

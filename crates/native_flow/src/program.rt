@@ -6,6 +6,7 @@ ghost use Rattle.native_ends.specs.Answers.{RunsAs};
 ghost use Rattle.native_ends.specs.Translations.{IsTranslation};
 ghost use Rattle.native_flow.specs.Assembling.{AreFrom, AreReturning, IsBeginning};
 ghost use Rattle.native_flow.specs.Labelling.{AreStarts, HasCalls};
+ghost use Rattle.native_flow.specs.Pieces.{RunsInPieces};
 
 use crate::data::data_of;
 use crate::labels::Labels;
@@ -103,10 +104,12 @@ fn in_order(
 
 /// The program of an accepted image. It is a translation of the image, and runs as the image does: on each input and on
 /// each machine of two windows or more it is over within so many steps for each turn of the budget, with the output, the
-/// exit word and the window traffic of all flat runs. The only fault is want of memory.
+/// exit word and the window traffic of all flat runs. In pieces, whatever bytes come later, it has put out the first bytes
+/// of that output, and all of it where it is over. The only fault is want of memory.
 pub fn translate(alloc: Global, accepted: &Accepted) -> Result<NativeProgram, AllocError>
     ensures translation { IfOk result (λ program. IsTranslation accepted.now program) }
     ensures runs { IfOk result (λ program. RunsAs accepted.now program) }
+    ensures pieces { IfOk result (λ program. RunsInPieces accepted.now program) }
 {
     let image = accepted.image();
     image.keeps_its_format();

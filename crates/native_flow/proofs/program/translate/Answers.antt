@@ -2,6 +2,7 @@ use Rattle.std.proofs.Common.{sym, ap, ◌∙◌, subst}
 use Rattle.sbx_image.specs.Rules.{parts_keep}
 use Rattle.sbx_image.specs.Spelling.{IsTyped}
 use Rattle.native_flow.proofs.Assembling.{translation_of}
+use Rattle.native_flow.proofs.InPieces.{runs_in_pieces}
 use Rattle.native_flow.proofs.program.translate.Goals as goal
 
 pub returns-clause-translation : goal.returns-clause-translation
@@ -19,3 +20,6 @@ returns-clause-runs c =
       typed = subst IsTyped c.image-image.ensures.image c.keeps_its_format.ensures.typed;
     })
     c.image-image.ensures.checked (returns-clause-translation c)
+
+pub returns-clause-pieces : goal.returns-clause-pieces
+returns-clause-pieces c = runs_in_pieces c.args.accepted.now _ (returns-clause-runs c)
