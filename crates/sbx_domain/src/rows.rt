@@ -52,6 +52,7 @@ impl<T: Copy> Rows<T> {
     }
 
     /// A location from which on nothing stands below another one.
+    #[inline(always)]
     pub(crate) fn end_below(&self, to: usize) -> usize
         ensures below { result ≤ to }
         ensures none { (k : ℕ) → result ≤ k → k < to → slice_index_or self.now k None ≡ None }
@@ -60,6 +61,7 @@ impl<T: Copy> Rows<T> {
     }
 
     /// What stands at a location.
+    #[inline(always)]
     pub(crate) fn get(&self, location: usize) -> Option<T>
         ensures { result ≡ slice_index_or self.now location None }
     {
@@ -71,6 +73,7 @@ impl<T: Copy> Rows<T> {
     }
 
     /// Takes away what stands at a location.
+    #[inline(always)]
     pub(crate) fn remove(&mut self, location: usize)
         ensures { self.new ≡ slice_set self.old location None }
     {
@@ -79,6 +82,7 @@ impl<T: Copy> Rows<T> {
         }
     }
 
+    #[inline(always)]
     fn write(&mut self, location: usize, entry: Option<T>)
         requires { location < 1040 }
         ensures { self.new ≡ slice_set self.old location entry }
@@ -88,6 +92,7 @@ impl<T: Copy> Rows<T> {
     }
 
     /// Puts something at a location, or takes away what stands there.
+    #[inline(always)]
     pub(crate) fn set(&mut self, location: usize, entry: Option<T>)
         requires { location < 1040 }
         ensures { self.new ≡ slice_set self.old location entry }
