@@ -2,11 +2,11 @@
 """usage: tests/growths/run.py [-n LAST] [CRATE ..]
 
 Refuses one growth of memory after the other, from outside: in each test of the crates whose tests are written for
-that, in which every growth may be refused, and in the four programs, whose reads and writes then fail in turn, too. A
+that, in which every growth may be refused, and in the five programs, whose reads and writes then fail in turn, too. A
 refused growth may be answered with the call's own name for want of memory, or as if it hadn't been refused, and
 nothing else; a read that fails is told as such, and a write, unless it was done again and all is there. At each stop
-what was put out is a front of what is put out otherwise, and a file that was to be made is as it was. And a run or a
-trace that goes on for longer asks for no more growths.
+what was put out is a front of what is put out otherwise, and a file that was to be made is as it was; `native`, to
+which a write to its file fails, leaves none. And a run or a trace that goes on for longer asks for no more growths.
 
 CRATE.. are some of these crates alone. Of a test the first LAST growths are refused (1000), within 60 seconds; of a
 program all. It takes the programs and tests that `rt run` and `rt test` have built, and builds what is missing or
@@ -26,7 +26,7 @@ from run import EXAMPLES, TOP, bytes_of, put, run, text_of
 from tally import NOT_BUILT, Tally, Words
 
 TESTS = "sbx_image_tests sbx_refused_tests".split()
-PROGRAMS = ["sbx_tool", "inspect", "host", "fit"]
+PROGRAMS = ["sbx_tool", "inspect", "host", "fit", "native"]
 KINDS = ["growth", "read", "write", "error"]
 SECONDS = 60
 
@@ -98,6 +98,14 @@ ROWS = {
         ("BAD.s -o -", b"", 2),
         ("", b"", 3),
     ],
+    "native": [
+        ("HELLO", b"", 0),
+        ("CHAIN -o OUT", b"", 0),
+        ("ECHO -o -", b"", 0),
+        ("CUT -o OUT", b"", 2),
+        ("FUEL -o OUT", b"", 2),
+        ("HELLO -o", b"", 3),
+    ],
 }
 
 # Sources of an image each of whose lists grows more than once: labels, words, functions, their params and results,
@@ -158,7 +166,17 @@ TELLS = {
         "read": [(4, f"fit: {it}: can't be read") for it in SOURCES],
         "write": [(4, f"fit: {it}: can't be written") for it in ("-", "standard output")],
     },
+    "native": {
+        "growth": [(4, "native: memory")],
+        "read": [(4, f"native: {it}: can't be read") for it in NAMES],
+        "write": [(4, f"native: {it}: can't be written") for it in ("OUT", "standard output")],
+    },
 }
+
+
+def left_at(path):
+    """What the file at a path has; None where there is none."""
+    return bytes_of(path) if os.path.exists(path) else None
 
 
 class Asked:
@@ -170,7 +188,7 @@ class Asked:
         put(f"{place}/OUT", "older")
         how = {"LD_PRELOAD": f"{place}/refusing.so", "COUNTS": f"{place}/counts", "REFUSED": refused}
         ran = run(words, given, 600, cwd=place, env={**os.environ, **how})
-        self.status, self.out, self.err, self.made = *ran, bytes_of(f"{place}/OUT")
+        self.status, self.out, self.err, self.made = *ran, left_at(f"{place}/OUT")
         self.counts = dict(zip(KINDS, struct.unpack(f"{len(KINDS)}q", bytes_of(f"{place}/counts"))))
 
     def is_like(self, other):
@@ -243,7 +261,8 @@ def is_told(crate, kind, ample, ran):
         # the host tells of the images behind a denied one as it does otherwise
         is_last = not back or crate == "host" and status == 2 and back in ample.err
         if ran.status == status and end in ran.err and is_last and ample.err.startswith(front):
-            return ample.out.startswith(ran.out) and ran.made == b"older"
+            is_gone = crate == "native" and kind == "write" and ran.made is None
+            return ample.out.startswith(ran.out) and (is_gone or ran.made == b"older")
     return kind == "error" and ran.status == 4 and ample.out.startswith(ran.out)
 
 

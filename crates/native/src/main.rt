@@ -7,7 +7,7 @@
 mod stops;
 mod words;
 
-use cmd_files::{FileFault, command_words, open_file};
+use cmd_files::{command_words, open_file};
 use cmd_filing::read_whole;
 use native_flow::translate;
 use native_text::{ImageNote, ProgramText, write_program};
@@ -18,7 +18,7 @@ use sha2::{Digest, Sha256};
 use std::fs;
 use std::fs::File;
 use std::process::ExitCode;
-use stops::{NativeStop, stop_of_read};
+use stops::{NativeStop, stop_of_open, stop_of_parse, stop_of_read, stop_of_verify, stop_of_write};
 use v8_map::PAGE;
 use words::{NativeAsked, USAGE, read_words};
 
@@ -32,7 +32,7 @@ const MOST: usize = 16_777_216;
 fn bytes_of<'a>(rt: &HostRuntime, path: &'a str) -> Result<Vec<u8>, NativeStop<'a>> {
     let mut file: File = match open_file(rt, path) {
         Ok(file) => file,
-        Err(error) => return Err(NativeStop::File(path, FileFault::of(&error))),
+        Err(error) => return Err(stop_of_open(path, &error)),
     };
     match read_whole(rt.alloc(), &mut file, MOST) {
         Ok(bytes) => Ok(bytes),
@@ -46,8 +46,8 @@ fn accepted_of<'a>(
     path: &'a str,
     bytes: &[u8],
 ) -> Result<Accepted, NativeStop<'a>> {
-    let image = parse(rt.alloc(), bytes).map_err(|fault| NativeStop::Image(path, fault))?;
-    verify(rt.alloc(), image).map_err(|back| NativeStop::Refused(path, back.1))
+    let image = parse(rt.alloc(), bytes).map_err(|fault| stop_of_parse(path, fault))?;
+    verify(rt.alloc(), image).map_err(|back| stop_of_verify(path, back.1))
 }
 
 /// The C of the image at a path.
@@ -80,13 +80,13 @@ fn write_file<'a>(
 ) -> Result<(), NativeStop<'a>> {
     let mut file: File = match fs::create(rt, path) {
         Ok(file) => file,
-        Err(error) => return Err(NativeStop::Output(path, FileFault::of(&error))),
+        Err(error) => return Err(stop_of_write(path, &error)),
     };
     match put_through(&mut file, text.as_bytes()) {
         Ok(()) => Ok(()),
         Err(error) => {
             remove_part(rt, path);
-            Err(NativeStop::Output(path, FileFault::of(&error)))
+            Err(stop_of_write(path, &error))
         }
     }
 }
@@ -98,7 +98,7 @@ fn perform<'a>(rt: &HostRuntime, asked: &NativeAsked<'a>) -> Result<(), NativeSt
         Some(path) if path != "-" => write_file(rt, path, &text),
         _ => match put_through(&mut rt.stdout(), text.as_bytes()) {
             Ok(()) => Ok(()),
-            Err(error) => Err(NativeStop::Output("standard output", FileFault::of(&error))),
+            Err(error) => Err(stop_of_write("standard output", &error)),
         },
     }
 }

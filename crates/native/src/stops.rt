@@ -2,9 +2,10 @@
 use cmd_files::FileFault;
 use cmd_filing::ReadFault;
 use sbx_image::ImageFault;
-use sbx_verify::Refusal;
+use sbx_verify::{Cause, Refusal};
 use std::alloc::AllocError;
 use std::fmt::{self, Display, Formatter, Write};
+use std::io::{self, ErrorKind};
 
 /// Why no C is written.
 #[derive(Clone, Copy)]
@@ -40,6 +41,38 @@ pub fn stop_of_read(path: &str, fault: ReadFault) -> NativeStop<'_> {
     }
 }
 
+/// What stops where bytes are no image.
+pub fn stop_of_parse(path: &str, fault: ImageFault) -> NativeStop<'_> {
+    match fault {
+        ImageFault::Memory(_) => NativeStop::Memory,
+        _ => NativeStop::Image(path, fault),
+    }
+}
+
+/// What stops where an image isn't accepted.
+pub fn stop_of_verify(path: &str, refusal: Refusal) -> NativeStop<'_> {
+    match refusal.cause {
+        Cause::NoMemory(_) => NativeStop::Memory,
+        _ => NativeStop::Refused(path, refusal),
+    }
+}
+
+/// What stops where a file can't be opened.
+pub fn stop_of_open<'a>(path: &'a str, error: &io::Error) -> NativeStop<'a> {
+    match error.kind() {
+        ErrorKind::OutOfMemory => NativeStop::Memory,
+        _ => NativeStop::File(path, FileFault::of(error)),
+    }
+}
+
+/// What stops where a file can't be made or written.
+pub fn stop_of_write<'a>(path: &'a str, error: &io::Error) -> NativeStop<'a> {
+    match error.kind() {
+        ErrorKind::OutOfMemory => NativeStop::Memory,
+        _ => NativeStop::Output(path, FileFault::of(error)),
+    }
+}
+
 impl From<AllocError> for NativeStop<'_> {
     fn from(_error: AllocError) -> Self {
         NativeStop::Memory
@@ -52,6 +85,7 @@ impl Display for NativeStop<'_> {
             NativeStop::File(path, fault) => write!(f, "{path}: {fault}"),
             NativeStop::Image(path, fault) => write!(f, "{path}: image {fault}"),
             NativeStop::Refused(path, refusal) => write!(f, "{path}: {refusal}"),
+            NativeStop::Output(path, FileFault::Failing) => write!(f, "{path}: can't be written"),
             NativeStop::Output(path, fault) => write!(f, "{path}: can't be written: {fault}"),
             NativeStop::Memory => f.write_str("memory"),
         }
