@@ -1,5 +1,5 @@
 -- What runs as an image does, runs in pieces as it does.
-use Rattle.std.proofs.Common.{◌≡◌, ℕ, ◌+◌, ◌≤◌, List, [], ◌++◌, refl, sym, ap, ◌∙◌, subst, arith}
+use Rattle.std.proofs.Common.{◌≡◌, ℕ, ◌+◌, ◌-◌, ◌≤◌, List, [], ◌++◌, refl, sym, ap, ◌∙◌, subst, arith}
 use Rattle.sbx_image.specs.Parts.{Parts}
 use Rattle.sbx_flat.specs.Traffic.{traffic}
 use Rattle.sbx_flat.specs.declared.path.Traffic.{Traffic}
@@ -7,7 +7,7 @@ use Rattle.native_lang.specs.Runs.{Turn, Goes, Over, Lost, onward, run, start}
 use Rattle.native_lang.specs.World.{World}
 use Rattle.native_lang.specs.declared.program.NativeProgram.{NativeProgram}
 use Rattle.native_ends.specs.Answers.{EndsAs, RunsAs}
-use Rattle.native_flow.specs.Pieces.{AreFirstOf, IsOnItsWay, Piece, RunsInPieces, bytes_of_all, come_to, given}
+use Rattle.native_flow.specs.Pieces.{AreFirstOf, IsOnItsWay, IsOver, Piece, RunsInPieces, bytes_of_all, come_to, given}
 use Rattle.native_flow.proofs.Pieces.{Grown, both_made, by_pieces, further, nothing_given, run_grown}
 
 module _ (parts : Parts) (program : NativeProgram) (n : ℕ) (input : List ℕ) (ends : EndsAs parts program n input) where
@@ -37,6 +37,11 @@ module _ (parts : Parts) (program : NativeProgram) (n : ℕ) (input : List ℕ) 
       (ap (further program n ends.steps) is ∙ both_made program n k ends.steps begun ∙ ap (λ j. further program n j begun) turned
       ∙ sym (both_made program n ends.steps k begun) ∙ ap (further program n k) ends.ends)
 
+  pub over_by_then : (k : ℕ) → ends.steps ≤ k → further program n k begun ≡ Over ends.status ends.world
+  over_by_then k late =
+      let e : k ≡ ends.steps + (k - ends.steps) = omega (arith, late) in
+      ap (λ j. further program n j begun) e ∙ sym (both_made program n ends.steps (k - ends.steps) begun) ∙ ap (further program n (k - ends.steps)) ends.ends
+
   pub none_later : (later : List ℕ) (turn : Turn) → OnItsWay (given later turn) → OnItsWay turn
   none_later later (Goes label at w) h = h
   none_later later (Over word w) h = h
@@ -48,15 +53,18 @@ runs_in_pieces parts program runs n pieces later two bytes =
     let ends = runs n all two bytes in
     let there = come_to program n pieces in
     let made = by_pieces program n pieces later (Goes 0 0 (start program [])) in
+    let so_long = ends.within in
+    let at_once : later ≡ [] → (k : ℕ) → further program n k there ≡ further program n (made.0 + k) (Goes 0 0 (start program all)) =
+    λ none k. ap (further program n k) (sym (nothing_given there) ∙ ap (λ (bytes : List ℕ). given bytes there) (sym none) ∙ made.1)
+    ∙ both_made program n made.0 k (Goes 0 0 (start program all)) in
     record {
       output = ends.output;
       status = ends.status;
       path = ends.path;
       behaves = ends.behaves;
       so_far = none_later parts program n all ends later there (on_its_way parts program n all ends made.0 (given later there) made.1);
-      at_end =
-          λ none k.
-          on_its_way parts program n all ends (made.0 + k) (further program n k there)
-          (ap (further program n k) (sym (nothing_given there) ∙ ap (λ (bytes : List ℕ). given bytes there) (sym none) ∙ made.1)
-          ∙ both_made program n made.0 k (Goes 0 0 (start program all)));
+      at_end = λ none k. on_its_way parts program n all ends (made.0 + k) (further program n k there) (at_once none k);
+      ends =
+          λ none k late.
+          subst IsOver (sym (at_once none k ∙ over_by_then parts program n all ends (made.0 + k) (omega (arith, so_long, late)))) tt;
     }

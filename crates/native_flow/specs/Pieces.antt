@@ -1,8 +1,8 @@
 -- Runs in pieces: bytes of the input come one piece after another, and some steps are made between.
-use Rattle.std.specs.Prelude.{◌≡◌, ℕ, zero, suc, ◌≤◌, Bool, true, false, List, [], ◌∷◌, ◌++◌, Option, Some, None}
+use Rattle.std.specs.Prelude.{◌≡◌, ℕ, zero, suc, ◌+◌, ◌*◌, ◌≤◌, Bool, true, false, List, [], ◌∷◌, ◌++◌, Option, Some, None}
 use Rattle.std.specs.Prelude.{slice_get, if◌then◌else◌}
 use Rattle.sbx_image.specs.Parts.{Parts}
-use Rattle.sbx_flat.specs.Runs.{AreBytes, Behaves}
+use Rattle.sbx_flat.specs.Runs.{AreBytes, Behaves, budget}
 use Rattle.sbx_flat.specs.Traffic.{traffic}
 use Rattle.sbx_flat.specs.declared.path.Place.{Place}
 use Rattle.sbx_flat.specs.declared.path.Traffic.{Traffic}
@@ -12,6 +12,7 @@ use Rattle.native_lang.specs.declared.program.NativeProgram.{NativeProgram}
 use Rattle.native_lang.specs.declared.program.ProgramBlock.{ProgramBlock}
 use Rattle.native_lang.specs.declared.stmt.Stmt.{Stmt}
 use Rattle.native_lang.specs.declared.stmt.Stmt.TheVariants.{Get}
+use Rattle.native_ends.specs.Answers.{longest}
 
 -- ---- a run in pieces
 
@@ -69,8 +70,14 @@ IsOnItsWay output status counts (Goes label at w) = AreFirstOf w.output output
 IsOnItsWay output status counts (Over word w) = (w.output ≡ output) × (word ≡ status) × (w.counts ≡ counts)
 IsOnItsWay output status counts Lost = ⊥
 
+abbrev pub IsOver : Turn → Type 0
+IsOver (Goes label at w) = ⊥
+IsOver (Over word w) = Unit {0}
+IsOver Lost = ⊥
+
 -- Whatever bytes come later, it is on its way to what each flat run of the image gives on all of them. Where none come
--- any more, so it is after so many steps that don't wait: each Get then finds the input's end.
+-- any more, so it is after so many steps that don't wait: each Get then finds the input's end. It is over after as many
+-- as a run takes at most.
 pub record GoesAs (parts : Parts) (program : NativeProgram) (n : ℕ) (pieces : List Piece) (later : List ℕ) : Type 0 where
   pub output : List ℕ
   pub status : ℕ
@@ -79,6 +86,8 @@ pub record GoesAs (parts : Parts) (program : NativeProgram) (n : ℕ) (pieces : 
   pub so_far : IsOnItsWay output status (traffic parts n path) (come_to program n pieces)
   pub at_end : later ≡ [] → (k : ℕ) → IsOnItsWay output status (traffic parts n path)
       (onward (run program n k) (come_to program n pieces))
+  pub ends : later ≡ [] → (k : ℕ) → (longest program.blocks.items + 4) * (budget parts + 1) ≤ k →
+      IsOver (onward (run program n k) (come_to program n pieces))
 
 -- So it is with all pieces, on two windows or more.
 abbrev pub RunsInPieces : Parts → NativeProgram → Type 0
