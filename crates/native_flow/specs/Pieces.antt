@@ -1,6 +1,6 @@
 -- Runs in pieces: bytes of the input come one piece after another, and some steps are made between.
-use Rattle.std.specs.Prelude.{◌≡◌, ℕ, zero, suc, ◌+◌, ◌*◌, ◌≤◌, Bool, true, false, List, [], ◌∷◌, ◌++◌, Option, Some, None}
-use Rattle.std.specs.Prelude.{slice_get, if◌then◌else◌}
+use Rattle.std.specs.Prelude.{◌≡◌, ℕ, zero, suc, ◌+◌, ◌*◌, ◌≤◌, Bool, true, false, List, [], ◌∷◌, ◌++◌}
+use Rattle.std.specs.Prelude.{Option, Some, None, slice_get, if◌then◌else◌}
 use Rattle.sbx_image.specs.Parts.{Parts}
 use Rattle.sbx_flat.specs.Runs.{AreBytes, Behaves, budget}
 use Rattle.sbx_flat.specs.Traffic.{traffic}
@@ -76,9 +76,10 @@ IsOver (Over word w) = Unit {0}
 IsOver Lost = ⊥
 
 -- Whatever bytes come later, it is on its way to what each flat run of the image gives on all of them. Where none come
--- any more, so it is after so many steps that don't wait: each Get then finds the input's end. It is over after as many
--- as a run takes at most.
-pub record GoesAs (parts : Parts) (program : NativeProgram) (n : ℕ) (pieces : List Piece) (later : List ℕ) : Type 0 where
+-- any more, so it is after so many steps that don't wait: each Get then finds the input's end. It is over after as
+-- many as a run takes at most.
+pub record GoesAs (parts : Parts) (program : NativeProgram) (n : ℕ) (pieces : List Piece)
+    (later : List ℕ) : Type 0 where
   pub output : List ℕ
   pub status : ℕ
   pub path : List Place

@@ -104,8 +104,8 @@ fn in_order(
 
 /// The program of an accepted image. It is a translation of the image, and runs as the image does: on each input and on
 /// each machine of two windows or more it is over within so many steps for each turn of the budget, with the output, the
-/// exit word and the window traffic of all flat runs. In pieces, whatever bytes come later, it has put out the first bytes
-/// of that output, and all of it where it is over. The only fault is want of memory.
+/// exit word and the window traffic of all flat runs. In pieces, whatever bytes come later, it has put out the first
+/// bytes of that output, and all of it where it is over. The only fault is want of memory.
 pub fn translate(alloc: Global, accepted: &Accepted) -> Result<NativeProgram, AllocError>
     ensures translation { IfOk result (λ program. IsTranslation accepted.now program) }
     ensures runs { IfOk result (λ program. RunsAs accepted.now program) }
