@@ -78,6 +78,7 @@ impl Display for BoardStop<'_> {
             BoardStop::Image(path, fault) => write!(f, "{path}: image {fault}"),
             BoardStop::Refused(path, refusal) => write!(f, "{path}: {refusal}"),
             BoardStop::Input(path) => write!(f, "{path}: the input has more than 131072 bytes"),
+            BoardStop::Output(path, FileFault::Failing) => write!(f, "{path}: can't be written"),
             BoardStop::Output(path, fault) => write!(f, "{path}: can't be written: {fault}"),
             BoardStop::Memory => f.write_str("memory"),
         }
