@@ -3,9 +3,11 @@
 
 Tries ./cc and ./c++ as an author calls them: the programs and the refusals that docs/use/c.md shows, each option, each
 status, each refusal by its line; programs of 100 lines in C, by gcc and clang, and in C++, beside the same for this
-machine; a Makefile and CMake. What needs a compiler for SPARC is skipped where none is."""
+machine; the time that one of 500 lines takes; a Makefile and CMake. What needs a compiler for SPARC is skipped where
+none is."""
 import os
 import re
+import resource
 import shutil
 import sys
 import tempfile
@@ -14,7 +16,7 @@ sys.dont_write_bytecode = True
 sys.path.insert(0, f"{os.path.dirname(os.path.dirname(os.path.abspath(__file__)))}/lib")
 from refusals import REFUSED, REFUSED_PLUS, WORDS
 from run import CC, EXAMPLES, SANDBOX, TOP, built, has, put, run, text_of
-from sources import SOURCES
+from sources import SOURCES, THREE
 from tally import Tally, Words
 
 HERE = os.path.dirname(os.path.abspath(__file__))
@@ -23,6 +25,10 @@ PLUS = f"{TOP}/c++"
 USAGE = "Usage: cc [OPTION..] FILE.c.."
 UPPER = f"{EXAMPLES}/c/upper.c"
 COMPILER, COMPILER_PLUS = "sparc64-linux-gnu-gcc", "sparc64-linux-gnu-g++"
+# So many seconds of processor a program of 500 lines may take: more than twice what it does beside other work.
+MOST_SECONDS = 12
+
+
 class Author:
     """Calls of ./cc in a folder that has the sources."""
 
@@ -141,7 +147,7 @@ def try_ends(author):
     author.called(0, "accepted", "deep.c", "--run", "--stack", "65536")
     author.called(1, "the loops have used up their turns: ask for more by --turns", "deep.c", "--run", "--stack",
                   "65536", "--turns", "9000")
-    author.called(1, "the exit word is 2", "heap.c", "--run")
+    author.called(1, "the exit word is 2 (00000002); if malloc gave NULL, ask for more by --arena", "heap.c", "--run")
     author.called(0, "accepted", "heap.c", "--run", "--arena", "131072")
 
 
@@ -204,6 +210,22 @@ def try_programs(author):
             author.called(0, told, *words, tool=PLUS if is_plus else CC, env={**os.environ, "CC_SPARC": "clang"})
 
 
+def seconds_of_processor():
+    """What all commands that were called so far took."""
+    taken = resource.getrusage(resource.RUSAGE_CHILDREN)
+    return taken.ru_utime + taken.ru_stime
+
+
+def try_time(author):
+    """A program of some 500 lines takes no more than so many seconds of processor."""
+    put(author.at("three.c"), THREE.replace("FOLDER", f"{HERE}/programs"))
+    author.called(0, "accepted", "seven.c", "-o", "three.img")  # (so that the library is there)
+    before = seconds_of_processor()
+    author.called(0, "accepted", "three.c", "-o", "three.img")
+    taken = seconds_of_processor() - before
+    author.tally.check("time of three.c", taken < MOST_SECONDS, f"wanted {MOST_SECONDS} seconds, came {taken:.1f}")
+
+
 def try_builds(author):
     """The Makefile and the toolchain for CMake of examples/build."""
     place, wanted = author.at("build"), b"ann                70\nbob                50\neve                10\n"
@@ -225,7 +247,7 @@ def try_builds(author):
 
 
 PARTS = {"page": try_page, "sources": try_sources, "refusals": try_refusals, "ends": try_ends, "options": try_options,
-         "fault": try_fault_of_fit, "builds": try_builds, "programs": try_programs}
+         "fault": try_fault_of_fit, "time": try_time, "builds": try_builds, "programs": try_programs}
 
 
 def main(words):

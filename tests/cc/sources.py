@@ -55,3 +55,20 @@ int main(void) {
     "inputs/one": "1",
     "inputs/two": "2",
 }
+
+# Three of the programs as one, of which the first byte of the input chooses.
+THREE = """#define main json
+#include "FOLDER/json.c"
+#undef main
+#define main machine
+#include "FOLDER/machine.c"
+#undef main
+#define main puzzles
+#include "FOLDER/puzzles.c"
+#undef main
+
+int main(void) {
+    int c = getchar();
+    return c == 'j' ? json() : c == 'm' ? machine() : puzzles();
+}
+"""

@@ -29,7 +29,7 @@ ABORT, TRAP = 6, 5
 # So many places at the most belong to the end of a run behind the test that failed; and behind a call through a
 # pointer, whose functions are looked through one after the other.
 BEHIND_TEST, BEHIND_CALL = 8, 4000
-INDEX = 1
+INDEX, POINTER = 1, 2
 # So many places are named at the most where a test may be in one of them.
 FEW_PLACES = 3
 # The most turns of a run on 8 windows whose last ones are looked at where it ends in a test: where one place alone may
@@ -163,6 +163,14 @@ def is_own(line):
     return parts[4] == b"0" and parts[5][6] < 56
 
 
+def full(ending):
+    """What else may have been the reason for an end of the program's own, or at a pointer: malloc had nothing left."""
+    words = ending.mapped.words.values() if ending.mapped else ()
+    may_be = ending.kind is KINDS[POINTER] or ending.kind is None and ending.word != ABORTED
+    has_heap = any(place.path.endswith("/libc/malloc.c") for _, place in words)
+    return "; if malloc gave NULL, ask for more by --arena" if may_be and has_heap else ""
+
+
 def end_told(path, given, mapped=None):
     """Why a run of the image at a path on some bytes ended, in words; None where its exit word is 0, or it can't be
     told."""
@@ -180,4 +188,4 @@ def end_told(path, given, mapped=None):
         if ending.is_test and mapped and ending.turns <= (FEW if ending.is_sure() else MANY):
             file.seek(0)
             look_at_end(path, file, ending)
-        return ending.told() or f"the exit word is {ending.word} ({ending.word:08X})"
+        return (ending.told() or f"the exit word is {ending.word} ({ending.word:08X})") + full(ending)
