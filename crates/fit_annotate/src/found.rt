@@ -24,7 +24,7 @@ fn add_read(
     read.take(source, lines, image)?;
     let alloc = found.memory.alloc;
     let said = replace(&mut read.said, Vec::new(alloc));
-    let ranges = Ranges::beside(alloc, &read.program, said, state)?;
+    let ranges = Ranges::beside(alloc, &read.program, said)?;
     let mut finding = AnnotationSearch {
         image,
         program: &mut read.program,

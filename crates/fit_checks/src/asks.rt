@@ -3,7 +3,7 @@
 mod shifted;
 
 use fit_code::{Block, Function, Heap, Program, RegisterSet, SourceLine, Step};
-use fit_graph::{effects_of, read_at_end, return_from, run_to_call};
+use fit_graph::{effects_of, read_at_end, return_from, run_to_call, start};
 use fit_ranges::{Origin, Ranges, Trace, end_of, origin_of};
 use sbx_domain::State;
 use sbx_range::{Cell, Range, excludes_zero, range_of_address};
@@ -178,7 +178,7 @@ impl Asking<'_> {
     ) -> bool {
         match cells {
             Some(cells) => {
-                state.start(cells);
+                start(cells, false, state);
                 true
             }
             None => self

@@ -15,7 +15,7 @@ use crate::upper::write_upper;
 use fit_code::{
     Block, End, Fault, Function, Heap, NO_LINE, Program, Reason, RegisterSet, with_operands,
 };
-use fit_graph::{enter, range_in};
+use fit_graph::{enter, range_in, start};
 use fit_ranges::Ranges;
 use sbx_domain::State;
 use sbx_range::excludes_zero;
@@ -337,15 +337,10 @@ impl Tests {
     }
 
     /// Defines what may be undefined, before something is asked of it.
-    fn define(
-        &mut self,
-        program: &mut Program,
-        ranges: &mut Ranges,
-        state: &mut State,
-    ) -> Result<(), Fault> {
+    fn define(&mut self, program: &mut Program, ranges: &mut Ranges) -> Result<(), Fault> {
         write_upper(&mut self.memory, program, &mut self.changed);
         if !self.changed.is_empty() {
-            ranges.renew(program, self.changed.as_slice(), state)?;
+            ranges.renew(program, self.changed.as_slice())?;
             self.changed.clear();
         }
         for _ in 0..ROUNDS {
@@ -353,7 +348,7 @@ impl Tests {
             if self.changed.is_empty() {
                 break;
             }
-            ranges.renew(program, self.changed.as_slice(), state)?;
+            ranges.renew(program, self.changed.as_slice())?;
             self.changed.clear();
         }
         Ok(())
@@ -362,11 +357,11 @@ impl Tests {
     /// Writes a function's sums in a way of which more is known, in the blocks to which control comes.
     fn shorten(&mut self, code: &mut Function, ranges: &Ranges, number: usize, state: &mut State) {
         let (frame, results) = (code.frame, ranges.results());
-        enter(code, ranges.params(number), state);
+        enter(code, ranges.params(number), false, state);
         let blocks = code.blocks.as_mut_slice();
         for place in 0..blocks.len() {
             if let Some(cells) = ranges.cells(number, place) {
-                state.start(cells);
+                start(cells, false, state);
             }
             let live = live_behind(blocks[place].end, ranges.live(number));
             let steps = blocks[place].steps.as_mut_slice();
@@ -449,7 +444,7 @@ impl Tests {
     ) -> Result<(), Fault> {
         for round in 0..ROUNDS {
             if !self.changed.is_empty() {
-                ranges.renew(program, self.changed.as_slice(), state)?;
+                ranges.renew(program, self.changed.as_slice())?;
                 self.changed.clear();
                 if let Looked::All = self.looked {
                     self.looked = Looked::Stale;
@@ -530,7 +525,7 @@ pub fn add_tests(
         asked: None,
         refused: Ok(()),
     };
-    tests.define(program, ranges, state)?;
+    tests.define(program, ranges)?;
     name_derived(&mut tests.memory, program, &*ranges, state);
     let functions = program.functions.as_mut_slice();
     for number in 0..functions.len() {

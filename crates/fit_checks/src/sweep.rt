@@ -1,7 +1,9 @@
 //! The knowledge of a function while tests are put into it. Each narrows what comes behind it, which is followed along
 //! the function's order: what a test shows is known before a later one is asked for.
 use fit_code::{Block, Function, Heap, RegisterSet, Step};
-use fit_graph::{Growth, LocationSet, cells_of, effects_in, go_along, join, range_in, run_step};
+use fit_graph::{
+    Growth, LocationSet, cells_of, effects_in, go_along, join, range_in, run_step, start,
+};
 use fit_ranges::Ranges;
 use sbx_domain::State;
 use sbx_range::{Cell, Range, is_within};
@@ -143,7 +145,7 @@ pub fn cells_along(
     if block >= function.blocks.len() {
         return None;
     }
-    state.start(cells);
+    start(cells, false, state);
     let code = &function.blocks[block];
     for step in code.steps.as_slice() {
         run_step(function.frame, results, step, state);

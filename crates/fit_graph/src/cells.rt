@@ -7,7 +7,7 @@ mod thresholds;
 
 use crate::live::LocationSet;
 use fit_code::{Heap, hull};
-pub use run::{enter, go_along, return_from, run_step, run_to_call};
+pub use run::{enter, go_along, return_from, run_step, run_to_call, start};
 use sbx_domain::State;
 use sbx_range::{Cell, Range};
 pub use shape::FunctionShape;
@@ -46,9 +46,18 @@ pub fn range_from(cells: &[Cell], place: &mut usize, location: u16) -> Option<Ra
     None
 }
 
+/// A list of cells has room for so many at once, at the most.
+const MOST: usize = 64;
+
 /// What a state knows of locations of a function with a frame of so many bytes, by location.
 pub fn cells_of(memory: &mut Heap, frame: u32, asked: &LocationSet, state: &State) -> Vec<Cell> {
-    let mut cells = Vec::new(memory.alloc);
+    let mut cells = match Vec::with_capacity(memory.alloc, asked.count().min(MOST)) {
+        Ok(cells) => cells,
+        Err(_) => {
+            memory.is_refused = true;
+            return Vec::new(memory.alloc);
+        }
+    };
     // word k of the frame, at 64 + 4 k bytes of it, is location 32 + k
     let end = (32 + frame.min(4_096) / 4) as u16;
     let mut next: u16 = 1;

@@ -56,7 +56,7 @@ fn join_metered(
     state: &mut State,
 ) {
     // without ranges no loop has a bound
-    let found = Ranges::of(memory.alloc, program, state);
+    let found = Ranges::of(memory.alloc, program);
     for number in 1..parts.len() {
         if number < loops.len() && loops[number] {
             parts[number].is_joined |= match &found {

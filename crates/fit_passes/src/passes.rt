@@ -185,7 +185,7 @@ fn settle_places(
 ) -> Result<(), Fault> {
     for _ in 0..PLACINGS {
         place_all(alloc, program)?;
-        *ranges = Ranges::of(alloc, program, state)?;
+        *ranges = Ranges::of(alloc, program)?;
         if add_tests(alloc, options, program, ranges, state)?.is_empty() {
             return Ok(());
         }
@@ -246,7 +246,7 @@ fn declare_within(
         if excess > share || !lower_first(program, meters, excess) {
             return Err(too_many_turns(&*program, count, turns));
         }
-        ranges.renew(program, &[(0, 0)], state)?;
+        ranges.renew(program, &[(0, 0)])?;
         let mut memory = Heap::new(alloc);
         end_unreached(&mut memory, program, &*ranges);
         memory.told(()).and(ranges.store(program))?;
@@ -304,7 +304,7 @@ fn fit(
     plan: FitPlan,
 ) -> Result<String, Fault> {
     let mut state = State::new(alloc)?;
-    let mut ranges = Ranges::of(alloc, program, &mut state)?;
+    let mut ranges = Ranges::of(alloc, program)?;
     let mut meters = Vec::new(alloc);
     let (ranges, meters) = (&mut ranges, &mut meters);
     write_source(alloc, program, tests, plan, ranges, meters, &mut state)

@@ -7,8 +7,8 @@ mod spread;
 use crate::flow::known::{BlockRanges, replace, touched_in};
 use fit_code::{Block, End, Function, Heap, hull};
 use fit_graph::{
-    FunctionShape, Growth, LocationSet, Means, Thresholds, cells_of, enter, go_along, join,
-    range_in, return_from, run_step, run_to_call, successors_in,
+    FunctionShape, Growth, LocationSet, Means, Thresholds, enter, go_along, join, range_from,
+    range_in, return_from, run_step, run_to_call, start, successors_in,
 };
 use sbx_domain::State;
 use sbx_range::{Cell, Range, all};
@@ -72,6 +72,14 @@ impl Pending {
             blocks[block] = true;
         }
     }
+}
+
+/// Where blocks run: in the verifier's own domain, once for both ways.
+#[derive(Drop)]
+pub struct Run {
+    pub state: State,
+    /// Where the second way of a branch goes on.
+    pub second: State,
 }
 
 /// What is known of one function.
@@ -169,6 +177,64 @@ fn list_calls(
             return_from(setting.results, callee, state);
         }
     }
+}
+
+/// A list of cells has room for so many at once, at the most.
+const MOST: usize = 64;
+
+/// What is known behind a block in a frame of so many bytes, of the locations that are asked: of those that the block
+/// touches what the state knows, and of the others what is known where it begins.
+fn cells_behind(
+    memory: &mut Heap,
+    (frame, asked): (u32, &LocationSet),
+    (touched, before): (&LocationSet, &[Cell]),
+    state: &State,
+) -> Vec<Cell> {
+    let mut cells = match Vec::with_capacity(memory.alloc, asked.count().min(MOST)) {
+        Ok(cells) => cells,
+        Err(_) => {
+            memory.is_refused = true;
+            return Vec::new(memory.alloc);
+        }
+    };
+    // word k of the frame, at 64 + 4 k bytes of it, is location 32 + k
+    let end = (32 + frame.min(4_096) / 4) as u16;
+    let (mut next, mut place): (u16, usize) = (1, 0);
+    for _ in 1..end {
+        let location = match asked.first_from(next) {
+            Some(location) if location < end => location,
+            _ => break,
+        };
+        let known = if touched.has(location) {
+            state.range(location)
+        } else {
+            range_from(before, &mut place, location)
+        };
+        if let Some(range) = known {
+            memory.push(&mut cells, Cell { location, range });
+        }
+        next = location.saturating_add(1);
+    }
+    cells
+}
+
+/// What is known where a way of a block ends, of what is live there, where the state is that behind the block's steps,
+/// of what it touches, and the cells are those where it begins; nothing where it can't be gone.
+fn known_along(
+    setting: &Analysis,
+    memory: &mut Heap,
+    (code, way, to): (&Block, usize, usize),
+    known: (&LocationSet, &[Cell]),
+    state: &mut State,
+) -> Option<Vec<Cell>> {
+    let (frame, live) = (setting.function.frame, setting.shape.live.as_slice());
+    if !go_along(frame, code, way, state) {
+        return None;
+    }
+    if to < live.len() {
+        return Some(cells_behind(memory, (frame, &live[to]), known, state));
+    }
+    Some(Vec::new(memory.alloc))
 }
 
 /// Adds what is known along one more way to what is known along others.
@@ -325,23 +391,50 @@ impl FunctionRanges {
         None
     }
 
-    /// Begins a block; says whether control can come there.
-    pub fn begin(&self, function: &Function, block: usize, state: &mut State) -> bool {
+    /// Begins a block, with forms or without; says whether control can come there.
+    pub fn begin(
+        &self,
+        function: &Function,
+        (block, has_forms): (usize, bool),
+        state: &mut State,
+    ) -> bool {
         if block == 0 {
-            enter(function, self.params.as_slice(), state);
+            enter(function, self.params.as_slice(), has_forms, state);
             return true;
         }
         match self.cells(block) {
             Some(cells) => {
-                state.start(cells);
+                start(cells, has_forms, state);
                 true
             }
             None => false,
         }
     }
 
-    /// Runs a block of a program with these results from its beginning along one of its ways; says whether that can be
-    /// gone.
+    /// Begins a block with what is known of these locations alone, without forms; says whether control can come there.
+    fn begin_with(
+        &self,
+        function: &Function,
+        (block, touched): (usize, &LocationSet),
+        state: &mut State,
+    ) -> bool {
+        if block == 0 {
+            return self.begin(function, (block, false), state);
+        }
+        let Some(cells) = self.cells(block) else {
+            return false;
+        };
+        state.start(&[]);
+        for cell in cells {
+            if touched.has(cell.location) {
+                state.set(cell.location, Some(cell.range));
+            }
+        }
+        true
+    }
+
+    /// Runs a block of a program with these results from its beginning along one of its ways, with forms; says whether
+    /// that can be gone.
     pub fn run(
         &self,
         function: &Function,
@@ -350,7 +443,7 @@ impl FunctionRanges {
         state: &mut State,
     ) -> bool {
         let codes = function.blocks.as_slice();
-        if block >= codes.len() || !self.begin(function, block, state) {
+        if block >= codes.len() || !self.begin(function, (block, true), state) {
             return false;
         }
         let code = &codes[block];
@@ -360,22 +453,84 @@ impl FunctionRanges {
         go_along(function.frame, code, way, state)
     }
 
-    /// What is known where a way of a block ends, of what is live there; nothing where it can't be gone.
-    fn found_along(
+    /// What is known where the ways of a block end, of what is live there, by what is known where it begins; nothing of
+    /// one that can't be gone. It reads or writes these locations, and passes on what is known of others as it comes.
+    fn ways_by(
         &self,
         setting: &Analysis,
         memory: &mut Heap,
-        (block, way, to): (usize, usize, usize),
-        state: &mut State,
-    ) -> Option<Vec<Cell>> {
-        if !self.run(setting.function, setting.results, (block, way), state) {
-            return None;
+        (block, touched): (usize, &LocationSet),
+        run: &mut Run,
+    ) -> [Option<Vec<Cell>>; 2] {
+        let (function, mut found) = (setting.function, [None, None]);
+        let codes = function.blocks.as_slice();
+        let at = (block, touched);
+        if block >= codes.len() || !self.begin_with(function, at, &mut run.state) {
+            return found;
         }
-        let live = setting.shape.live.as_slice();
-        if to < live.len() {
-            return Some(cells_of(memory, setting.function.frame, &live[to], state));
+        let code = &codes[block];
+        for step in code.steps.as_slice() {
+            run_step(function.frame, setting.results, step, &mut run.state);
         }
-        Some(Vec::new(memory.alloc))
+        let [first, second] = code.end.ways();
+        // behind the first block, of which no cells are known, the state knows all
+        let all = LocationSet::all();
+        let touched = if block == 0 { &all } else { touched };
+        let known = (touched, self.cells(block).unwrap_or(&[]));
+        if let Some(to) = second {
+            // (the first way says more of what was compared)
+            run.state.copy_to(&mut run.second);
+            found[1] = known_along(setting, memory, (code, 1, to), known, &mut run.second);
+        }
+        if let Some(to) = first {
+            found[0] = known_along(setting, memory, (code, 0, to), known, &mut run.state);
+        }
+        found
+    }
+
+    /// What a block reads or writes.
+    fn touched(&self, block: usize) -> LocationSet {
+        if block < self.blocks.len() {
+            self.blocks[block].touched
+        } else {
+            LocationSet::all()
+        }
+    }
+
+    /// The same by what was known there before, of what the block doesn't touch.
+    fn ways_on(&self, memory: &mut Heap, block: usize) -> [Option<Vec<Cell>>; 2] {
+        if block < self.blocks.len() {
+            let known = &self.blocks[block];
+            return [known.passed_on(memory, 0), known.passed_on(memory, 1)];
+        }
+        [None, None]
+    }
+
+    /// Takes over what is known where a way of a block ends. Where that is something else, the block that it leads to
+    /// is to be visited, if that stands in the stretch.
+    fn end_way(
+        &mut self,
+        setting: &Analysis,
+        (block, way, to): (usize, usize, Option<usize>),
+        found: Option<Vec<Cell>>,
+    ) {
+        let blocks = self.blocks.as_mut_slice();
+        if let Some(to) = to
+            && block < blocks.len()
+        {
+            let known = &mut blocks[block];
+            if replace(&mut known.ways[way % 2], found)
+                && let Some(place) = setting.shape.order.place(to)
+                && place < self.pending.end
+                && self.pending.has(to)
+            {
+                if to < blocks.len() {
+                    blocks[to].is_settled = false;
+                }
+                self.pending.mark(to);
+                self.pending.first = self.pending.first.min(place);
+            }
+        }
     }
 
     /// What the ways have in common that lead to a block from blocks before a place of the order; nothing where none of
@@ -460,43 +615,38 @@ impl FunctionRanges {
         setting: &Analysis,
         memory: &mut Heap,
         (grow, place, block): (bool, usize, usize),
-        state: &mut State,
+        run: &mut Run,
     ) {
         if block >= self.blocks.len() || self.comes_as_before(setting, block) {
             return;
         }
         let cells = self.new_cells(setting, memory, (grow, place, block));
         let known = &mut self.blocks.as_mut_slice()[block];
+        known.is_settled = !grow | known.cells.is_none();
         let passes = (block > 0) & known.passes_on(&cells);
         if !known.take(cells, block == 0, grow) {
             return;
         }
-        let ways = successors_in(setting.function, block);
-        for way in 0..2 {
-            if let Some(to) = ways[way] {
-                let found = if passes && block < self.blocks.len() {
-                    self.blocks.as_slice()[block].passed_on(memory, way)
-                } else {
-                    self.found_along(setting, memory, (block, way, to), state)
-                };
-                let blocks = self.blocks.as_mut_slice();
-                if block < blocks.len() {
-                    let known = &mut blocks[block];
-                    if replace(&mut known.ways[way], found)
-                        && let Some(place) = setting.shape.order.place(to)
-                        && place < self.pending.end
-                        && self.pending.has(to)
-                    {
-                        self.pending.mark(to);
-                        self.pending.first = self.pending.first.min(place);
-                    }
-                }
-            }
-        }
+        let [first, second] = successors_in(setting.function, block);
+        let [taken, next] = if passes {
+            self.ways_on(memory, block)
+        } else {
+            let touched = self.touched(block);
+            self.ways_by(setting, memory, (block, &touched), run)
+        };
+        self.end_way(setting, (block, 0, first), taken);
+        self.end_way(setting, (block, 1, second), next);
+    }
+
+    /// Whether a block is to be visited when it is come to: nothing but what comes along its ways was put into it, and
+    /// nothing else came since.
+    fn is_open(&self, block: usize) -> bool {
+        let blocks = self.blocks.as_slice();
+        self.pending.has(block) && block < blocks.len() && !blocks[block].is_settled
     }
 
     /// Visits each block of the stretch, and again those that are to be visited, the first one first, until none is.
-    fn visit_all(&mut self, setting: &Analysis, means: &mut Means, grow: bool, state: &mut State) {
+    fn visit_all(&mut self, setting: &Analysis, means: &mut Means, grow: bool, run: &mut Run) {
         let (order, end) = (setting.shape.order.blocks.as_slice(), self.pending.end);
         let most = end.saturating_add(1).saturating_mul(2_000);
         let mut visits: usize = 0;
@@ -514,8 +664,8 @@ impl FunctionRanges {
             if asked[block] | (place == fresh) {
                 asked[block] = false;
                 fresh = fresh.max(place.saturating_add(1));
-                if self.pending.has(block) {
-                    self.visit(setting, &mut means.memory, (grow, place, block), state);
+                if self.is_open(block) {
+                    self.visit(setting, &mut means.memory, (grow, place, block), run);
                 }
                 visits = visits.saturating_add(1);
                 if visits == most {
@@ -539,7 +689,7 @@ impl FunctionRanges {
         let codes = function.blocks.as_slice();
         for block in 0..codes.len() {
             let code = &codes[block];
-            if is_told(code) && self.begin(function, block, state) {
+            if is_told(code) && self.begin(function, (block, false), state) {
                 list_calls(memory, setting, (block, code), &mut calls, state);
                 if let End::Return(fields) = code.end {
                     if function.framed {
@@ -630,30 +780,30 @@ impl FunctionRanges {
 
     /// Finds the ranges of the blocks of the stretch that are looked at again, by what comes to them: first they grow,
     /// then they get narrower, and then they grow again, where that broke something.
-    fn find_stretch(&mut self, setting: &Analysis, means: &mut Means, state: &mut State) {
+    fn find_stretch(&mut self, setting: &Analysis, means: &mut Means, run: &mut Run) {
         self.forget_stretch(setting);
-        self.visit_all(setting, means, true, state);
-        self.visit_all(setting, means, false, state);
-        self.visit_all(setting, means, true, state);
+        self.visit_all(setting, means, true, run);
+        self.visit_all(setting, means, false, run);
+        self.visit_all(setting, means, true, run);
         self.mark_behind(setting);
         self.end_stretch(setting);
     }
 
     /// Finds the ranges of the stretch anew, by what comes into it: of the blocks alone to which a change may come,
     /// where these are few, and nothing else comes from them to the others.
-    fn settle_stretch(&mut self, setting: &Analysis, means: &mut Means, state: &mut State) {
-        self.pending.is_whole = !self.pick(setting, &mut means.memory, state);
-        self.find_stretch(setting, means, state);
+    fn settle_stretch(&mut self, setting: &Analysis, means: &mut Means, run: &mut Run) {
+        self.pending.is_whole = !self.pick(setting, &mut means.memory, run);
+        self.find_stretch(setting, means, run);
         if !self.pending.is_whole && self.leaks(setting) {
             self.pending.is_whole = true;
-            self.find_stretch(setting, means, state);
+            self.find_stretch(setting, means, run);
         }
     }
 
     /// Finds the ranges, by what is to be visited. A stretch of the order begins where no way leads back behind it, so
     /// that what stands before it is looked at once. Where something else comes out of it than before, that is to be
     /// visited.
-    pub fn settle(&mut self, setting: &Analysis, means: &mut Means, state: &mut State) {
+    pub fn settle(&mut self, setting: &Analysis, means: &mut Means, run: &mut Run) {
         let order = setting.shape.order.blocks.as_slice();
         let mut is_asked = false;
         self.pending.end = 0;
@@ -667,9 +817,9 @@ impl FunctionRanges {
             let end = setting.shape.end_of(order[place]).max(behind);
             self.pending.end = self.pending.end.max(end);
             if is_asked & (self.pending.end == behind) {
-                self.settle_stretch(setting, means, state);
+                self.settle_stretch(setting, means, run);
             }
         }
-        (self.calls, self.returned) = self.summarize(setting, &mut means.memory, state);
+        (self.calls, self.returned) = self.summarize(setting, &mut means.memory, &mut run.state);
     }
 }

@@ -1,5 +1,5 @@
 //! Ranges of a program's locations where its blocks begin. Nothing rests on it, since the verifier asks all again.
-use crate::flow::{Analysis, FunctionRanges, add_outs, at};
+use crate::flow::{Analysis, FunctionRanges, Run, add_outs, at};
 use fit_code::{Fault, Function, Heap, NO_LINE, Program, Reason};
 use fit_graph::{FunctionShape, LocationSet, Means, RegisterCounts, find_live, thresholds_of};
 use sbx_domain::State;
@@ -29,6 +29,7 @@ pub struct Ranges {
     /// Of each function and each of its blocks the cells that are said, by location. None of those that aren't named
     /// here.
     said: Vec<Vec<Vec<Cell>>>,
+    run: Run,
 }
 
 /// The ranges that are said, and behind them those that were found, so many at least: any words where none were.
@@ -87,8 +88,8 @@ fn lie_within(found: &[Range], wanted: &[Range]) -> bool {
 
 impl Ranges {
     /// Finds the ranges of a program.
-    pub fn of(alloc: Global, program: &Program, state: &mut State) -> Result<Ranges, Fault> {
-        Ranges::beside(alloc, program, Vec::new(alloc), state)
+    pub fn of(alloc: Global, program: &Program) -> Result<Ranges, Fault> {
+        Ranges::beside(alloc, program, Vec::new(alloc))
     }
 
     /// Finds the ranges of a program of which some are said: the first params and results of its functions, as they
@@ -97,8 +98,11 @@ impl Ranges {
         alloc: Global,
         program: &Program,
         said: Vec<Vec<Vec<Cell>>>,
-        state: &mut State,
     ) -> Result<Ranges, Fault> {
+        let run = Run {
+            state: State::new(alloc)?,
+            second: State::new(alloc)?,
+        };
         let mut ranges = Ranges {
             means: Means {
                 memory: Heap::new(alloc),
@@ -109,20 +113,16 @@ impl Ranges {
             flows: Vec::new(alloc),
             results: Vec::new(alloc),
             said,
+            run,
         };
-        match ranges.renew(program, &[], state) {
+        match ranges.renew(program, &[]) {
             Ok(()) => Ok(ranges),
             Err(fault) => Err(fault),
         }
     }
 
     /// Finds a function's ranges by what all calls give it.
-    fn settle_function(
-        &mut self,
-        program: &Program,
-        (number, function): (usize, &Function),
-        state: &mut State,
-    ) {
+    fn settle_function(&mut self, program: &Program, (number, function): (usize, &Function)) {
         let given = given_to(self.flows.as_slice(), number);
         let (shapes, counts) = (self.shapes.as_slice(), self.counts.as_slice());
         let (means, flows) = (&mut self.means, self.flows.as_mut_slice());
@@ -140,7 +140,7 @@ impl Ranges {
                     results: self.results.as_slice(),
                     said: at(self.said.as_slice(), number),
                 };
-                flow.settle(&setting, means, state);
+                flow.settle(&setting, means, &mut self.run);
             }
         }
     }
@@ -175,10 +175,10 @@ impl Ranges {
     }
 
     /// Goes over each function once.
-    fn settle_functions(&mut self, program: &Program, state: &mut State) {
+    fn settle_functions(&mut self, program: &Program) {
         let functions = program.functions.as_slice();
         for number in 0..functions.len() {
-            self.settle_function(program, (number, &functions[number]), state);
+            self.settle_function(program, (number, &functions[number]));
         }
     }
 
@@ -192,12 +192,12 @@ impl Ranges {
     }
 
     /// Goes over the program until nothing is to be looked at again, or something lacks, which is told.
-    fn settle(&mut self, program: &Program, state: &mut State) -> Result<(), Fault> {
+    fn settle(&mut self, program: &Program) -> Result<(), Fault> {
         let functions = program.functions.as_slice();
         let mut is_new = true;
         for round in 0..ROUNDS {
             if is_new {
-                self.settle_functions(program, state);
+                self.settle_functions(program);
                 is_new = self.take_all_results(functions, round);
                 is_new &= !self.means.are_used_up();
             }
@@ -211,12 +211,7 @@ impl Ranges {
 
     /// Finds the ranges again, where some blocks of the program, each by its function and its own number, are others
     /// than before. What can't be reached from them is not looked at, unless functions have other params or results.
-    pub fn renew(
-        &mut self,
-        program: &Program,
-        changed: &[(usize, usize)],
-        state: &mut State,
-    ) -> Result<(), Fault> {
+    pub fn renew(&mut self, program: &Program, changed: &[(usize, usize)]) -> Result<(), Fault> {
         let mut shapes = shapes_of(&mut self.means.memory, program);
         let counts = find_live(&mut self.means, program, shapes.as_mut_slice());
         let are_new = self.counts != counts;
@@ -241,7 +236,7 @@ impl Ranges {
             }
         }
         self.counts = counts;
-        self.settle(program, state)
+        self.settle(program)
     }
 
     /// What a function is called with.
@@ -349,8 +344,8 @@ impl Ranges {
         }
     }
 
-    /// Begins a block in the verifier's domain, behind SAVE where it is a framed function's first one. Says whether
-    /// control comes there.
+    /// Begins a block in the verifier's domain, without forms, behind SAVE where it is a framed function's first one.
+    /// Says whether control comes there.
     pub fn begin_block(
         &self,
         program: &Program,
@@ -360,14 +355,14 @@ impl Ranges {
     ) -> bool {
         let (flows, functions) = (self.flows.as_slice(), program.functions.as_slice());
         if (function < flows.len()) & (function < functions.len()) {
-            return flows[function].begin(&functions[function], block, state);
+            return flows[function].begin(&functions[function], (block, false), state);
         }
         false
     }
 
-    /// Runs a block in the verifier's domain, from its beginning along one of its ways: 0 is that of a jump or of a
-    /// branch that is taken, 1 a branch's other one. Says whether that way can be gone. A return's and an exit's way is
-    /// 0.
+    /// Runs a block in the verifier's domain, with forms, from its beginning along one of its ways: 0 is that of a jump
+    /// or of a branch that is taken, 1 a branch's other one. Says whether that way can be gone. A return's and an exit's
+    /// way is 0.
     pub fn run_block(
         &self,
         program: &Program,

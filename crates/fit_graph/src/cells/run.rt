@@ -10,8 +10,21 @@ const NONE: Range = Range {
     alignment: 3,
 };
 
+/// The state where a block begins of which this is known. No range depends on forms, which take longer to work out than
+/// all else: locations have them for who counts turns alone.
+pub fn start(cells: &[Cell], has_forms: bool, state: &mut State) {
+    if has_forms {
+        state.start(cells);
+    } else {
+        state.start(&[]);
+        for cell in cells {
+            state.set(cell.location, Some(cell.range));
+        }
+    }
+}
+
 /// The state before the first step of a function, behind its SAVE: %o0 and on hold the params.
-pub fn enter(function: &Function, params: &[Range], state: &mut State) {
+pub fn enter(function: &Function, params: &[Range], has_forms: bool, state: &mut State) {
     let mut cells = [Cell {
         location: 8,
         range: NONE,
@@ -22,7 +35,7 @@ pub fn enter(function: &Function, params: &[Range], state: &mut State) {
             cells[place].range = params[place];
         }
     }
-    state.start(&cells[..params.len().min(6)]);
+    start(&cells[..params.len().min(6)], has_forms, state);
     if function.framed {
         state.save();
     }

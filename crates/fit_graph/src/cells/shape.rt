@@ -17,22 +17,46 @@ pub struct FunctionShape {
     pub live: Vec<LocationSet>,
 }
 
-/// The blocks of an order, where those of a loop stand right behind its head, in their order, and behind them those
-/// that stood between them.
-fn gathered(memory: &mut Heap, blocks: &[usize], within: &Loop) -> Vec<usize> {
-    let mut gathered = Vec::new(memory.alloc);
-    let mut others = Vec::new(memory.alloc);
-    let mut is_behind = false;
-    for block in blocks {
-        is_behind |= *block == within.head;
-        if is_behind & !within.has(*block) {
-            memory.push(&mut others, *block);
-        } else {
-            memory.push(&mut gathered, *block);
+/// The place behind the last block of a loop in an order.
+fn end_in(blocks: &[usize], within: &Loop) -> usize {
+    for place in (0..blocks.len()).rev() {
+        if within.has(blocks[place]) {
+            return place.saturating_add(1);
         }
     }
-    memory.is_refused |= gathered.extend_from_slice(others.as_slice()).is_err();
-    gathered
+    0
+}
+
+/// Puts blocks into an order, from a place on.
+fn put_from(blocks: &mut [usize], from: usize, others: &[usize]) {
+    let mut to = from;
+    for block in others {
+        if to < blocks.len() {
+            blocks[to] = *block;
+        }
+        to = to.saturating_add(1);
+    }
+}
+
+/// Moves the blocks of a loop in an order right behind its head, in their order, and behind them those that stood
+/// between them.
+fn gather(memory: &mut Heap, blocks: &mut [usize], within: &Loop) {
+    let mut others = Vec::new(memory.alloc);
+    let mut is_behind = false;
+    let mut to: usize = 0;
+    for place in 0..end_in(&*blocks, within) {
+        if (place < blocks.len()) & (to < blocks.len()) {
+            let block = blocks[place];
+            is_behind |= block == within.head;
+            if is_behind & !within.has(block) {
+                memory.push(&mut others, block);
+            } else {
+                blocks[to] = block;
+                to = to.saturating_add(1);
+            }
+        }
+    }
+    put_from(blocks, to, others.as_slice());
 }
 
 impl FunctionShape {
@@ -55,7 +79,7 @@ impl FunctionShape {
         let loops = graph.loops(memory);
         let mut order = graph.order;
         for within in loops.as_slice() {
-            order.blocks = gathered(memory, order.blocks.as_slice(), within);
+            gather(memory, order.blocks.as_mut_slice(), within);
         }
         put_places(order.places.as_mut_slice(), order.blocks.as_slice());
         FunctionShape {

@@ -1,8 +1,8 @@
 //! Ways that go back, and their heads.
 use crate::graph::above::{places_above, stands_above};
 use crate::graph::loops::{Loop, last_around};
-use crate::graph::reach::reach;
-use crate::graph::{Listed, Order, list, order_in, successors_in};
+use crate::graph::reach::hold_reached;
+use crate::graph::{Listed, Order, flags, list, order_in, successors_in};
 use fit_code::{Function, Heap};
 
 /// The blocks of a function, and where control comes from to each of them.
@@ -22,19 +22,15 @@ impl Graph {
         }
     }
 
-    /// For each block whether it is one of some, or can come to one of them, without a head.
+    /// For each block whether it is a head or one of some, or can come to one of these without the head.
     fn come_from(&self, memory: &mut Heap, blocks: &[usize], head: usize) -> Vec<bool> {
-        let mut within = memory.repeat(true, self.predecessors.len());
-        let slots = within.as_mut_slice();
-        if head < slots.len() {
-            slots[head] = false;
+        let mut holds = flags(memory, false, self.predecessors.len());
+        let held = holds.as_mut_slice();
+        if head < held.len() {
+            held[head] = true;
         }
-        reach(
-            memory,
-            self.predecessors.as_slice(),
-            blocks,
-            within.as_slice(),
-        )
+        hold_reached(memory, self.predecessors.as_slice(), blocks, held);
+        holds
     }
 
     /// Of a way that goes back, from a block to itself or to one before it, whether the other block is on each way from
@@ -72,15 +68,10 @@ impl Graph {
             let head = *head;
             let latches = self.latches_of(memory, above.as_slice(), head);
             if !latches.is_empty() {
-                let mut holds = self.come_from(memory, latches.as_slice(), head);
-                let slots = holds.as_mut_slice();
-                if head < slots.len() {
-                    slots[head] = true;
-                }
                 let found = Loop {
                     head,
                     parent: last_around(loops.as_slice(), head),
-                    holds,
+                    holds: self.come_from(memory, latches.as_slice(), head),
                     latches,
                 };
                 memory.push(&mut loops, found);

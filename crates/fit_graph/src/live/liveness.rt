@@ -125,6 +125,10 @@ fn pass_steps(
 #[derive(Clone, Copy)]
 struct BlockEffects {
     has_calls: bool,
+    returns: bool,
+    /// Whether it is to be gone over: more may be live behind it than when it was last. A block with calls, or one that
+    /// returns, always is, since more may be known of functions.
+    is_open: bool,
     reads: LocationSet,
     writes: LocationSet,
 }
@@ -142,6 +146,8 @@ impl BlockEffects {
     fn of(frame: u32, block: &Block) -> BlockEffects {
         let mut found = BlockEffects {
             has_calls: false,
+            returns: matches!(block.end, End::Return(_)),
+            is_open: true,
             reads: LocationSet::none(),
             writes: LocationSet::none(),
         };
@@ -157,6 +163,16 @@ impl BlockEffects {
         let effects = effects_of(frame, &step.instr);
         self.reads.pass(&effects);
         add_writes(&mut self.writes, &effects);
+    }
+}
+
+/// The blocks that some ways come from are to be gone over.
+fn open_sources(effects: &mut [BlockEffects], ways: &[usize]) {
+    for way in ways {
+        let from = *way / 2;
+        if from < effects.len() {
+            effects[from].is_open = true;
+        }
     }
 }
 
@@ -190,13 +206,13 @@ fn pass_block(
     is_new
 }
 
-/// Goes over the blocks of the function of a number once: those that follow first, but where a loop goes back. Counts
-/// what it takes for granted at its entry, but for the first function of a program, which is called by nobody. Says
-/// whether more is live or asked for than before.
+/// Goes over the blocks of the function of a number that are open, once: those that follow first, but where a loop goes
+/// back. Counts what it takes for granted at its entry, but for the first function of a program, which is called by
+/// nobody. Says whether more is live or asked for than before.
 fn pass_function(
     counts: &mut [RegisterCounts],
     (number, function): (usize, &Function),
-    effects: &[BlockEffects],
+    effects: &mut [BlockEffects],
     shape: &mut FunctionShape,
 ) -> bool {
     if number >= counts.len() {
@@ -206,9 +222,16 @@ fn pass_function(
     let (blocks, live) = (function.blocks.as_slice(), shape.live.as_mut_slice());
     let mut is_new = false;
     for place in shape.order.blocks.as_slice().iter().rev() {
-        if (*place < blocks.len()) & (*place < effects.len()) {
-            let block = (&blocks[*place], &effects[*place]);
-            is_new |= pass_block(counts, (function, results), block, (&mut *live, *place));
+        if (*place < blocks.len()) & (*place < effects.len()) && effects[*place].is_open {
+            let known = effects[*place];
+            effects[*place].is_open = known.has_calls | known.returns;
+            let block = (&blocks[*place], &known);
+            if pass_block(counts, (function, results), block, (&mut *live, *place)) {
+                is_new = true;
+                if *place < shape.sources.len() {
+                    open_sources(effects, shape.sources[*place].as_slice());
+                }
+            }
         }
     }
     let from = if function.framed { IN } else { OUT };
@@ -223,14 +246,14 @@ fn pass_function(
 fn pass_all(
     counts: &mut [RegisterCounts],
     functions: &[Function],
-    effects: &[Vec<BlockEffects>],
+    effects: &mut [Vec<BlockEffects>],
     shapes: &mut [FunctionShape],
 ) -> bool {
     let mut is_new = false;
     for number in (0..functions.len()).rev() {
         if (number < shapes.len()) & (number < effects.len()) {
             let (named, shape) = ((number, &functions[number]), &mut shapes[number]);
-            is_new |= pass_function(counts, named, effects[number].as_slice(), shape);
+            is_new |= pass_function(counts, named, effects[number].as_mut_slice(), shape);
         }
     }
     is_new
@@ -240,7 +263,7 @@ fn pass_all(
 fn pass_rounds(
     counts: &mut [RegisterCounts],
     functions: &[Function],
-    effects: &[Vec<BlockEffects>],
+    effects: &mut [Vec<BlockEffects>],
     shapes: &mut [FunctionShape],
 ) -> bool {
     let mut is_new = true;
@@ -272,7 +295,7 @@ pub fn find_live(
         let listed = effects_of_blocks(&mut means.memory, function);
         means.memory.push(&mut effects, listed);
     }
-    let is_new = pass_rounds(counts, functions, effects.as_slice(), shapes);
+    let is_new = pass_rounds(counts, functions, effects.as_mut_slice(), shapes);
     if is_new {
         let what = "rounds over which locations are live";
         means.spend(NO_LINE, what, ROUNDS as u64);

@@ -72,6 +72,15 @@ impl LocationSet {
         grew
     }
 
+    /// How many locations are in the set.
+    pub fn count(&self) -> usize {
+        let mut count: usize = 0;
+        for place in 0..WORDS {
+            count = count.saturating_add(self.words[place].count_ones() as usize);
+        }
+        count
+    }
+
     /// Whether no location is in the set.
     pub fn is_empty(&self) -> bool {
         let mut some: u64 = 0;

@@ -27,6 +27,8 @@ pub struct BlockRanges {
     /// How often its cells grew since they were last forgotten, and how often they were narrowed.
     pub changes: u32,
     narrowings: u32,
+    /// Whether what is known where it begins is what comes along the ways that lead to it, and no more.
+    pub is_settled: bool,
     /// Whether it runs otherwise than when its ranges were found: it is new, or its steps or its end are others, or
     /// what a callee gives back, or what is live behind it.
     pub is_other: bool,
@@ -34,8 +36,9 @@ pub struct BlockRanges {
     /// The ways that lead to it since then, and what was known along those that don't any more.
     pub came: Vec<usize>,
     pub lost: Option<Vec<Cell>>,
-    /// The locations of which something else may be known where it begins.
+    /// The locations of which something else may be known where it begins, and whether these go on behind it yet.
     pub spread: LocationSet,
+    pub spreads: bool,
     /// Whether it runs otherwise than before the ranges were found anew, or something else is known where it begins.
     pub is_fresh: bool,
 }
@@ -100,11 +103,13 @@ impl BlockRanges {
             touched: LocationSet::none(),
             changes: 0,
             narrowings: 0,
+            is_settled: false,
             is_other: true,
             is_new: true,
             came: Vec::new(alloc),
             lost: None,
             spread: LocationSet::none(),
+            spreads: false,
             is_fresh: true,
         }
     }
@@ -120,6 +125,7 @@ impl BlockRanges {
         self.touched = touched;
         self.changes = 0;
         self.narrowings = 0;
+        self.is_settled = false;
         self.is_other = false;
         self.is_new = false;
     }

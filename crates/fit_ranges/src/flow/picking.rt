@@ -2,10 +2,9 @@
 //! difference. Where it makes one to others all the same, the whole stretch is.
 use crate::flow::known::touched_in;
 use crate::flow::spread::{differing, spread_behind};
-use crate::flow::{Analysis, FunctionRanges, add_cells};
+use crate::flow::{Analysis, FunctionRanges, Run, add_cells};
 use fit_code::{Block, End, Heap};
 use fit_graph::{LocationSet, successors_in};
-use sbx_domain::State;
 use sbx_range::Cell;
 
 /// Stretches of fewer blocks are looked at as a whole.
@@ -43,24 +42,6 @@ impl FunctionRanges {
         count
     }
 
-    /// What is known where the ways of a block end, by what is known where it begins.
-    fn ways_by(
-        &self,
-        setting: &Analysis,
-        memory: &mut Heap,
-        block: usize,
-        state: &mut State,
-    ) -> [Option<Vec<Cell>>; 2] {
-        let ways = successors_in(setting.function, block);
-        let mut found = [None, None];
-        for way in 0..2 {
-            if let Some(to) = ways[way] {
-                found[way] = self.found_along(setting, memory, (block, way, to), state);
-            }
-        }
-        found
-    }
-
     /// Where nothing was known of the begin of a block, that is what comes there.
     fn enter_new(&mut self, setting: &Analysis, memory: &mut Heap, block: usize) {
         if block > 0 && self.cells(block).is_none() {
@@ -74,31 +55,29 @@ impl FunctionRanges {
 
     /// Tries a block that runs otherwise than before, by what was known where it begins, or, if it is new, by what
     /// comes there.
-    fn try_block(
-        &mut self,
-        setting: &Analysis,
-        memory: &mut Heap,
-        block: usize,
-        state: &mut State,
-    ) {
-        self.enter_new(setting, memory, block);
-        let ways = self.ways_by(setting, memory, block, state);
+    fn try_block(&mut self, setting: &Analysis, memory: &mut Heap, block: usize, run: &mut Run) {
         let codes = setting.function.blocks.as_slice();
+        if block >= codes.len() {
+            return;
+        }
+        self.enter_new(setting, memory, block);
+        let touched = touched_in(setting.function, &codes[block]);
+        let ways = self.ways_by(setting, memory, (block, &touched), run);
         let blocks = self.blocks.as_mut_slice();
-        if (block < codes.len()) & (block < blocks.len()) {
-            blocks[block].try_with(ways, touched_in(setting.function, &codes[block]));
+        if block < blocks.len() {
+            blocks[block].try_with(ways, touched);
         }
     }
 
     /// Tries the blocks of the stretch that run otherwise than before.
-    fn try_all(&mut self, setting: &Analysis, memory: &mut Heap, state: &mut State) {
+    fn try_all(&mut self, setting: &Analysis, memory: &mut Heap, run: &mut Run) {
         let order = setting.shape.order.blocks.as_slice();
         for place in self.pending.start..self.pending.end {
             if place < order.len() {
                 let block = order[place];
                 let blocks = self.blocks.as_slice();
                 if block < blocks.len() && blocks[block].is_other {
-                    self.try_block(setting, memory, block, state);
+                    self.try_block(setting, memory, block, run);
                 }
             }
         }
@@ -188,10 +167,24 @@ impl FunctionRanges {
                 && setting.shape.order.place(to) < Some(self.pending.end)
                 && (to < live.len()) & (to < blocks.len())
             {
-                is_new |= blocks[to].spread.add(&behind.intersection(&live[to]));
+                let has_grown = blocks[to].spread.add(&behind.intersection(&live[to]));
+                blocks[to].spreads |= has_grown;
+                is_new |= has_grown;
             }
         }
         is_new
+    }
+
+    /// What spreads to a block of the stretch, or from it, since it runs otherwise than before, is to go on behind it.
+    fn begin_spread(&mut self, setting: &Analysis) {
+        let order = setting.shape.order.blocks.as_slice();
+        for place in self.pending.start..self.pending.end {
+            let blocks = self.blocks.as_mut_slice();
+            if place < order.len() && order[place] < blocks.len() {
+                let known = &mut blocks[order[place]];
+                known.spreads = known.is_other || !known.spread.is_empty();
+            }
+        }
     }
 
     /// Lets what spreads go on behind each block of the stretch; says whether it comes to where it wasn't.
@@ -201,10 +194,9 @@ impl FunctionRanges {
         for place in self.pending.start..self.pending.end {
             if place < order.len() {
                 let block = order[place];
-                let blocks = self.blocks.as_slice();
-                if block < blocks.len()
-                    && (blocks[block].is_other || !blocks[block].spread.is_empty())
-                {
+                let blocks = self.blocks.as_mut_slice();
+                if block < blocks.len() && blocks[block].spreads {
+                    blocks[block].spreads = false;
                     is_new |= self.spread_on(setting, block);
                 }
             }
@@ -215,6 +207,7 @@ impl FunctionRanges {
     /// Lets what spreads go on until it comes nowhere new; says whether that was in so many rounds.
     fn spread_all(&mut self, setting: &Analysis) -> bool {
         let mut is_new = true;
+        self.begin_spread(setting);
         for _ in 0..ROUNDS {
             if is_new {
                 is_new = self.spread_once(setting);
@@ -246,12 +239,12 @@ impl FunctionRanges {
     }
 
     /// Picks the blocks of the stretch that are looked at again; says whether these are few.
-    pub fn pick(&mut self, setting: &Analysis, memory: &mut Heap, state: &mut State) -> bool {
+    pub fn pick(&mut self, setting: &Analysis, memory: &mut Heap, run: &mut Run) -> bool {
         let count = self.pending.end.saturating_sub(self.pending.start);
         if (count < FEW) | (self.count_asked(setting) > count / 4) {
             return false;
         }
-        self.try_all(setting, memory, state);
+        self.try_all(setting, memory, run);
         self.note_all(setting, memory);
         self.spread_all(setting) && self.pick_spread(setting) <= count / 4 * 3
     }
