@@ -15,6 +15,7 @@ sys.dont_write_bytecode = True
 HERE = os.path.dirname(os.path.abspath(__file__))
 sys.path.insert(0, f"{os.path.dirname(HERE)}/lib")
 from run import TOP, text_of
+from tally import Words
 
 # Words of a sentence that few may have, the share of sentences that may have more, and what none may have.
 LONG, SHARE, LONGEST = 35, 0.02, 60
@@ -164,9 +165,11 @@ def hold(tally, asked):
             hold_folder(tally, folder or "the top", texts)
 
 
-def main(files):
+def main(words):
     """Prints the counts as a table."""
-    total = Counts()
+    reader = Words(__doc__)
+    reader.add_files("files")
+    files, total = reader.parse_args(words).files, Counts()
     print("| page | words | sentences | above 35 | of 100 | longest | paragraph | semicolons of 1,000 |")
     print("|---|---|---|---|---|---|---|---|")
     for name in files or all_pages():

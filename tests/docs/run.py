@@ -2,10 +2,12 @@
 """usage: tests/docs/run.py [FILE ..]
 
 Runs the commands that the pages of the repository (or the FILEs) show, and compares what they print;
-docs/work/change.md says how a page shows them. Looks up the files and headings that the pages link to and the
-definitions that they cite, counts the lines of the files whose lines a table tells, looks whether the map's tables have
-a row for each crate, and those of docs/work/change.md one for each suite, and whether docs/proof/contracts.md is what
-tools/contracts prints. Holds sentences, paragraphs and semicolons to the limits of prose.py."""
+docs/work/change.md says how a page shows them. Looks up the files and headings that the pages link to, the definitions
+that they cite, and the crates, types and calls that those of docs name. Counts the lines of the files whose lines a
+table tells, and the edits. Looks whether the map's tables have a row for each crate, those of docs/work/change.md one
+for each suite, and docs/proof/trusted.md each script that builds what is proved, and whether docs/proof/contracts.md is
+what tools/contracts prints. Holds sentences, paragraphs and semicolons to the limits of prose.py."""
+import functools
 import glob
 import os
 import re
@@ -33,6 +35,11 @@ PROMPT = "(gdb) "
 FENCE = re.compile(r"^(\s*)```(.*)$")
 # Names of definitions, and the file in which they stand.
 CITED = re.compile(r"((?:`\w+`(?:, | and )?)+) of `(\w+/specs/\w+\.antt)`")
+# What a page names: `CRATE::ITEM`, `TYPE::ITEM`, and the folder of a crate.
+ITEM = re.compile(r"`(\w+(?:::\w+)+)")
+FOLDER = re.compile(r"`crates/([a-z]\w*)")
+# Names of Rust's library, and of the kit's.
+NOT_OURS = {"std", "io"}
 
 
 class Broken(Exception):
@@ -161,6 +168,27 @@ def lost_definitions(page):
         yield from (f"{it} of {path}" for it in re.findall(r"`(\w+)`", names) if not re.search(rf"\b{it}\b", text))
 
 
+@functools.cache
+def names_in(crate):
+    """All names in the sources and the definitions of a crate."""
+    files = [it for part in ("src", "specs") for it in glob.glob(f"{TOP}/crates/{crate}/{part}/**/*.*", recursive=True)]
+    return {name for it in files for name in re.findall(r"\w+", text_of(it))}
+
+
+def lost_names(page):
+    """Yields the crates, types and calls that a page names, as `CRATE::ITEM` or `TYPE::ITEM`, and that aren't there."""
+    known, text = crates(), text_of(page)
+    for named in ITEM.findall(text):
+        first, *names = named.split("::")
+        if first in known:
+            there = names_in(first)
+        else:
+            names, there = [first, *names], set().union(*map(names_in, known))
+        if first not in NOT_OURS and not there.issuperset(names):
+            yield named
+    yield from (f"crates/{it}" for it in FOLDER.findall(text) if it not in known)
+
+
 def lines_of(folder, name):
     """How many lines a file of definitions has; none where it isn't there."""
     path = f"{TOP}/crates/{folder}/{name}.antt"
@@ -188,6 +216,25 @@ def wrong_rows(page):
             for name in re.findall(r"`(\w+)`", row.split("|")[1])]
     known = crates()
     yield from sorted(name for name in {*told, *known} if told.count(name) != 1 or name not in known)
+
+
+def lost_scripts(page):
+    """Yields the scripts by which a program is proved and built, and that a page's row of scripts doesn't name."""
+    row = next(it for it in text_of(page).split("\n") if it.startswith("| **scripts** |"))
+    left, found = [f"{TOP}/tools/build/{it}" for it in ("launch", "build-program", "rt-anew", "rt-once")], set()
+    while left:
+        path = left.pop()
+        found.add(path)
+        asked = re.findall(r"^(?:from|import) (\w+)", text_of(path), re.M)
+        near = [f"{TOP}/{folder}/{it}.py" for folder in ("tools/build", "tools", "tests/lib") for it in asked]
+        left += [it for it in near if os.path.exists(it) and it not in found]
+    yield from sorted(os.path.relpath(it, TOP) for it in found if os.path.basename(it) not in row)
+
+
+def kept_edits():
+    """How many edits are kept, those of the gate and those of tests/edits."""
+    lists = "".join(text_of(it) for it in glob.glob(f"{TOP}/tests/edits/*.edits"))
+    return len(glob.glob(f"{TOP}/crates/*/must-fail/*.edit")) + len(re.findall(r"^edit: ", lists, re.M))
 
 
 def wrong_suites(page):
@@ -221,10 +268,16 @@ def try_page(tally, page):
         tally.check(name, False, f"nothing stands at {link}")
     for it in lost_definitions(page):
         tally.check(name, False, f"there is no definition {it}")
+    for it in lost_names(page) if name.startswith("docs/") else ():
+        tally.check(name, False, f"there is nothing that is called {it}")
     for row in wrong_counts(page):
         tally.check(name, False, f"other lines: {row}")
     for crate in wrong_rows(page) if name == "docs/work/map.md" else ():
         tally.check(name, False, f"wanted one row for each crate and no other, came {crate}")
+    for script in lost_scripts(page) if name == "docs/proof/trusted.md" else ():
+        tally.check(name, False, f"wanted each script that builds what is proved, came none of {script}")
+    if name == "docs/proof/security.md":
+        tally.check(name, f" {kept_edits():,} such edits are kept " in text_of(page), f"wanted {kept_edits():,} edits")
     if name == "docs/work/map.md":
         try_map(tally)
     for suite in wrong_suites(page) if name == "docs/work/change.md" else ():
@@ -236,7 +289,7 @@ def try_page(tally, page):
 
 def main(words):
     reader = Words(__doc__)
-    reader.add_argument("files", nargs="*")
+    reader.add_files("files")
     pages = [os.path.abspath(it) for it in reader.parse_args(words).files]
     built("sandbox", "inspect", "host", "fit", "board")
     tally = Tally("docs")

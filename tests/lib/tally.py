@@ -82,6 +82,16 @@ class Words(argparse.ArgumentParser):
 
         self.add_argument(words, nargs="*", type=checked)
 
+    def add_files(self, words):
+        """Adds words that are files; none may be given."""
+        def checked(path):
+            if not os.path.isfile(path):
+                why = "is a directory" if os.path.isdir(path) else "no such file"
+                raise argparse.ArgumentTypeError(f"{path}: {why}")
+            return path
+
+        self.add_argument(words, nargs="*", type=checked)
+
     def format_usage(self):
         return f"{self.doc.partition(f'{os.linesep}{os.linesep}')[0]}\n"
 
