@@ -1,6 +1,5 @@
-/* What is exact, or rounded to nearest as IEEE 754 has it, and nothing else: sin, exp, pow, log and their kin aren't
-   declared, so that a program may bring its own. errno and flags are left alone; what has no answer is the quiet
-   NaN. */
+/* What the library has is exact, or rounded to nearest as IEEE 754 has it; errno and flags are left alone, and what has
+   no answer is the quiet NaN. sin, exp, pow, log and their kin are declared alone, for programs that bring them. */
 #ifndef GEYSERPAN_MATH_H
 #define GEYSERPAN_MATH_H
 
@@ -115,6 +114,64 @@ float fminf(float, float);
 float fmaxf(float, float);
 float fdimf(float, float);
 float nanf(const char *);
+
+/* The library has none of these: a program that calls one names a source that has it. */
+#ifndef __cplusplus
+double acos(double);
+double acosh(double);
+double asin(double);
+double asinh(double);
+double atan(double);
+double atanh(double);
+double cbrt(double);
+double cos(double);
+double cosh(double);
+double erf(double);
+double erfc(double);
+double exp(double);
+double exp2(double);
+double expm1(double);
+double lgamma(double);
+double log(double);
+double log10(double);
+double log1p(double);
+double log2(double);
+double sin(double);
+double sinh(double);
+double tan(double);
+double tanh(double);
+double tgamma(double);
+double atan2(double, double);
+double hypot(double, double);
+double pow(double, double);
+float acosf(float);
+float acoshf(float);
+float asinf(float);
+float asinhf(float);
+float atanf(float);
+float atanhf(float);
+float cbrtf(float);
+float cosf(float);
+float coshf(float);
+float erff(float);
+float erfcf(float);
+float expf(float);
+float exp2f(float);
+float expm1f(float);
+float lgammaf(float);
+float logf(float);
+float log10f(float);
+float log1pf(float);
+float log2f(float);
+float sinf(float);
+float sinhf(float);
+float tanf(float);
+float tanhf(float);
+float tgammaf(float);
+float atan2f(float, float);
+float hypotf(float, float);
+float powf(float, float);
+#endif
 
 #ifdef __cplusplus
 }

@@ -15,6 +15,9 @@ REFUSED = {
     "missing.c": ("int missing(int);\nint main(void) { return missing(3); }\n",
                   "missing.c:2: refused: missing isn't defined: it is neither in the sources that are named nor in the "
                   "library: name its source"),
+    "natural.c": ("#include <math.h>\nint get(void);\nint main(void) { return (int)log(get()); }\n",
+                  "natural.c:3: refused: log isn't defined: it is neither in the sources that are named nor in the "
+                  "library: name its source"),
     "inline.c": ('int main(void) { __asm__ volatile("rdpr %tick, %g1"); return 0; }\n',
                  "inline.c:1: refused: main: inline assembly isn't taken: write it in C"),
     "taken.c": ('int main(void) { __asm__ volatile("ta 3"); return 0; }\n',
@@ -54,8 +57,9 @@ WORDS = (
     (["-march=native"], "what the code is made for is set here, and can't be changed"),
     (["-fPIC"], "what the code is made for is set here, and can't be changed"),
     (["--frobnicate"], "no such option"),
-    (["--turns", "ten"], "--turns ten: a number of turns is wanted, up to 1000000000000"),
-    (["--turns", "1000000000001"], "a number of turns is wanted, up to 1000000000000"),
+    (["--turns", "ten"], "--turns ten: a number of turns is wanted, from 1 to 1000000000000"),
+    (["--turns", "0"], "--turns 0: a number of turns is wanted, from 1 to 1000000000000"),
+    (["--turns", "1000000000001"], "a number of turns is wanted, from 1 to 1000000000000"),
     (["--arena", "262145"], "a number of bytes is wanted, up to 262144"),
     (["--stack", "3000"], "a power of 2 is wanted, from 1024 to 131072"),
     (["--stack", "262144"], "a number of bytes is wanted, up to 131072"),

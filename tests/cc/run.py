@@ -169,7 +169,7 @@ def try_options(author):
     author.called(1, "differs: byte 0, in line 1, is 34, natively 38", "size.c", "--against", "size.in")
     author.called(1, "2 inputs, 2 differ", "size.c", "--against", "inputs")
     author.called(1, "natively status 8, here the exit word is 4", "size.c", "--against", "size.in", "-DQUIET")
-    author.called(0, "1 inputs, 0 differ", "seven.c", "--against", "size.in")
+    author.called(0, "1 input, 0 differ", "seven.c", "--against", "size.in")
 
 
 def try_fault_of_fit(author):
@@ -201,7 +201,7 @@ def try_programs(author):
         if is_plus and not has(COMPILER_PLUS):
             author.tally.skip(name, COMPILER_PLUS)
             continue
-        told = f"{len(inputs)} inputs, 0 differ"
+        told = f"{len(inputs)} input{'' if len(inputs) == 1 else 's'}, 0 differ"
         words = [*sources, *(["-std=gnu++20"] if is_plus else []), "--against", *inputs]
         author.called(0, told, *words, tool=PLUS if is_plus else CC)
         if not is_plus:
@@ -234,7 +234,7 @@ def try_builds(author):
     put(f"{place}/geyserpan.cmake", text)
     if has("make"):
         ran = run(["make", f"TOP={TOP}", "scores.img", "check"], cwd=place)
-        author.tally.check("make", ran.status == 0 and "1 inputs, 0 differ" in ran.said, ran.said)
+        author.tally.check("make", ran.status == 0 and "1 input, 0 differ" in ran.said, ran.said)
         author.puts(f"{place}/scores.img", wanted, b"ann 3\nbob 5\nann 4\neve 1\n")
         author.tally.check("make: again", "up to date" in run(["make", f"TOP={TOP}", "scores.img"], cwd=place).said,
                            "wanted nothing to do")

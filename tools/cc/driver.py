@@ -248,10 +248,11 @@ def perform(request):
     with tempfile.TemporaryDirectory() as work:
         build = image_of(request, work)
         image = build.image
+        if request.out:
+            shutil.copyfile(image, request.out)
         # (what a run or a comparison prints goes to standard output alone)
         print("accepted", file=sys.stderr if request.runs or request.inputs else sys.stdout)
         if request.out:
-            shutil.copyfile(image, request.out)
             say(*left_beside(build))
         if not (request.inputs or request.runs):
             return 0

@@ -71,11 +71,12 @@ class Words:
             raise self.fault(f"{word}: its value is missing")
         return self.left.popleft()
 
-    def number(self, word, most, kind="bytes"):
+    def number(self, word, most, kind="bytes", least=0):
         """A number of bytes, or of turns."""
         text = self.value(word)
-        if not re.fullmatch(r"\d{1,13}", text) or int(text) > most:
-            raise self.fault(f"{word} {text}: a number of {kind} is wanted, up to {most}")
+        if not re.fullmatch(r"\d{1,13}", text) or not least <= int(text) <= most:
+            bounds = f"from {least} to {most}" if least else f"up to {most}"
+            raise self.fault(f"{word} {text}: a number of {kind} is wanted, {bounds}")
         return int(text)
 
     def size_of_stack(self, word):
@@ -91,7 +92,7 @@ class Words:
         if word in ("-o", "--keep"):
             setattr(request, {"-o": "out", "--keep": "keep"}[word], self.value(word))
         elif word == "--turns":
-            request.fitting += [word, str(self.number(word, MOST_TURNS, "turns"))]
+            request.fitting += [word, str(self.number(word, MOST_TURNS, "turns", 1))]
         elif word == "--arena":
             request.arena = max(32, self.number(word, MOST_ARENA) // 8 * 8)
         elif word == "--stack":

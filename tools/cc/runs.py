@@ -118,5 +118,6 @@ class Comparison:
             if told:
                 differ += 1
                 print(f"{path}: differs: {told}")
-        print(f"{len(self.request.inputs)} inputs, {differ} differ")
+        count = len(self.request.inputs)
+        print(f"{count} input{'' if count == 1 else 's'}, {differ} differ")
         return 1 if differ else 0

@@ -3,6 +3,7 @@ import glob
 import hashlib
 import os
 import subprocess
+import sys
 import tempfile
 
 from compilers import HEADERS, PLUS, TOP, runtime_files, side_by_side
@@ -15,6 +16,8 @@ WORDS = ["-w", "-fno-builtin"]
 
 class Runtime:
     """The parts of the library for one compiler and one size of the heap."""
+
+    is_told = False
 
     def __init__(self, compiler, work):
         self.compiler, self.request, self.work = compiler, compiler.request, work
@@ -47,11 +50,20 @@ class Runtime:
             raise Fault(125, f"{self.request.name}: {source} can't be compiled: {ran.stderr}")
         settle(draft, path)
 
+    def tell(self):
+        """Says once what a first call waits for."""
+        if not Runtime.is_told and not os.environ.get("GEYSERPAN_QUIET"):
+            print(f"{self.request.name}: compiling the library, once for this compiler and --arena", file=sys.stderr)
+        Runtime.is_told = True
+
     def all(self, sources, ending, *words):
         """Compiles those of the library's sources that aren't kept, side by side; returns the paths of all."""
         paths = {it: self.place(f"{os.path.basename(os.path.dirname(it))}-{os.path.basename(it)}{ending}")
                  for it in sorted(sources)}
-        side_by_side(lambda it: self.make(*it, words), [it for it in paths.items() if not os.path.exists(it[1])])
+        missing = [it for it in paths.items() if not os.path.exists(it[1])]
+        if missing:
+            self.tell()
+        side_by_side(lambda it: self.make(*it, words), missing)
         return list(paths.values())
 
     def objects(self, *words):

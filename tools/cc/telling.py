@@ -17,7 +17,8 @@ REFUSED = re.compile(r"(?:([^:\n]+):(?:(\d+):)? )?refused: (.*)", re.S)
 ADVICE = (
     (r"an array of a size that isn't constant", "write the greatest size that there may be, or smaller functions"),
     (r"the address of its frame in a form", "write an array of a constant size"),
-    (r"bytes of data", "write smaller tables, or ask for less by --arena and --stack"),
+    (r"bytes of data", "write smaller tables, or ask for less by --arena and --stack, which lies at a multiple of its "
+     "bytes and so may take twice as many"),
     (r"the blocks of [a-z ]+ would be", "compile by -Os, or write __attribute__((noinline)) before functions"),
     (r"words of code|would be \d+, above 65536", "compile by -Os"),
     (r"isn't defined", "it is neither in the sources that are named nor in the library: name its source"),
