@@ -238,6 +238,7 @@ def limits(tally, _asked):
         tally.check("no such compiler", ran.status == 4 and "nosuchcc" in ran.said, ran.said)
     usage = bytes_of(f"{TOP}/tools/release/usage/native")
     tally.same("no arguments", run([NATIVE]), Ran(3, b"", usage))
+    usage += bytes_of(f"{TOP}/tools/release/usage/native.more")
     tally.same("--help", run([NATIVE, "--help"]), Ran(0, usage, b""))
 
 

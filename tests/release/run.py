@@ -4,8 +4,9 @@
 Makes a release of this tree as it is committed, and its package for Debian; installs it below a folder of its own, and
 runs it from another folder without the tree and without a kit: its programs, the examples of its manual, what shells
 complete; makes it once more and compares the bytes; tries to install one that was changed; takes it away again; and
-installs, tries and removes the package below a folder of its own. The gate isn't run: it is told what a gate that passed prints, so the file that is made is thrown away. The
-programs have to stand built, or are built first; the library for C has to stand."""
+installs, tries and removes the package below a folder of its own. The gate isn't run: it is told what a gate that
+passed prints, so the file that is made is thrown away. The programs have to stand built, or are built first; the
+library for C has to stand."""
 import hashlib
 import os
 import re
@@ -23,12 +24,26 @@ VERSION = text_of(f"{TOP}/VERSION").strip()
 NAME, PACKAGE = f"geyserpan-{VERSION}-x86_64-linux", f"geyserpan_{VERSION}_amd64.deb"
 LIBRARY = f"{TOP}/crates/geyserpan/out/libgeyserpan.a"
 # What stands built, and is taken along.
-BUILT = [f"crates/{it}/out/{it}{end}" for it in ("sbx_tool", "inspect", "host", "fit", "board")
+BUILT = [f"crates/{it}/out/{it}{end}" for it in ("sbx_tool", "inspect", "host", "fit", "native", "board")
          for end in ("", ".made")]
 BUILT += [f"crates/geyserpan/out/libgeyserpan.a{end}" for end in ("", ".made")]
 MAKE = "tools/release/make"
 VECTORS = ("words-and-results.txt", "verdicts-and-runs.txt", "turns-and-walks.txt", "traces/deep.4", "README.md")
-PAGES = "sandbox.1 inspect.1 host.1 fit.1 board.1 geyserpan-cc.1 geyserpan-image.5 geyserpan-source.5".split()
+PAGES = """sandbox.1 inspect.1 host.1 fit.1 native.1 board.1 geyserpan-cc.1 geyserpan-c++.1 geyserpan-image.5
+    geyserpan-source.5""".split()
+# What the examples of a page need: programs, one of which has to be there, and what stands for them.
+NEEDED = {"geyserpan-cc.1": (("sparc64-linux-gnu-gcc", "clang"), "a compiler for SPARC"),
+          "geyserpan-c++.1": (("sparc64-linux-gnu-g++",), "Debian's package g++-sparc64-linux-gnu"),
+          "native.1": (("gcc", "clang", "tcc"), "a C compiler")}
+NAME_C = """#include "plug.h"
+static char name[32];
+int main(void) {
+    int n = get();
+    for (int i = 0; i < n; i++) name[i] = get();
+    for (int i = n - 1; i >= 0; i--) put(name[i]);
+    return 0;
+}
+"""
 HI = '#include "plug.h"\nint main(void) { put(72); put(105); return 0; }\n'
 
 
@@ -111,16 +126,33 @@ def try_programs(place, tally):
     tally.same("host hello", place.apart("host", f"{hello}.img").out, b"Hi")
     ran = place.apart("board", f"{hello}.img", "hello.elf")
     tally.same("board hello", (ran.status, bytes_of(f"{place.work}/elsewhere/hello.elf")[:4]), (0, b"\x7fELF"))
-    for name in ("inspect", "host", "fit", "board", "geyserpan-cc"):
+    tally.same("native run", place.apart("native", "run", f"{hello}.img").out, b"Hi")
+    tally.same("native run, counted", place.apart("native", "run", "--counts", "4", f"{hello}.img").said,
+               "Hi00000000 16 0 0\n")
+    ran = place.apart("inspect", "states", "--from", "2", "--limit", "3", f"{hello}.img")
+    tally.check("inspect states --from", ran.out.startswith(b"! behind turn 2\n"), ran.said[:300])
+    for name, words in (("inspect", ("gdb", "--help")), ("inspect", ("page", "--help")), ("native", ("run", "--help"))):
+        tally.same(f"{name} {' '.join(words)}", place.apart(name, *words).status, 0)
+    for name in ("inspect", "host", "fit", "native", "board", "geyserpan-cc", "geyserpan-c++"):
         tally.same(f"{name} --version", place.apart(name, "--version").out.split(b"\n")[0],
                    f"version {VERSION}".encode())
     if has("sparc64-linux-gnu-gcc") or has("clang"):
         put(f"{place.work}/elsewhere/hi.c", HI)
         tally.same("geyserpan-cc", place.apart("geyserpan-cc", "hi.c", "-o", "hi.img").out, b"accepted\n")
         tally.same("sandbox run hi", place.apart("sandbox", "run", "hi.img").out, b"Hi")
+        try_maps(place, tally)
     else:
         tally.skip("the way from C", "a compiler for SPARC")
     try_files(place, tally)
+
+
+def try_maps(place, tally):
+    """What --map tells of the end of a run of C, by each program that runs it."""
+    put(f"{place.work}/elsewhere/name.c", NAME_C)
+    tally.same("geyserpan-cc --map", place.apart("geyserpan-cc", "name.c", "--map", "-o", "name.img").status, 0)
+    for name in ("inspect", "host", "native"):
+        ran = place.apart(name, "run", "--map", "name.map", "name.img", given=b"\xff" + 40 * b"a")
+        tally.check(f"{name} run --map", "name.c:5: the index into name" in ran.said, ran.said[:300])
 
 
 def try_files(place, tally):
@@ -150,7 +182,6 @@ def try_manual(place, tally):
     """Each page of a program has its sections, and its examples run on the examples of the release."""
     folder = f"{place.work}/elsewhere/examples"
     shutil.copytree(f"{place.share}/examples", folder)
-    wants_compiler = not has("sparc64-linux-gnu-gcc") and not has("clang")
     for page in (it for it in PAGES if it.endswith(".1")):
         text = text_of(f"{place.prefix}/share/man/man1/{page}")
         sections = re.findall(r"^\.SH (.*)$", text, re.M)
@@ -158,8 +189,9 @@ def try_manual(place, tally):
         tally.same(f"{page}: sections that it lacks", missing, [])
         commands = [it.replace("\\-", "-") for it in re.findall(r"^\$ (.*)$", text, re.M)]
         tally.check(f"{page}: examples", commands, "wanted some, came none")
-        if page.startswith("geyserpan-cc") and wants_compiler:
-            tally.skip(f"the examples of {page}", "a compiler for SPARC")
+        tools, name = NEEDED.get(page, (("sh",), ""))
+        if not any(map(has, tools)):
+            tally.skip(f"the examples of {page}", name)
             continue
         for command in commands:
             ran = place.apart("sh", "-c", f"cd {folder} && {command}")
@@ -255,7 +287,7 @@ def main(words):
     if not os.path.isfile(f"{LIBRARY}.made"):
         print("the library for C has to be built first: tools/release/library PREFIX", file=sys.stderr)
         return NOT_BUILT
-    built("sandbox", "inspect", "host", "fit", "board")
+    built("sandbox", "inspect", "host", "fit", "native", "board")
     tally = Tally("release")
     with tempfile.TemporaryDirectory() as work:
         place = Place(tally, work)

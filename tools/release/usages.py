@@ -3,6 +3,7 @@ what else it says."""
 import collections
 import os
 import re
+import subprocess
 
 TOP = os.path.dirname(os.path.dirname(os.path.dirname(os.path.abspath(__file__))))
 # What each program is for, in a line.
@@ -12,21 +13,29 @@ PROGRAMS = {
     "is refused",
     "host": "runs strangers' images under a policy",
     "fit": "annotates SPARC assembly, a compiler's or one's own",
+    "native": "turns an accepted image into C, and runs it as machine code",
     "board": "makes of an accepted image a program for a LEON3",
     "geyserpan-cc": "turns C into an image that is accepted",
+    "geyserpan-c++": "turns C++ into an image that is accepted",
 }
+# The scripts ./cc and ./c++ as a release calls them.
+COMPILERS = {"geyserpan-cc": "cc", "geyserpan-c++": "c++"}
 # A command or an option: how it is written, and what it does.
 Entry = collections.namedtuple("Entry", "name text")
 Usage = collections.namedtuple("Usage", "synopsis entries paragraphs statuses")
 
 
 def text_of(name):
-    """What a program prints of its own use. In a release the script ./cc has a longer name."""
-    path = "tools/cc/usage" if name == "geyserpan-cc" else f"tools/release/usage/{name}"
-    with open(f"{TOP}/{path}", encoding="utf-8") as file:
-        text = file.read()
-    if name == "geyserpan-cc":
-        text = re.sub(r"^(Usage:|      ) cc ", r"\1 geyserpan-cc ", text, flags=re.M)
+    """What a program prints for --help: of its own use, and what the scripts around it take. In a release the scripts
+    ./cc and ./c++ have longer names."""
+    if name in COMPILERS:
+        text = subprocess.run([f"{TOP}/{COMPILERS[name]}", "--help"], stdout=subprocess.PIPE, text=True, check=True).stdout
+        return re.sub(rf"^(Usage:|      ) {re.escape(COMPILERS[name])} ", rf"\1 {name} ", text, flags=re.M)
+    text = ""
+    for path in (f"{TOP}/tools/release/usage/{name}", f"{TOP}/tools/release/usage/{name}.more"):
+        if os.path.exists(path):
+            with open(path, encoding="utf-8") as file:
+                text += file.read()
     return text
 
 
@@ -58,10 +67,10 @@ def usage_of(name):
             synopsis = [it.removeprefix("Usage:").strip() for it in lines]
         elif lines[0].startswith("Status "):
             statuses = statuses_of(" ".join(it.strip() for it in lines))
-        elif lines[0].startswith("  ") or lines[0] in ("Commands:", "Options:"):
+        elif lines[0].startswith("  ") or lines[0].endswith(":") and lines[1:2] and lines[1].startswith("  "):
             entries += entries_of(lines if lines[0].startswith("  ") else lines[1:])
         elif PROGRAMS[name].lower() != block.lower():
-            parts = re.split(r"\n(?=[a-z, ]+: )", block)
+            parts = re.split(r"\n(?=[a-z]+(?:, [a-z]+)*: )", block)
             paragraphs += [" ".join(it.strip() for it in part.split("\n")) for part in parts]
     return Usage(synopsis, entries, paragraphs, statuses)
 
@@ -75,7 +84,7 @@ def options_of(usage):
             has_value = bool(re.search(rf"{re.escape(word)} [A-Z]", entry.name))
             found.setdefault(word, (has_value, entry.text))
     for text in [*usage.paragraphs, *usage.synopsis]:
-        for word, value, said in re.findall(r"(?<![\w-])(--[a-z][\w-]*)( [A-Z]\w*)? ?(?:is )?([^;.\[\]]*)", text):
+        for word, value, said in re.findall(r"(?<![\w-])(--[a-z][\w-]*)( [A-Z]\w*)?(?= ?(?:is )?([^;.\[\]]*))", text):
             found.setdefault(word, (bool(value), said.partition(", --")[0].strip() if text in usage.paragraphs else ""))
     return found
 
