@@ -9,8 +9,8 @@ on standard error at the end. Where a run ends in a test that ./fit added, it is
 with --map MAP, what ./cc --map left beside the image, the file, too. GEYSERPAN_NATIVE_SECONDS is how long a compiler
 may take (60).
 
-Status 0: done, or the exit word is 0. 1: the exit word isn't 0. 2: the image is refused. 3: other words. 4: a file, a
-stream or the compiler fails, or memory."""
+Status 0: done, or the exit word is 0. 1: the exit word isn't 0. 2: the image is refused. 3: wrong arguments. 4: a
+file, a stream or the compiler fails, or memory."""
 import argparse
 import hashlib
 import os

@@ -22,7 +22,7 @@ GRMON or TSIM. An image that isn't accepted is refused.
 
 A PLACE is decimal, or hexadecimal behind 0x.
 
-Status 0: OUT was written. 2: the image is refused. 3: other words, or places that can't be. 4: a file or
+Status 0: OUT was written. 2: the image is refused. 3: wrong arguments, or places that can't be. 4: a file or
 a stream fails, or memory.
 ";
 

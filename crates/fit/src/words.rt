@@ -33,7 +33,7 @@ stack or budget. Nothing else changes. What isn't shown is noted, with its line 
 with --strict no source is made then. Without -o it goes to standard output.
 
 Status 0: made. 1: a test would be added, or something isn't shown, and --strict says no.
-2: refused, with a line and a reason. 3: other words. 4: a file can't be read or written. 5: memory.
+2: refused, with a line and a reason. 3: wrong arguments. 4: a file can't be read or written. 5: memory.
 ";
 
 /// What words give, each but sources at most once.

@@ -31,7 +31,7 @@ turn. One image reads its input as it asks for it; several are run on the same i
   --version           of the script ./host: the version, the commit of the sources, and the kit
 
 Status 0: all ran, with the exit word 0. 1: one had another. 2: one is denied, or was stopped.
-       3: other words. 4: a file, a stream or memory fails.
+       3: wrong arguments. 4: a file, a stream or memory fails.
 ";
 
 /// The most turns, and bytes of output, that words may ask for: no image has a greater budget, and a byte takes

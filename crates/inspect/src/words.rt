@@ -93,7 +93,7 @@ image, trace, why: --source SRC tells it by the names and the lines of its sourc
                    map that `inspect map` made of it.
 data: --source SRC tells the lines of its source too, and its names.
 cycles: --table FILE is the table, --max-cycles N what the bound may be at most, in decimal.
-Status 0: told. 1: the bound of cycles is greater. 2: no image. 3: other words. 4: a file,
+Status 0: told. 1: the bound of cycles is greater. 2: no image. 3: wrong arguments. 4: a file,
 the input or the output fails. 5: memory.
 ";
 

@@ -18,8 +18,8 @@ image was made of: it has no test of bounds and no fuel. An image that isn't acc
   --unmasked         addresses aren't held to the data's block by a mask
   --uncounted        turns and window traps aren't counted
 
-Status 0: done, or the exit word is 0. 1: the exit word isn't 0. 2: the image is refused. 3: other
-words. 4: a file, a stream or the compiler fails, or memory.
+Status 0: done, or the exit word is 0. 1: the exit word isn't 0. 2: the image is refused. 3: wrong
+arguments. 4: a file, a stream or the compiler fails, or memory.
 ";
 
 /// What words ask for.
