@@ -38,6 +38,8 @@ CITED = re.compile(r"((?:`\w+`(?:, | and )?)+) of `(\w+/specs/\w+\.antt)`")
 # What a page names: `CRATE::ITEM`, `TYPE::ITEM`, and the folder of a crate.
 ITEM = re.compile(r"`(\w+(?:::\w+)+)")
 FOLDER = re.compile(r"`crates/([a-z]\w*)")
+# The words of what the map says of a crate: more of them stand in the head of its lib.rt.
+CELL = 40
 # Names of Rust's library, and of the kit's.
 NOT_OURS = {"std", "io"}
 
@@ -209,9 +211,12 @@ def wrong_counts(page):
 
 
 def wrong_rows(page):
-    """Yields the crates that don't stand in just one row of a page's tables of crates, and what stands there and is
-    none."""
+    """Yields the crates that don't stand in just one row of a page's tables of crates, what stands there and is none,
+    and cells that are longer than a reader takes in."""
     tables = re.findall(r"^\| crate \|.*\n((?:\|.*\n)+)", text_of(page), re.M)
+    for row in (it for table in tables for it in table.splitlines()):
+        if len(row.split("|")[2].split()) > CELL:
+            yield f"a cell of more than {CELL} words: {row}"
     told = [name for table in tables for row in table.splitlines()
             for name in re.findall(r"`(\w+)`", row.split("|")[1])]
     known = crates()
