@@ -1,5 +1,4 @@
 pub mod Flow
-pub mod Where
 pub mod Paid
 pub mod Blocks
 pub mod Beside

@@ -4,6 +4,8 @@ use Rattle.std.proofs.Common.{◌≡◌, ℕ, zero, suc, ◌+◌, ◌*◌, ◌/�
 use Rattle.std.specs.Prelude.{nat_le, if◌then◌else◌}
 use Rattle.std.proofs.lemmas.Bool.Decides.{nat_tests}
 use Rattle.std.proofs.Math.Nat.{le-div_iff_mul-le, mul-le-mul_left}
+use Rattle.v8_meaning.specs.declared.operation.Operation.{Operation}
+use Rattle.v8_meaning.specs.declared.operation.Operation.TheVariants.{BranchOnCondition}
 use Rattle.sbx_image.specs.Parts.{Parts}
 use Rattle.sbx_image.specs.Order.{words_in}
 use Rattle.sbx_image.proofs.Limits.{functions_within}
@@ -21,11 +23,15 @@ use Rattle.sbx_sound.proofs.Safe.{ShowsSpot, ShowsStand, Spot, Stand}
 use Rattle.sbx_sound.proofs.Whole.{order}
 use Rattle.sbx_depth.proofs.Steps.{Stands, is_open, stands_on, starts}
 use Rattle.inspect_cycles.specs.Cycles.{AreMost, cycles, cycles_at, cycles_of, cycles_of_word, slot_cycles}
-use Rattle.inspect_cycles.specs.Pieces.{EndsWithin, IsDearest, ends_piece, kept_on, longer, no_words, piece_before}
+use Rattle.inspect_cycles.specs.Pieces.{EndsWithin, IsDearest, ends_piece, is_branch, kept_on, longer, no_words, piece_before}
 use Rattle.inspect_cycles.specs.declared.pieces.Piece.{Piece}
 use Rattle.inspect_cycles.specs.declared.table.CycleTable.{CycleTable}
 use Rattle.inspect_cycles.proofs.Flow.{Exits, Flows, ends_by, flows}
-use Rattle.inspect_cycles.proofs.Where.{Goes, IsFirst, IsLast, IsNext, Leaves, annulled_slot, branch_transfers, either_of, goes_on, other_of, start_first, turns_at}
+use Rattle.sbx_depth.proofs.Where.{Goes, IsFirst, IsLast, IsNext, Leaves, annulled_slot, branch_transfers, branches, either_of, goes_on, other_of, start_first, turns_at}
+
+as_branch : (op : Operation) → branches op ≡ true → is_branch op ≡ true
+as_branch (BranchOnCondition c) h = refl
+as_branch _ h = absurd (cc)
 
 -- ---- sums
 
@@ -154,7 +160,7 @@ module _ (t : CycleTable) (parts : Parts) (formed : IsFormed parts) (checked : C
     pays_slot : p.v.annulled ≡ true → (c + slot_cycles t) * most.turns ≤ most.cycles * (w + 1)
     pays_slot e =
         ends_paid most.cycles most.turns c w piece.cycles piece.turns (slot_cycles t) 1 paid
-        (here (longer piece (slot_cycles t) 1) (inr (annulled_slot parts formed checked p.f p.b p.i p.v p.at.is_visit e, refl)))
+        (here (longer piece (slot_cycles t) 1) (inr (as_branch (op_before parts p.f p.b p.i) (annulled_slot parts formed checked p.f p.b p.i p.v p.at.is_visit e), refl)))
 
     slot_last : p.v.annulled ≡ true → IsLast parts p.f p.b p.i
     slot_last e =

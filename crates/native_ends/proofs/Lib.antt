@@ -3,7 +3,6 @@ pub mod Onwards
 pub mod Flat
 pub mod Worlds
 pub mod Counts
-pub mod Where
 pub mod Spots
 pub mod Moves
 pub mod Along

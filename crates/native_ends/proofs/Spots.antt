@@ -29,7 +29,7 @@ use Rattle.sbx_rules.specs.Ways.{Way}
 use Rattle.sbx_depth.proofs.Steps.{Stands}
 use Rattle.native_results.specs.Words.{is_straight}
 use Rattle.native_ends.specs.Translations.{AsksFor, Begins, LiesIn, turns_of}
-use Rattle.native_ends.proofs.Where.{Goes, IsFirst, Leaves, either_of, goes_on, same_place, turns_at}
+use Rattle.sbx_depth.proofs.Where.{Goes, IsFirst, Leaves, either_of, goes_on, same_place, turns_at}
 
 one_word : (a b : ℕ) → Some a ≡ Some b → a ≡ b
 one_word a b e = cc

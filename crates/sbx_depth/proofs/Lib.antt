@@ -1,5 +1,6 @@
 pub mod Frames
 pub mod Steps
+pub mod Where
 pub mod Depths
 pub mod Ending
 pub mod Quiet

@@ -33,12 +33,14 @@ use Rattle.sbx_sound.proofs.Visits.{IsWay, visit_is_return, visit_is_straight, v
 use Rattle.sbx_sound.proofs.Wells.{call_transfers, callee_place}
 use Rattle.sbx_sound.proofs.Whole.{order}
 
-abbrev turns_off : Operation → Operation → Bool
+-- a word that is a transfer's slot, or ends the run
+abbrev pub turns_off : Operation → Operation → Bool
 turns_off before op = is_transfer before || ends_run op
 
-abbrev is_branch : Operation → Bool
-is_branch (BranchOnCondition c) = true
-is_branch _ = false
+-- a branch on a condition
+abbrev pub branches : Operation → Bool
+branches (BranchOnCondition c) = true
+branches _ = false
 
 -- ---- ways
 
@@ -329,18 +331,18 @@ module _ (parts : Parts) (formed : IsFormed parts) (checked : Checked parts) whe
       by_turns false h = by_count h (nat_lt (suc i) (words_in parts f b)) refl
 
   -- in an annulled slot: a branch stands before it
-  pub annulled_slot : (f b i : ℕ) (v : Visit) → IsVisit parts f b i v → v.annulled ≡ true → is_branch (op_before parts f b i) ≡ true
+  pub annulled_slot : (f b i : ℕ) (v : Visit) → IsVisit parts f b i v → v.annulled ≡ true → branches (op_before parts f b i) ≡ true
   annulled_slot f b zero v visit annulled = absurd (let e = visit_is_straight parts f b 0 v refl visit in let runs = ap (λ (x : Visit). x.annulled) e in cc)
   annulled_slot f b (suc j) v visit annulled = by_before (op_at parts f b j) refl
     where
       runs_not : v ≡ straight_visit parts f b (suc j) → ⊥
       runs_not e = let runs = ap (λ (x : Visit). x.annulled) e in cc
 
-      by_before : (o : Operation) → op_at parts f b j ≡ o → is_branch (op_at parts f b j) ≡ true
-      by_before (BranchOnCondition c) is = ap is_branch is
+      by_before : (o : Operation) → op_at parts f b j ≡ o → branches (op_at parts f b j) ≡ true
+      by_before (BranchOnCondition c) is = ap branches is
       by_before (JumpAndLink t) is = absurd (let e = visit_is_return parts f b j t v is visit in let runs = ap (λ (x : Visit). x.annulled) e in cc)
       by_before _ is = absurd (runs_not (visit_is_straight parts f b (suc j) v (ap goes_straight is) visit))
 
-  pub branch_transfers : (op : Operation) → is_branch op ≡ true → is_transfer op ≡ true
+  pub branch_transfers : (op : Operation) → branches op ≡ true → is_transfer op ≡ true
   branch_transfers (BranchOnCondition c) h = refl
   branch_transfers _ h = absurd (cc)
