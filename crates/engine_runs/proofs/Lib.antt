@@ -8,3 +8,4 @@ pub mod Ends
 pub mod Stepping
 pub mod Gliding
 pub mod Ran
+pub mod Reading

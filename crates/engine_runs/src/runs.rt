@@ -85,7 +85,7 @@ fn run_over(
     let mut output = Vec::new(alloc);
     let mut read = 0;
     'rounds: for _round in 0..u64::MAX {
-        let halt = course.advance(MOST);
+        let halt = course.advance_over(MOST, input, &mut read);
         match serve(&mut course, halt, input, &mut read, &mut output)? {
             None => {}
             Some(status) => {
