@@ -41,9 +41,7 @@ impl Heap {
     /// A list of so many times an item.
     pub fn repeat<T: Copy>(&mut self, item: T, count: usize) -> Vec<T> {
         let mut list = Vec::new(self.alloc);
-        for _ in 0..count {
-            self.is_refused |= list.push(item).is_err();
-        }
+        self.is_refused |= list.resize(count, item).is_err();
         list
     }
 

@@ -23,16 +23,32 @@ pub fn range_in(cells: &[Cell], location: u16) -> Option<Range> {
     None
 }
 
+/// So many cells are looked at one after the other, before those behind them are halved.
+const NEAR: usize = 4;
+
 /// The place of the first of cells that stand by location, from a place on, whose location isn't below one.
 fn place_from(cells: &[Cell], first: usize, location: u16) -> usize {
-    let mut place = first;
-    for at in first..cells.len() {
+    let near = first.saturating_add(NEAR).min(cells.len());
+    for at in first..near {
         if cells[at].location >= location {
-            break;
+            return at;
         }
-        place = at.saturating_add(1);
     }
-    place
+    if near == cells.len() {
+        return first.max(near);
+    }
+    let behind = cells[near..].partition_point(|cell| cell.location < location);
+    near.saturating_add(behind)
+}
+
+/// The place of a location among cells that stand by location; none where it isn't there.
+pub fn place_of(cells: &[Cell], location: u16) -> Option<usize> {
+    let place = cells.partition_point(|cell| cell.location < location);
+    if place < cells.len() && cells[place].location == location {
+        Some(place)
+    } else {
+        None
+    }
 }
 
 /// The range of a location among cells that stand by location, looked for from a place on, which goes on with it: for

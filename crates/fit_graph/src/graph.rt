@@ -47,17 +47,6 @@ pub fn successors_in(function: &Function, block: usize) -> [Option<usize>; 2] {
     }
 }
 
-/// So many times a flag.
-pub(crate) fn flags(memory: &mut Heap, flag: bool, count: usize) -> Vec<bool> {
-    match vec![in memory.alloc; flag; count] {
-        Ok(list) => list,
-        Err(_) => {
-            memory.is_refused = true;
-            Vec::new(memory.alloc)
-        }
-    }
-}
-
 /// What is listed for each block: the ways that lead to it, each by its number, which is twice that of the block it
 /// comes from, and one more where a branch isn't taken; the blocks that these come from, each as often as it stands
 /// there; or the blocks that it leads to, where a branch is taken first.

@@ -1,23 +1,24 @@
 //! The ranges of one function: what is known where its blocks begin, found by running blocks in the verifier's own
 //! domain along all ways until nothing new comes. What callees give back and what the function is called with is told.
 mod known;
+mod news;
+mod pending;
 mod picking;
 mod spread;
+mod visiting;
 
-use crate::flow::known::{BlockRanges, replace, touched_in};
+use crate::flow::known::{BlockRanges, is_told, touched_in};
+use crate::flow::news::News;
+use crate::flow::pending::Pending;
 use fit_code::{Block, End, Function, Heap, hull};
 use fit_graph::{
     FunctionShape, Growth, LocationSet, Means, Thresholds, enter, go_along, join, range_from,
-    range_in, return_from, run_step, run_to_call, start, successors_in,
+    return_from, run_step, run_to_call, start, successors_in,
 };
 use sbx_domain::State;
 use sbx_range::{Cell, Range, all};
 use std::alloc::Global;
 use std::mem;
-
-/// A loop's head is widened to thresholds from the third change of its cells on, and any block at once to all words
-/// from this one on.
-const PATIENCE: u32 = 400;
 
 /// What a function is analysed by: itself, where its ranges may stop, and what calls give it.
 #[derive(Clone, Copy)]
@@ -39,41 +40,6 @@ pub struct Call {
     pub given: [Range; 6],
 }
 
-/// Which blocks are to be visited.
-#[derive(Drop)]
-struct Pending {
-    /// By their numbers.
-    blocks: Vec<bool>,
-    /// The places of the stretch that is looked at: its first one, the first one whose block may be to be visited, and
-    /// the one behind its last one.
-    start: usize,
-    first: usize,
-    end: usize,
-    /// Whether all blocks of the stretch are looked at again; else those that are picked, by their numbers.
-    is_whole: bool,
-    picked: Vec<bool>,
-}
-
-impl Pending {
-    /// Whether a block is looked at again.
-    fn has(&self, block: usize) -> bool {
-        self.is_whole || (block < self.picked.len() && self.picked[block])
-    }
-
-    /// Whether a block is to be visited.
-    fn is_asked(&self, block: usize) -> bool {
-        block < self.blocks.len() && self.blocks[block]
-    }
-
-    /// A block is to be visited.
-    fn mark(&mut self, block: usize) {
-        let blocks = self.blocks.as_mut_slice();
-        if block < blocks.len() {
-            blocks[block] = true;
-        }
-    }
-}
-
 /// Where blocks run: in the verifier's own domain, once for both ways.
 #[derive(Drop)]
 pub struct Run {
@@ -90,6 +56,8 @@ pub struct FunctionRanges {
     /// What the function is called with, in %o0, %o1, ..
     pub params: Vec<Range>,
     pending: Pending,
+    /// Where its ranges may stop, as long as neither its blocks nor its params are others.
+    pub thresholds: Option<Thresholds>,
     /// Calls to which control comes.
     pub calls: Vec<Call>,
     /// What returns leave in %o0, %o1, ..; nothing where none is reached.
@@ -145,15 +113,6 @@ fn known_before(shapes: &[FunctionShape], number: usize) -> (&[LocationSet], &[V
     } else {
         (&[], &[])
     }
-}
-
-/// Whether a block has a call, or returns.
-fn is_told(code: &Block) -> bool {
-    let mut is_told = matches!(code.end, End::Return(_));
-    for step in code.steps.as_slice() {
-        is_told |= step.callee.is_some();
-    }
-    is_told
 }
 
 /// Lists the calls of a block with what they give their callees, where the state is that before its first step; it is
@@ -237,11 +196,21 @@ fn known_along(
     Some(Vec::new(memory.alloc))
 }
 
-/// Adds what is known along one more way to what is known along others.
-fn add_cells(memory: &mut Heap, found: &mut Option<Vec<Cell>>, cells: &[Cell]) {
+/// Adds what is known along one more way to what is known along others, of all locations or of some.
+fn add_cells(
+    memory: &mut Heap,
+    found: &mut Option<Vec<Cell>>,
+    cells: &[Cell],
+    within: Option<&News>,
+) {
     match found {
         Some(found) => join(Growth::Least, found, cells),
-        None => *found = Some(memory.copy(cells)),
+        None => {
+            *found = Some(match within {
+                Some(news) => news.among(memory, cells),
+                None => memory.copy(cells),
+            });
+        }
     }
 }
 
@@ -260,14 +229,8 @@ impl FunctionRanges {
         FunctionRanges {
             blocks: Vec::new(alloc),
             params: Vec::new(alloc),
-            pending: Pending {
-                blocks: Vec::new(alloc),
-                start: 0,
-                first: 0,
-                end: 0,
-                is_whole: true,
-                picked: Vec::new(alloc),
-            },
+            pending: Pending::new(alloc),
+            thresholds: None,
             calls: Vec::new(alloc),
             returned: None,
         }
@@ -314,14 +277,14 @@ impl FunctionRanges {
 
     /// Nothing is fresh, and there are so many blocks.
     fn begin_anew(&mut self, memory: &mut Heap, count: usize) {
+        self.thresholds = None;
         for block in self.blocks.as_mut_slice() {
             block.is_fresh = false;
         }
         for _ in self.blocks.len()..count {
             memory.push(&mut self.blocks, BlockRanges::nothing(memory.alloc));
         }
-        self.pending.blocks = memory.repeat(false, count);
-        self.pending.picked = memory.repeat(false, count);
+        self.pending.begin(memory, count);
     }
 
     /// Other ways lead to a block than before: it is to be visited.
@@ -332,7 +295,7 @@ impl FunctionRanges {
             if !sources.contains(way)
                 && let Some(cells) = self.way_cells(*way / 2, *way % 2)
             {
-                add_cells(memory, &mut lost, cells);
+                add_cells(memory, &mut lost, cells, None);
             }
         }
         let blocks = self.blocks.as_mut_slice();
@@ -453,6 +416,25 @@ impl FunctionRanges {
         go_along(function.frame, code, way, state)
     }
 
+    /// Runs the steps of a block, by what is known where it begins of these locations, which it reads or writes; says
+    /// whether control can come there.
+    fn run_steps(
+        &self,
+        setting: &Analysis,
+        (block, touched): (usize, &LocationSet),
+        state: &mut State,
+    ) -> bool {
+        let function = setting.function;
+        let codes = function.blocks.as_slice();
+        if block >= codes.len() || !self.begin_with(function, (block, touched), state) {
+            return false;
+        }
+        for step in codes[block].steps.as_slice() {
+            run_step(function.frame, setting.results, step, state);
+        }
+        true
+    }
+
     /// What is known where the ways of a block end, of what is live there, by what is known where it begins; nothing of
     /// one that can't be gone. It reads or writes these locations, and passes on what is known of others as it comes.
     fn ways_by(
@@ -462,16 +444,13 @@ impl FunctionRanges {
         (block, touched): (usize, &LocationSet),
         run: &mut Run,
     ) -> [Option<Vec<Cell>>; 2] {
-        let (function, mut found) = (setting.function, [None, None]);
-        let codes = function.blocks.as_slice();
-        let at = (block, touched);
-        if block >= codes.len() || !self.begin_with(function, at, &mut run.state) {
+        let mut found = [None, None];
+        let codes = setting.function.blocks.as_slice();
+        let is_reached = self.run_steps(setting, (block, touched), &mut run.state);
+        if !is_reached | (block >= codes.len()) {
             return found;
         }
         let code = &codes[block];
-        for step in code.steps.as_slice() {
-            run_step(function.frame, setting.results, step, &mut run.state);
-        }
         let [first, second] = code.end.ways();
         // behind the first block, of which no cells are known, the state knows all
         let all = LocationSet::all();
@@ -506,178 +485,6 @@ impl FunctionRanges {
         [None, None]
     }
 
-    /// Takes over what is known where a way of a block ends. Where that is something else, the block that it leads to
-    /// is to be visited, if that stands in the stretch.
-    fn end_way(
-        &mut self,
-        setting: &Analysis,
-        (block, way, to): (usize, usize, Option<usize>),
-        found: Option<Vec<Cell>>,
-    ) {
-        let blocks = self.blocks.as_mut_slice();
-        if let Some(to) = to
-            && block < blocks.len()
-        {
-            let known = &mut blocks[block];
-            if replace(&mut known.ways[way % 2], found)
-                && let Some(place) = setting.shape.order.place(to)
-                && place < self.pending.end
-                && self.pending.has(to)
-            {
-                if to < blocks.len() {
-                    blocks[to].is_settled = false;
-                }
-                self.pending.mark(to);
-                self.pending.first = self.pending.first.min(place);
-            }
-        }
-    }
-
-    /// What the ways have in common that lead to a block from blocks before a place of the order; nothing where none of
-    /// them can be gone.
-    fn common(
-        &self,
-        memory: &mut Heap,
-        shape: &FunctionShape,
-        block: usize,
-        before: usize,
-    ) -> Option<Vec<Cell>> {
-        let mut found: Option<Vec<Cell>> = None;
-        let blocks = self.blocks.as_slice();
-        for way in at(shape.sources.as_slice(), block) {
-            let from = *way / 2;
-            let is_before = matches!(shape.order.place(from), Some(it) if it < before);
-            if is_before & (from < blocks.len()) {
-                let known = &blocks[from];
-                if let Some(cells) = &known.ways[*way % 2] {
-                    add_cells(memory, &mut found, cells.as_slice());
-                }
-            }
-        }
-        found
-    }
-
-    /// What the cells of the block of a place become by what comes along the ways that lead to it; nothing where none
-    /// of them can be gone. Where they grow, before ends go to thresholds, what comes into the loop of a head is
-    /// joined: what only grows by the ways back goes there. Cells that are said have the ranges that are said.
-    fn new_cells(
-        &self,
-        setting: &Analysis,
-        memory: &mut Heap,
-        (grow, place, block): (bool, usize, usize),
-    ) -> Option<Vec<Cell>> {
-        let mut cells = self.common(memory, setting.shape, block, usize::MAX)?;
-        let blocks = self.blocks.as_slice();
-        if grow
-            && block < blocks.len()
-            && let Some(old) = &blocks[block].cells
-        {
-            let changes = blocks[block].changes;
-            let is_head = setting.shape.end_of(block) > place;
-            let (growth, before) = if changes >= PATIENCE {
-                (Growth::ToAll, 0)
-            } else if is_head & (changes > 2) {
-                (Growth::ToThresholds(setting.thresholds), place)
-            } else {
-                (Growth::Least, 0)
-            };
-            let mut raised = memory.copy(old.as_slice());
-            if let Some(entering) = self.common(memory, setting.shape, block, before) {
-                join(Growth::Least, &mut raised, entering.as_slice());
-            }
-            join(growth, &mut raised, cells.as_slice());
-            cells = raised;
-        }
-        for cell in cells.as_mut_slice() {
-            if let Some(range) = range_in(at(setting.said, block), cell.location) {
-                cell.range = range;
-            }
-        }
-        Some(cells)
-    }
-
-    /// Whether one way leads to a block, and what comes along it is what is known where the block begins.
-    fn comes_as_before(&self, setting: &Analysis, block: usize) -> bool {
-        let blocks = self.blocks.as_slice();
-        let sources = at(setting.shape.sources.as_slice(), block);
-        if (sources.len() == 1) & at(setting.said, block).is_empty() && block < blocks.len() {
-            let way = sources[0];
-            return way / 2 < blocks.len() && blocks[block].is_as(&blocks[way / 2], way);
-        }
-        false
-    }
-
-    /// Visits the block of a place, whose cells grow or else get narrower. Where they are others then, it goes on
-    /// along each of its ways, or only with what it doesn't touch; the blocks where something else is known at a way's
-    /// end are to be visited, if they stand in the stretch.
-    fn visit(
-        &mut self,
-        setting: &Analysis,
-        memory: &mut Heap,
-        (grow, place, block): (bool, usize, usize),
-        run: &mut Run,
-    ) {
-        if block >= self.blocks.len() || self.comes_as_before(setting, block) {
-            return;
-        }
-        let cells = self.new_cells(setting, memory, (grow, place, block));
-        let known = &mut self.blocks.as_mut_slice()[block];
-        known.is_settled = !grow | known.cells.is_none();
-        let passes = (block > 0) & known.passes_on(&cells);
-        if !known.take(cells, block == 0, grow) {
-            return;
-        }
-        let [first, second] = successors_in(setting.function, block);
-        let [taken, next] = if passes {
-            self.ways_on(memory, block)
-        } else {
-            let touched = self.touched(block);
-            self.ways_by(setting, memory, (block, &touched), run)
-        };
-        self.end_way(setting, (block, 0, first), taken);
-        self.end_way(setting, (block, 1, second), next);
-    }
-
-    /// Whether a block is to be visited when it is come to: nothing but what comes along its ways was put into it, and
-    /// nothing else came since.
-    fn is_open(&self, block: usize) -> bool {
-        let blocks = self.blocks.as_slice();
-        self.pending.has(block) && block < blocks.len() && !blocks[block].is_settled
-    }
-
-    /// Visits each block of the stretch, and again those that are to be visited, the first one first, until none is.
-    fn visit_all(&mut self, setting: &Analysis, means: &mut Means, grow: bool, run: &mut Run) {
-        let (order, end) = (setting.shape.order.blocks.as_slice(), self.pending.end);
-        let most = end.saturating_add(1).saturating_mul(2_000);
-        let mut visits: usize = 0;
-        // The first place whose block wasn't visited yet.
-        let mut fresh = self.pending.start;
-        self.pending.first = fresh;
-        // Each turn visits a block or goes on to the next place.
-        for _ in 0..usize::MAX {
-            let (place, asked) = (self.pending.first, self.pending.blocks.as_mut_slice());
-            let is_over = (place >= end) | means.are_used_up();
-            if is_over || place >= order.len() || order[place] >= asked.len() {
-                return;
-            }
-            let block = order[place];
-            if asked[block] | (place == fresh) {
-                asked[block] = false;
-                fresh = fresh.max(place.saturating_add(1));
-                if self.is_open(block) {
-                    self.visit(setting, &mut means.memory, (grow, place, block), run);
-                }
-                visits = visits.saturating_add(1);
-                if visits == most {
-                    let what = "visits of blocks whose ranges are looked for";
-                    means.spend(setting.function.line, what, most as u64);
-                }
-            } else {
-                self.pending.first = place.saturating_add(1);
-            }
-        }
-    }
-
     /// Looks for what callees are given, and what returns leave: in each block that control comes to.
     fn summarize(
         &self,
@@ -689,7 +496,8 @@ impl FunctionRanges {
         let codes = function.blocks.as_slice();
         for block in 0..codes.len() {
             let code = &codes[block];
-            if is_told(code) && self.begin(function, (block, false), state) {
+            let is_told = block < self.blocks.len() && self.blocks[block].is_told;
+            if is_told && self.begin(function, (block, false), state) {
                 list_calls(memory, setting, (block, code), &mut calls, state);
                 if let End::Return(fields) = code.end {
                     if function.framed {
@@ -713,12 +521,11 @@ impl FunctionRanges {
                 let blocks = self.blocks.as_mut_slice();
                 if is_in & (block < codes.len()) & (block < blocks.len()) {
                     let known = &mut blocks[block];
-                    let touched = if known.is_other {
-                        touched_in(setting.function, &codes[block])
-                    } else {
-                        known.touched
-                    };
-                    known.forget(touched);
+                    if known.is_other {
+                        known.touched = touched_in(setting.function, &codes[block]);
+                        known.is_told = is_told(&codes[block]);
+                    }
+                    known.forget();
                 }
             }
         }
@@ -773,6 +580,7 @@ impl FunctionRanges {
     pub fn takes(&mut self, params: Vec<Range>) -> bool {
         if self.params != params {
             self.ask(0);
+            self.thresholds = None;
         }
         self.params = params;
         self.pending.blocks.as_slice().contains(&true)

@@ -131,8 +131,10 @@ impl Ranges {
             let (said, count) = (function.params.as_slice(), counts[number].params);
             let memory = &mut means.memory;
             if flow.takes(with_said(memory, said, &given, count)) {
-                let params = flow.params.as_slice();
-                let thresholds = thresholds_of(memory, program, function, params);
+                let thresholds = match mem::replace(&mut flow.thresholds, None) {
+                    Some(known) => known,
+                    None => thresholds_of(memory, program, function, flow.params.as_slice()),
+                };
                 let setting = Analysis {
                     function,
                     shape: &shapes[number],
@@ -141,6 +143,7 @@ impl Ranges {
                     said: at(self.said.as_slice(), number),
                 };
                 flow.settle(&setting, means, &mut self.run);
+                flow.thresholds = Some(thresholds);
             }
         }
     }

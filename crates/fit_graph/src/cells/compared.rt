@@ -2,9 +2,9 @@
 //! one of these mostly ends it.
 use crate::cells::thresholds::Thresholds;
 use crate::live::effects_in;
-use fit_code::{Block, Function, Step};
+use fit_code::{Block, Function, RegisterSet, Step};
 use sbx_domain::frame_word_of;
-use v8_formats::Operand;
+use v8_formats::{Instr, Operand};
 use v8_meaning::{Loading, Op, Operation, Transfer, operation_of};
 
 /// What a register holds, as far as its block tells: the word that a location had where the block began, and a number
@@ -89,13 +89,25 @@ fn run(held: &mut [HeldWord; 32], frame: u32, step: &Step) -> [HeldWord; 2] {
         },
         _ => UNKNOWN,
     };
-    let writes = effects_in(frame, step).writes;
-    for number in 1..32u8 {
-        if writes.has(number) {
-            held[usize::from(number)] = result;
-        }
+    let mut written = effects_in(frame, step).writes.registers();
+    for _ in 1..32u8 {
+        let Some(register) = written.first() else {
+            break;
+        };
+        held[usize::from(register.number())] = result;
+        written.take(RegisterSet::of(register));
     }
     compared
+}
+
+/// How many of some steps stand up to the last one that compares, with it.
+fn count_to_compare(steps: &[Step]) -> usize {
+    for place in (0..steps.len()).rev() {
+        if let Instr::AddCc(_) | Instr::OrCc(_) | Instr::SubCc(_) = steps[place].instr {
+            return place.saturating_add(1);
+        }
+    }
+    0
 }
 
 /// What registers hold where a block begins: what their locations had there.
@@ -141,8 +153,12 @@ impl Thresholds {
 
     /// The same of a block in a frame of so many bytes.
     fn add_compared_in(&mut self, frame: u32, block: &Block) {
+        let count = count_to_compare(block.steps.as_slice());
+        if count == 0 {
+            return;
+        }
         let mut held = held_at_start();
-        for step in block.steps.as_slice() {
+        for step in block.steps.as_slice().iter().take(count) {
             let [first, second] = run(&mut held, frame, step);
             self.compare(first, second);
         }

@@ -17,6 +17,16 @@ pub struct FunctionShape {
     pub live: Vec<LocationSet>,
 }
 
+/// The place of a block in an order; that behind the last one where it isn't there.
+fn place_in(blocks: &[usize], block: usize) -> usize {
+    for place in 0..blocks.len() {
+        if blocks[place] == block {
+            return place;
+        }
+    }
+    blocks.len()
+}
+
 /// The place behind the last block of a loop in an order.
 fn end_in(blocks: &[usize], within: &Loop) -> usize {
     for place in (0..blocks.len()).rev() {
@@ -42,17 +52,16 @@ fn put_from(blocks: &mut [usize], from: usize, others: &[usize]) {
 /// between them.
 fn gather(memory: &mut Heap, blocks: &mut [usize], within: &Loop) {
     let mut others = Vec::new(memory.alloc);
-    let mut is_behind = false;
-    let mut to: usize = 0;
-    for place in 0..end_in(&*blocks, within) {
+    let head = place_in(&*blocks, within.head);
+    let mut to = head;
+    for place in head..end_in(&*blocks, within) {
         if (place < blocks.len()) & (to < blocks.len()) {
             let block = blocks[place];
-            is_behind |= block == within.head;
-            if is_behind & !within.has(block) {
-                memory.push(&mut others, block);
-            } else {
+            if within.has(block) {
                 blocks[to] = block;
                 to = to.saturating_add(1);
+            } else {
+                memory.push(&mut others, block);
             }
         }
     }

@@ -84,15 +84,31 @@ impl Growth<'_> {
     }
 }
 
-/// Adds the numbers of the second of two locations as those of the first one, unless these are many.
-fn copy_numbers(memory: &mut Heap, numbers: &mut Vec<(u16, i32)>, (to, from): (u16, u16)) {
+/// Adds the numbers of the second of two locations as those of the first one, unless these are many. So many first
+/// numbers are in their order.
+fn copy_numbers(
+    memory: &mut Heap,
+    numbers: &mut Vec<(u16, i32)>,
+    ordered: usize,
+    (to, from): (u16, u16),
+) {
     let count = numbers.len();
-    for place in 0..count {
+    let first = &numbers.as_slice()[..ordered.min(count)];
+    let mut place = first.partition_point(|entry| entry.0 < from);
+    for _ in 0..count {
         let entries = numbers.as_slice();
-        if place < entries.len() && entries[place].0 == from {
-            let number = entries[place].1;
-            memory.push(numbers, (to, number));
+        if (place >= count) | (place >= entries.len()) {
+            break;
         }
+        let (location, number) = entries[place];
+        if location == from {
+            memory.push(numbers, (to, number));
+        } else if place < ordered {
+            // those of the location stand together there
+            place = ordered;
+            continue;
+        }
+        place = place.saturating_add(1);
     }
     if numbers.len().saturating_sub(count) > MOST {
         numbers.truncate(count);
@@ -123,8 +139,9 @@ impl Thresholds {
     /// Locations get the numbers of those that they are compared with, unless these are many.
     fn hand_on(&mut self) {
         let (memory, numbers) = (&mut self.memory, &mut self.numbers);
+        let ordered = numbers.len();
         for pair in self.pairs.as_slice() {
-            copy_numbers(memory, numbers, *pair);
+            copy_numbers(memory, numbers, ordered, *pair);
         }
     }
 

@@ -2,7 +2,7 @@
 use crate::graph::above::{places_above, stands_above};
 use crate::graph::loops::{Loop, last_around};
 use crate::graph::reach::hold_reached;
-use crate::graph::{Listed, Order, flags, list, order_in, successors_in};
+use crate::graph::{Listed, Order, list, order_in, successors_in};
 use fit_code::{Function, Heap};
 
 /// The blocks of a function, and where control comes from to each of them.
@@ -24,7 +24,7 @@ impl Graph {
 
     /// For each block whether it is a head or one of some, or can come to one of these without the head.
     fn come_from(&self, memory: &mut Heap, blocks: &[usize], head: usize) -> Vec<bool> {
-        let mut holds = flags(memory, false, self.predecessors.len());
+        let mut holds = memory.repeat(false, self.predecessors.len());
         let held = holds.as_mut_slice();
         if head < held.len() {
             held[head] = true;

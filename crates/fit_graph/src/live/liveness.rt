@@ -126,9 +126,6 @@ fn pass_steps(
 struct BlockEffects {
     has_calls: bool,
     returns: bool,
-    /// Whether it is to be gone over: more may be live behind it than when it was last. A block with calls, or one that
-    /// returns, always is, since more may be known of functions.
-    is_open: bool,
     reads: LocationSet,
     writes: LocationSet,
 }
@@ -147,7 +144,6 @@ impl BlockEffects {
         let mut found = BlockEffects {
             has_calls: false,
             returns: matches!(block.end, End::Return(_)),
-            is_open: true,
             reads: LocationSet::none(),
             writes: LocationSet::none(),
         };
@@ -166,23 +162,37 @@ impl BlockEffects {
     }
 }
 
-/// The blocks that some ways come from are to be gone over.
-fn open_sources(effects: &mut [BlockEffects], ways: &[usize]) {
-    for way in ways {
-        let from = *way / 2;
-        if from < effects.len() {
-            effects[from].is_open = true;
+/// The effects of a function's blocks.
+#[derive(Drop)]
+struct FunctionEffects {
+    blocks: Vec<BlockEffects>,
+    /// Whether each is to be gone over: more may be live behind it than when it was last. A block with calls, or one
+    /// that returns, always is, since more may be known of functions.
+    open: Vec<bool>,
+}
+
+impl FunctionEffects {
+    /// Those of a function, each of whose blocks is to be gone over.
+    fn of(memory: &mut Heap, function: &Function) -> FunctionEffects {
+        let mut blocks = Vec::new(memory.alloc);
+        for block in function.blocks.as_slice() {
+            memory.push(&mut blocks, BlockEffects::of(function.frame, block));
+        }
+        FunctionEffects {
+            blocks,
+            open: memory.repeat(true, function.blocks.len()),
         }
     }
 }
 
-/// The effects of a function's blocks.
-fn effects_of_blocks(memory: &mut Heap, function: &Function) -> Vec<BlockEffects> {
-    let mut lists = Vec::new(memory.alloc);
-    for block in function.blocks.as_slice() {
-        memory.push(&mut lists, BlockEffects::of(function.frame, block));
+/// The blocks that some ways come from are to be gone over.
+fn open_sources(open: &mut [bool], ways: &[usize]) {
+    for way in ways {
+        let from = *way / 2;
+        if from < open.len() {
+            open[from] = true;
+        }
     }
-    lists
 }
 
 /// Goes over a block of a function, whose steps have these effects; says whether more is live or asked for than before.
@@ -212,7 +222,7 @@ fn pass_block(
 fn pass_function(
     counts: &mut [RegisterCounts],
     (number, function): (usize, &Function),
-    effects: &mut [BlockEffects],
+    found: &mut FunctionEffects,
     shape: &mut FunctionShape,
 ) -> bool {
     if number >= counts.len() {
@@ -220,16 +230,18 @@ fn pass_function(
     }
     let RegisterCounts { params, results } = counts[number];
     let (blocks, live) = (function.blocks.as_slice(), shape.live.as_mut_slice());
+    let (effects, open) = (found.blocks.as_slice(), found.open.as_mut_slice());
     let mut is_new = false;
     for place in shape.order.blocks.as_slice().iter().rev() {
-        if (*place < blocks.len()) & (*place < effects.len()) && effects[*place].is_open {
-            let known = effects[*place];
-            effects[*place].is_open = known.has_calls | known.returns;
-            let block = (&blocks[*place], &known);
+        let is_known = (*place < blocks.len()) & (*place < effects.len());
+        if is_known & (*place < open.len()) && open[*place] {
+            let known = &effects[*place];
+            open[*place] = known.has_calls | known.returns;
+            let block = (&blocks[*place], known);
             if pass_block(counts, (function, results), block, (&mut *live, *place)) {
                 is_new = true;
                 if *place < shape.sources.len() {
-                    open_sources(effects, shape.sources[*place].as_slice());
+                    open_sources(&mut *open, shape.sources[*place].as_slice());
                 }
             }
         }
@@ -246,14 +258,14 @@ fn pass_function(
 fn pass_all(
     counts: &mut [RegisterCounts],
     functions: &[Function],
-    effects: &mut [Vec<BlockEffects>],
+    effects: &mut [FunctionEffects],
     shapes: &mut [FunctionShape],
 ) -> bool {
     let mut is_new = false;
     for number in (0..functions.len()).rev() {
         if (number < shapes.len()) & (number < effects.len()) {
             let (named, shape) = ((number, &functions[number]), &mut shapes[number]);
-            is_new |= pass_function(counts, named, effects[number].as_mut_slice(), shape);
+            is_new |= pass_function(counts, named, &mut effects[number], shape);
         }
     }
     is_new
@@ -263,7 +275,7 @@ fn pass_all(
 fn pass_rounds(
     counts: &mut [RegisterCounts],
     functions: &[Function],
-    effects: &mut [Vec<BlockEffects>],
+    effects: &mut [FunctionEffects],
     shapes: &mut [FunctionShape],
 ) -> bool {
     let mut is_new = true;
@@ -292,7 +304,7 @@ pub fn find_live(
     let counts = found.as_mut_slice();
     let mut effects = Vec::new(means.memory.alloc);
     for function in functions {
-        let listed = effects_of_blocks(&mut means.memory, function);
+        let listed = FunctionEffects::of(&mut means.memory, function);
         means.memory.push(&mut effects, listed);
     }
     let is_new = pass_rounds(counts, functions, effects.as_mut_slice(), shapes);

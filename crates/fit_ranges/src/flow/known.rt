@@ -1,7 +1,9 @@
 //! The knowledge of a function's blocks so far.
+use crate::flow::news::News;
 use crate::flow::spread::differing;
-use fit_code::{Block, Function, Heap, RegisterSet};
-use fit_graph::{Effects, LocationSet, effects_in, effects_of, range_from};
+use fit_code::{Block, End, Function, Heap, RegisterSet};
+use fit_graph::{Effects, LocationSet, effects_in, effects_of, place_of, range_from};
+use sbx_domain::{LOCATIONS, State};
 use sbx_range::Cell;
 use std::alloc::Global;
 use std::mem;
@@ -22,13 +24,17 @@ pub struct BlockRanges {
     cells_before: Option<Vec<Cell>>,
     /// Whether its ranges were tried since, so that what was known before is noted.
     is_tried: bool,
-    /// What it reads or writes.
+    /// What it reads or writes, and whether it has a call, or returns.
     pub touched: LocationSet,
+    pub is_told: bool,
     /// How often its cells grew since they were last forgotten, and how often they were narrowed.
     pub changes: u32,
     narrowings: u32,
     /// Whether what is known where it begins is what comes along the ways that lead to it, and no more.
     pub is_settled: bool,
+    /// The same but for what came since it was visited last, which is this.
+    pub is_exact: bool,
+    news: News,
     /// Whether it runs otherwise than when its ranges were found: it is new, or its steps or its end are others, or
     /// what a callee gives back, or what is live behind it.
     pub is_other: bool,
@@ -43,24 +49,107 @@ pub struct BlockRanges {
     pub is_fresh: bool,
 }
 
-/// Whether both are the same.
-fn are_equal(a: &Option<Vec<Cell>>, b: &Option<Vec<Cell>>) -> bool {
-    let (Some(a), Some(b)) = (a, b) else {
-        return a.is_none() & b.is_none();
-    };
-    let (a, b) = (a.as_slice(), b.as_slice());
-    let mut are_equal = a.len() == b.len();
+/// Whether both are the same cells.
+pub fn are_same(a: &[Cell], b: &[Cell]) -> bool {
+    let mut are_same = a.len() == b.len();
     for place in 0..a.len() {
         if place < b.len() {
             let (one, other) = (&a[place], &b[place]);
-            are_equal &= (one.location == other.location) & (one.range == other.range);
+            are_same &= (one.location == other.location) & (one.range == other.range);
         }
     }
-    are_equal
+    are_same
+}
+
+/// Whether both are the same.
+fn are_equal(a: &Option<Vec<Cell>>, b: &Option<Vec<Cell>>) -> bool {
+    match (a, b) {
+        (Some(a), Some(b)) => are_same(a.as_slice(), b.as_slice()),
+        (None, None) => true,
+        _ => false,
+    }
+}
+
+/// Leaves of cells those that have another range than among others, where both stand by location. Says whether all
+/// stand there.
+fn keep_changed(cells: &mut Vec<Cell>, known: &[Cell]) -> bool {
+    let slots = cells.as_mut_slice();
+    let (mut count, mut among): (usize, usize) = (0, 0);
+    for place in 0..slots.len() {
+        let cell = slots[place];
+        let Some(range) = range_from(known, &mut among, cell.location) else {
+            return false;
+        };
+        if range != cell.range && count < slots.len() {
+            slots[count] = cell;
+            count = count.saturating_add(1);
+        }
+    }
+    cells.truncate(count);
+    true
+}
+
+/// Takes out of cells those of some locations.
+pub fn leave_out(cells: &mut Vec<Cell>, locations: &LocationSet) {
+    let slots = cells.as_mut_slice();
+    let mut count: usize = 0;
+    for place in 0..slots.len() {
+        let cell = slots[place];
+        if !locations.has(cell.location) && count < slots.len() {
+            slots[count] = cell;
+            count = count.saturating_add(1);
+        }
+    }
+    cells.truncate(count);
+}
+
+/// Gives cells, which stand by location, the ranges of others that have their locations. Adds those that have another
+/// range then to what is new.
+fn put_ranges(cells: &mut [Cell], others: &[Cell], news: &mut News) {
+    for other in others {
+        if let Some(place) = place_of(&*cells, other.location)
+            && place < cells.len()
+            && cells[place].range != other.range
+        {
+            cells[place].range = other.range;
+            news.insert(other.location);
+        }
+    }
+}
+
+/// Gives cells of a function with a frame of so many bytes, which stand by location, the ranges that a state knows of
+/// these locations, and adds those that have another range then to what is new. Where the state knows others of them,
+/// all is.
+fn put_known(
+    cells: &mut [Cell],
+    (frame, asked): (u32, &LocationSet),
+    state: &State,
+    news: &mut News,
+) {
+    // word k of the frame, at 64 + 4 k bytes of it, is location 32 + k
+    let end = (32 + frame.min(4_096) / 4) as u16;
+    let mut next: u16 = 1;
+    for _ in 0..LOCATIONS {
+        let location = match asked.first_from(next) {
+            Some(location) if location < end => location,
+            _ => return,
+        };
+        match (state.range(location), place_of(&*cells, location)) {
+            (Some(range), Some(place)) if place < cells.len() => {
+                if cells[place].range != range {
+                    cells[place].range = range;
+                    news.insert(location);
+                }
+            }
+            (None, None) => {}
+            _ => news.are_all = true,
+        }
+        next = location.saturating_add(1);
+    }
 }
 
 /// Puts cells in the place of others. Says whether they aren't the same.
-pub fn replace(slot: &mut Option<Vec<Cell>>, new: Option<Vec<Cell>>) -> bool {
+fn replace(slot: &mut Option<Vec<Cell>>, new: Option<Vec<Cell>>) -> bool {
     let is_new = !are_equal(slot, &new);
     *slot = new;
     is_new
@@ -74,6 +163,15 @@ fn add_effects(touched: &mut LocationSet, effects: &Effects) {
         word_read: effects.word_read.or(effects.word_written),
         word_written: None,
     });
+}
+
+/// Whether a block has a call, or returns.
+pub fn is_told(code: &Block) -> bool {
+    let mut is_told = matches!(code.end, End::Return(_));
+    for step in code.steps.as_slice() {
+        is_told |= step.callee.is_some();
+    }
+    is_told
 }
 
 /// The locations that a block reads or writes. What its branch is taken by is among them, since a compare reads it.
@@ -101,9 +199,12 @@ impl BlockRanges {
             cells_before: None,
             is_tried: false,
             touched: LocationSet::none(),
+            is_told: true,
             changes: 0,
             narrowings: 0,
             is_settled: false,
+            is_exact: false,
+            news: News::nothing(),
             is_other: true,
             is_new: true,
             came: Vec::new(alloc),
@@ -114,18 +215,19 @@ impl BlockRanges {
         }
     }
 
-    /// Notes what is known of a block that reads or writes these locations, and forgets it.
-    pub fn forget(&mut self, touched: LocationSet) {
+    /// Notes what is known of it, and forgets that.
+    pub fn forget(&mut self) {
         self.cells_before = mem::replace(&mut self.cells, None);
         let ways = mem::replace(&mut self.ways, [None, None]);
         if !self.is_tried {
             self.before = ways;
         }
         self.is_tried = false;
-        self.touched = touched;
         self.changes = 0;
         self.narrowings = 0;
         self.is_settled = false;
+        self.is_exact = false;
+        self.news = News::nothing();
         self.is_other = false;
         self.is_new = false;
     }
@@ -174,19 +276,106 @@ impl BlockRanges {
         !are_equal(&self.ways[way % 2], &self.before[way % 2])
     }
 
+    /// Something came to it, which is to be looked at.
+    pub fn hear(&mut self, news: &News) {
+        self.news.add(news);
+        self.is_settled = false;
+    }
+
+    /// What came to it since it was visited, which is now, and its cells grow or get narrower; nothing where all that
+    /// comes to it is to be looked at, as where its ways weren't gone on along for the cells before.
+    pub fn take_news(&mut self, grow: bool) -> Option<News> {
+        let news = mem::replace(&mut self.news, News::nothing());
+        let is_followed = self.cells.is_some() & (self.narrowings <= NARROWINGS);
+        if !news.are_all & is_followed & (grow | self.is_exact) {
+            return Some(news);
+        }
+        None
+    }
+
+    /// Puts what is known where a way ends in the place of what was; gives what is new.
+    pub fn replace_way(&mut self, way: usize, found: Option<Vec<Cell>>) -> News {
+        let news = News::between(&self.ways[way % 2], &found);
+        self.ways[way % 2] = found;
+        news
+    }
+
+    /// Takes over these cells where a way ends, as far as their locations are live there. Gives what is new.
+    pub fn pass(&mut self, way: usize, changed: &[Cell]) -> News {
+        let mut news = News::nothing();
+        if let Some(cells) = &mut self.ways[way % 2] {
+            put_ranges(cells.as_mut_slice(), changed, &mut news);
+        }
+        news
+    }
+
+    /// Takes over what a state knows of these locations where a way ends, in a frame of so many bytes, and cells of
+    /// others; gives what is new. All is where other locations are known than before.
+    pub fn go_on(
+        &mut self,
+        way: usize,
+        frame: u32,
+        (asked, changed): (&LocationSet, &[Cell]),
+        state: &State,
+    ) -> News {
+        match &mut self.ways[way % 2] {
+            Some(cells) => {
+                let mut news = News::nothing();
+                put_ranges(cells.as_mut_slice(), changed, &mut news);
+                put_known(cells.as_mut_slice(), (frame, asked), state, &mut news);
+                news
+            }
+            None => News::all(),
+        }
+    }
+
+    /// Leaves of new cells, of locations that are known there already, those that are others, if no location lacks of
+    /// so many. Says whether none does.
+    pub fn keep_changed(&self, cells: &mut Vec<Cell>, count: usize) -> bool {
+        match &self.cells {
+            Some(known) => cells.len() == count && keep_changed(cells, known.as_slice()),
+            None => false,
+        }
+    }
+
+    /// Whether it needn't be run for these new cells, of locations that are known there already: it touches none of
+    /// them.
+    pub fn passes(&self, changed: &[Cell]) -> bool {
+        let mut passes = true;
+        for cell in changed {
+            passes &= !self.touched.has(cell.location);
+        }
+        passes
+    }
+
+    /// Takes over new cells, of locations that are known there already, which grew or got narrower; says whether the
+    /// block has to be run for them.
+    pub fn take_ranges(&mut self, changed: &[Cell], grow: bool) -> bool {
+        let mut news = News::nothing();
+        if let Some(cells) = &mut self.cells {
+            put_ranges(cells.as_mut_slice(), changed, &mut news);
+        }
+        self.count(!news.is_empty(), grow)
+    }
+
+    /// Counts a change of its cells, if there is one; says whether it is to be run for it.
+    fn count(&mut self, is_new: bool, grow: bool) -> bool {
+        if grow {
+            self.changes = self.changes.saturating_add(u32::from(is_new));
+            is_new
+        } else {
+            self.narrowings = self.narrowings.saturating_add(u32::from(is_new));
+            is_new & (self.narrowings <= NARROWINGS)
+        }
+    }
+
     /// Takes over cells that grew or got narrower; says whether the block has to be run for them. A function's first
     /// block, which has none, is run once where it grows, and not where it gets narrower.
     pub fn take(&mut self, cells: Option<Vec<Cell>>, is_entry: bool, grow: bool) -> bool {
         let is_taken = if grow { cells.is_some() } else { !is_entry };
         let is_new = is_taken && replace(&mut self.cells, cells);
-        if grow {
-            let is_run = is_new | (is_entry & (self.changes == 0));
-            self.changes = self.changes.saturating_add(u32::from(is_run));
-            is_run
-        } else {
-            self.narrowings = self.narrowings.saturating_add(u32::from(is_new));
-            is_new & (self.narrowings <= NARROWINGS)
-        }
+        let is_first = grow & is_entry & (self.changes == 0);
+        self.count(is_new | is_first, grow)
     }
 
     /// Whether the block needn't be run for its new cells: the same locations are known, and those that it reads or

@@ -45,7 +45,7 @@ impl FunctionRanges {
     /// Where nothing was known of the begin of a block, that is what comes there.
     fn enter_new(&mut self, setting: &Analysis, memory: &mut Heap, block: usize) {
         if block > 0 && self.cells(block).is_none() {
-            let cells = self.common(memory, setting.shape, block, usize::MAX);
+            let cells = self.common(setting, memory, (block, usize::MAX), None);
             let blocks = self.blocks.as_mut_slice();
             if block < blocks.len() {
                 blocks[block].cells = cells;
@@ -104,7 +104,7 @@ impl FunctionRanges {
         if block < blocks.len() {
             for way in blocks[block].came.as_slice() {
                 if let Some(cells) = self.way_cells(*way / 2, *way % 2) {
-                    add_cells(memory, &mut found, cells);
+                    add_cells(memory, &mut found, cells, None);
                 }
             }
         }

@@ -31,7 +31,7 @@ pub fn object_at(program: &Program, address: i64) -> Option<usize> {
     let mut found = None;
     for (number, object) in program.objects.as_slice().iter().enumerate() {
         let is_in = (i64::from(object.start) <= address) & (address < end_of(object));
-        if is_in || object.outside.contains(&word) {
+        if is_in || (!object.outside.is_empty() && object.outside.contains(&word)) {
             if found.is_some() {
                 return None;
             }
