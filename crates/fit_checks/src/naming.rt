@@ -39,7 +39,7 @@ fn number_of(register: Reg, state: &State) -> Option<i32> {
 fn object_beside(program: &Program, address: u32) -> Option<usize> {
     let mut found = None;
     for (number, object) in program.objects.as_slice().iter().enumerate() {
-        if object.outside.contains(&address) {
+        if !object.outside.is_empty() && object.outside.contains(&address) {
             if found.is_some() {
                 return None;
             }

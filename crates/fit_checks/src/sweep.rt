@@ -77,6 +77,9 @@ impl Carried {
     /// Those behind some steps.
     pub fn behind(self, frame: u32, steps: &[Step]) -> Carried {
         let mut found = self;
+        if found.round.is_empty() & found.tested.is_empty() {
+            return found;
+        }
         for step in steps {
             let effects = effects_in(frame, step);
             let is_computed = matches!(operation_of(&step.instr), Operation::Compute(..));
@@ -184,22 +187,36 @@ impl Sweep {
     ) -> Carried {
         self.leave_loops(place);
         let mut carried = NOT_CARRIED;
-        let mut onward = None;
         for way in ranges.ways_to(function, block) {
             let from = *way / 2;
             if self.was_swept(from) && from < self.carried.len() {
                 carried.add(self.carried[from]);
-                self.join_way(memory, ranges, (function, *way), &mut onward);
             }
         }
         let end = ranges.loop_end(function, block);
         if end > place {
             memory.push(&mut self.loops, OpenLoop { head: block, end });
-            if let Some(onward) = &onward {
+            if let Some(onward) = self.onward(memory, ranges, (function, block)) {
                 self.carry_back(ranges, (function, block), onward.as_slice(), &mut carried);
             }
         }
         carried
+    }
+
+    /// What the ways to a block have in common from those that were gone over; nothing where none of them can be gone.
+    fn onward(
+        &self,
+        memory: &mut Heap,
+        ranges: &Ranges,
+        (function, block): (usize, usize),
+    ) -> Option<Vec<Cell>> {
+        let mut found = None;
+        for way in ranges.ways_to(function, block) {
+            if self.was_swept(*way / 2) {
+                self.join_way(memory, ranges, (function, *way), &mut found);
+            }
+        }
+        found
     }
 
     /// Adds the registers of which more is possible, along the ways to a block from those that weren't gone over yet,
