@@ -11,7 +11,7 @@ pub use run::{enter, go_along, return_from, run_step, run_to_call, start};
 use sbx_domain::State;
 use sbx_range::{Cell, Range};
 pub use shape::FunctionShape;
-pub use thresholds::{Growth, Thresholds, thresholds_of};
+pub use thresholds::{Growth, Thresholds, common_thresholds, thresholds_of};
 
 /// The range of a location among cells that stand by location.
 pub fn range_in(cells: &[Cell], location: u16) -> Option<Range> {

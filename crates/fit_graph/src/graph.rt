@@ -28,9 +28,13 @@ impl Order {
     }
 }
 
-/// Says for each block of an order at which place it stands.
-pub(crate) fn put_places(places: &mut [Option<usize>], blocks: &[usize]) {
-    for place in 0..blocks.len() {
+/// Says for each block of an order from one of its places up to another at which it stands.
+pub(crate) fn put_places(
+    places: &mut [Option<usize>],
+    blocks: &[usize],
+    (from, behind): (usize, usize),
+) {
+    for place in from..behind.min(blocks.len()) {
         let block = blocks[place];
         if block < places.len() {
             places[block] = Some(place);
@@ -115,7 +119,7 @@ pub(crate) fn order_in(memory: &mut Heap, function: &Function) -> Order {
         }
     }
     blocks.reverse();
-    put_places(places, blocks.as_slice());
+    put_places(places, blocks.as_slice(), (0, blocks.len()));
     Order {
         blocks,
         places: found,

@@ -9,8 +9,8 @@ mod live;
 mod means;
 
 pub use cells::{
-    FunctionShape, Growth, Thresholds, cells_of, enter, go_along, join, place_of, range_from,
-    range_in, return_from, run_step, run_to_call, start, thresholds_of,
+    FunctionShape, Growth, Thresholds, cells_of, common_thresholds, enter, go_along, join,
+    place_of, range_from, range_in, return_from, run_step, run_to_call, start, thresholds_of,
 };
 pub use graph::{
     Graph, Loop, Order, Tangle, order_of, predecessors_of, reached_from, successors_in,

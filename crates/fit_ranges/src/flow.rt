@@ -26,6 +26,8 @@ pub struct Analysis<'a> {
     pub function: &'a Function,
     pub shape: &'a FunctionShape,
     pub thresholds: &'a Thresholds,
+    /// Where the ranges of all functions may.
+    pub common: &'a Thresholds,
     pub results: &'a [Vec<Range>],
     /// Of each block the cells that are said, by location: their ranges are those and no others. None of blocks that
     /// aren't named here.

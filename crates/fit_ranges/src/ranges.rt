@@ -1,7 +1,10 @@
 //! Ranges of a program's locations where its blocks begin. Nothing rests on it, since the verifier asks all again.
 use crate::flow::{Analysis, FunctionRanges, Run, add_outs, at};
 use fit_code::{Fault, Function, Heap, NO_LINE, Program, Reason};
-use fit_graph::{FunctionShape, LocationSet, Means, RegisterCounts, find_live, thresholds_of};
+use fit_graph::{
+    FunctionShape, LocationSet, Means, RegisterCounts, Thresholds, common_thresholds, find_live,
+    thresholds_of,
+};
 use sbx_domain::State;
 use sbx_range::{Cell, Range, all, is_within};
 use std::alloc::{AllocError, Global};
@@ -122,7 +125,7 @@ impl Ranges {
     }
 
     /// Finds a function's ranges by what all calls give it.
-    fn settle_function(&mut self, program: &Program, (number, function): (usize, &Function)) {
+    fn settle_function(&mut self, (number, function): (usize, &Function), common: &Thresholds) {
         let given = given_to(self.flows.as_slice(), number);
         let (shapes, counts) = (self.shapes.as_slice(), self.counts.as_slice());
         let (means, flows) = (&mut self.means, self.flows.as_mut_slice());
@@ -133,12 +136,13 @@ impl Ranges {
             if flow.takes(with_said(memory, said, &given, count)) {
                 let thresholds = match mem::replace(&mut flow.thresholds, None) {
                     Some(known) => known,
-                    None => thresholds_of(memory, program, function, flow.params.as_slice()),
+                    None => thresholds_of(memory, function, flow.params.as_slice()),
                 };
                 let setting = Analysis {
                     function,
                     shape: &shapes[number],
                     thresholds: &thresholds,
+                    common,
                     results: self.results.as_slice(),
                     said: at(self.said.as_slice(), number),
                 };
@@ -178,10 +182,9 @@ impl Ranges {
     }
 
     /// Goes over each function once.
-    fn settle_functions(&mut self, program: &Program) {
-        let functions = program.functions.as_slice();
+    fn settle_functions(&mut self, functions: &[Function], common: &Thresholds) {
         for number in 0..functions.len() {
-            self.settle_function(program, (number, &functions[number]));
+            self.settle_function((number, &functions[number]), common);
         }
     }
 
@@ -197,10 +200,11 @@ impl Ranges {
     /// Goes over the program until nothing is to be looked at again, or something lacks, which is told.
     fn settle(&mut self, program: &Program) -> Result<(), Fault> {
         let functions = program.functions.as_slice();
+        let common = common_thresholds(&mut self.means.memory, program);
         let mut is_new = true;
         for round in 0..ROUNDS {
             if is_new {
-                self.settle_functions(program);
+                self.settle_functions(functions, &common);
                 is_new = self.take_all_results(functions, round);
                 is_new &= !self.means.are_used_up();
             }

@@ -17,24 +17,13 @@ pub struct FunctionShape {
     pub live: Vec<LocationSet>,
 }
 
-/// The place of a block in an order; that behind the last one where it isn't there.
-fn place_in(blocks: &[usize], block: usize) -> usize {
-    for place in 0..blocks.len() {
-        if blocks[place] == block {
-            return place;
-        }
+/// How many blocks a loop has.
+fn count_in(within: &Loop) -> usize {
+    let mut count: usize = 0;
+    for is_in in within.holds.as_slice() {
+        count = count.saturating_add(usize::from(*is_in));
     }
-    blocks.len()
-}
-
-/// The place behind the last block of a loop in an order.
-fn end_in(blocks: &[usize], within: &Loop) -> usize {
-    for place in (0..blocks.len()).rev() {
-        if within.has(blocks[place]) {
-            return place.saturating_add(1);
-        }
-    }
-    0
+    count
 }
 
 /// Puts blocks into an order, from a place on.
@@ -50,22 +39,31 @@ fn put_from(blocks: &mut [usize], from: usize, others: &[usize]) {
 
 /// Moves the blocks of a loop in an order right behind its head, in their order, and behind them those that stood
 /// between them.
-fn gather(memory: &mut Heap, blocks: &mut [usize], within: &Loop) {
+fn gather(memory: &mut Heap, order: &mut Order, within: &Loop) {
+    let Some(head) = order.place(within.head) else {
+        return;
+    };
+    let blocks = order.blocks.as_mut_slice();
     let mut others = Vec::new(memory.alloc);
-    let head = place_in(&*blocks, within.head);
-    let mut to = head;
-    for place in head..end_in(&*blocks, within) {
-        if (place < blocks.len()) & (to < blocks.len()) {
-            let block = blocks[place];
-            if within.has(block) {
-                blocks[to] = block;
-                to = to.saturating_add(1);
-            } else {
-                memory.push(&mut others, block);
-            }
+    let (mut to, mut end, mut left) = (head, head, count_in(within));
+    for place in head..blocks.len() {
+        if left == 0 {
+            break;
         }
+        let block = blocks[place];
+        if within.has(block) & (to < blocks.len()) {
+            blocks[to] = block;
+            to = to.saturating_add(1);
+            left = left.saturating_sub(1);
+        } else {
+            memory.push(&mut others, block);
+        }
+        end = place.saturating_add(1);
     }
-    put_from(blocks, to, others.as_slice());
+    if !others.is_empty() {
+        put_from(blocks, to, others.as_slice());
+        put_places(order.places.as_mut_slice(), &*blocks, (head, end));
+    }
 }
 
 impl FunctionShape {
@@ -88,9 +86,8 @@ impl FunctionShape {
         let loops = graph.loops(memory);
         let mut order = graph.order;
         for within in loops.as_slice() {
-            gather(memory, order.blocks.as_mut_slice(), within);
+            gather(memory, &mut order, within);
         }
-        put_places(order.places.as_mut_slice(), order.blocks.as_slice());
         FunctionShape {
             order,
             sources: list(memory, function, Listed::Ways),

@@ -31,7 +31,7 @@ const ADDRESSES: u16 = LOCATIONS as u16;
 /// A location that is compared with more numbers than this one hands none on.
 const MOST: usize = 100;
 
-/// Where the ranges of a function's locations may stop.
+/// Where ranges may stop: those of the locations of one function, or of all functions of a program.
 #[derive(Drop)]
 pub struct Thresholds {
     pub(crate) memory: Heap,
@@ -39,7 +39,7 @@ pub struct Thresholds {
     numbers: Vec<(u16, i32)>,
     /// Locations that are compared with other ones, whose numbers they get.
     pub(crate) pairs: Vec<(u16, u16)>,
-    /// Where the data begin and end.
+    /// Where the data begin and end, of all functions.
     start: i32,
     end: i32,
 }
@@ -49,8 +49,8 @@ pub struct Thresholds {
 pub enum Growth<'t> {
     /// As far as it has to.
     Least,
-    /// An end that moves goes to a threshold.
-    ToThresholds(&'t Thresholds),
+    /// An end that moves goes to a threshold: one of the function's, or of all functions.
+    ToThresholds(&'t Thresholds, &'t Thresholds),
     /// An end that moves goes to that of all words.
     ToAll,
 }
@@ -61,21 +61,20 @@ impl Growth<'_> {
     pub(crate) fn end(self, location: u16, number: i32, is_below: bool) -> i32 {
         match self {
             Growth::Least => return number,
-            Growth::ToThresholds(thresholds) => {
-                let (entries, behind) = (
-                    thresholds.numbers.as_slice(),
-                    thresholds.end.saturating_add(1),
-                );
-                let is_address = (thresholds.start <= number) & (number <= behind);
+            Growth::ToThresholds(own, common) => {
+                let is_address = common.is_address(number);
                 let all = if is_address { ADDRESSES } else { NUMBERS };
-                for near in &[location, all] {
-                    let place = match entries.binary_search(&(*near, number)) {
-                        Ok(place) => place,
-                        Err(above) => above.wrapping_sub(usize::from(is_below)),
-                    };
-                    if place < entries.len() && entries[place].0 == *near {
-                        return entries[place].1;
-                    }
+                let of_location = own.next(location, number, is_below);
+                let of_all = match own.next(all, number, is_below) {
+                    Some(one) => match common.next(all, number, is_below) {
+                        Some(other) if is_below => Some(one.max(other)),
+                        Some(other) => Some(one.min(other)),
+                        None => Some(one),
+                    },
+                    None => common.next(all, number, is_below),
+                };
+                if let Some(end) = of_location.or(of_all) {
+                    return end;
                 }
             }
             Growth::ToAll => {}
@@ -116,6 +115,36 @@ fn copy_numbers(
 }
 
 impl Thresholds {
+    /// None.
+    fn none(memory: &Heap) -> Thresholds {
+        Thresholds {
+            memory: *memory,
+            numbers: Vec::new(memory.alloc),
+            pairs: Vec::new(memory.alloc),
+            start: i32::MAX,
+            end: i32::MIN,
+        }
+    }
+
+    /// Whether a number is an address of the data, or that behind them.
+    fn is_address(&self, number: i32) -> bool {
+        (self.start <= number) & (number <= self.end.saturating_add(1))
+    }
+
+    /// The number of a location next to one: that itself, or else the first one above it, or where `is_below` below it.
+    fn next(&self, location: u16, number: i32, is_below: bool) -> Option<i32> {
+        let entries = self.numbers.as_slice();
+        let place = match entries.binary_search(&(location, number)) {
+            Ok(place) => place,
+            Err(above) => above.wrapping_sub(usize::from(is_below)),
+        };
+        if place < entries.len() && entries[place].0 == location {
+            Some(entries[place].1)
+        } else {
+            None
+        }
+    }
+
     /// Adds numbers of a location.
     pub(crate) fn add(&mut self, location: u16, numbers: &[i32]) {
         for number in numbers {
@@ -180,26 +209,23 @@ impl Thresholds {
     }
 }
 
-/// The thresholds of a function that is called with these params.
-pub fn thresholds_of(
-    memory: &mut Heap,
-    program: &Program,
-    function: &Function,
-    params: &[Range],
-) -> Thresholds {
-    let mut thresholds = Thresholds {
-        memory: *memory,
-        numbers: Vec::new(memory.alloc),
-        pairs: Vec::new(memory.alloc),
-        start: i32::MAX,
-        end: i32::MIN,
-    };
-    thresholds.add_compared(function);
-    thresholds.sort();
-    thresholds.hand_on();
+/// The thresholds of all functions of a program.
+pub fn common_thresholds(memory: &mut Heap, program: &Program) -> Thresholds {
+    let mut thresholds = Thresholds::none(memory);
     thresholds.add(NUMBERS, &COMMON);
     thresholds.add_objects(program);
     thresholds.add_regions(program);
+    thresholds.sort();
+    *memory = thresholds.memory;
+    thresholds
+}
+
+/// The thresholds of a function that is called with these params, beside those of all functions.
+pub fn thresholds_of(memory: &mut Heap, function: &Function, params: &[Range]) -> Thresholds {
+    let mut thresholds = Thresholds::none(memory);
+    thresholds.add_compared(function);
+    thresholds.sort();
+    thresholds.hand_on();
     for range in params {
         thresholds.add_around(NUMBERS, range.lo, range.hi);
         thresholds.add_around(ADDRESSES, range.lo, range.hi);

@@ -79,7 +79,8 @@ impl FunctionRanges {
         let (growth, before) = if changes >= PATIENCE {
             (Growth::ToAll, 0)
         } else if changes > GROWTHS && setting.shape.end_of(block) > place {
-            (Growth::ToThresholds(setting.thresholds), place)
+            let growth = Growth::ToThresholds(setting.thresholds, setting.common);
+            (growth, place)
         } else {
             (Growth::Least, 0)
         };
