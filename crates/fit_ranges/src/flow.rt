@@ -44,7 +44,7 @@ pub struct Call {
 
 /// Where blocks run: in the verifier's own domain, once for both ways.
 #[derive(Drop)]
-pub struct Run {
+pub struct WayStates {
     pub state: State,
     /// Where the second way of a branch goes on.
     pub second: State,
@@ -140,8 +140,8 @@ fn list_calls(
     }
 }
 
-/// A list of cells has room for so many at once, at the most.
-const MOST: usize = 64;
+/// A list of cells has room for so many more at once than are known where the block begins.
+const MORE: usize = 4;
 
 /// What is known behind a block in a frame of so many bytes, of the locations that are asked: of those that the block
 /// touches what the state knows, and of the others what is known where it begins.
@@ -151,7 +151,8 @@ fn cells_behind(
     (touched, before): (&LocationSet, &[Cell]),
     state: &State,
 ) -> Vec<Cell> {
-    let mut cells = match Vec::with_capacity(memory.alloc, asked.count().min(MOST)) {
+    let room = asked.count().min(before.len().saturating_add(MORE));
+    let mut cells = match Vec::with_capacity(memory.alloc, room) {
         Ok(cells) => cells,
         Err(_) => {
             memory.is_refused = true;
@@ -444,7 +445,7 @@ impl FunctionRanges {
         setting: &Analysis,
         memory: &mut Heap,
         (block, touched): (usize, &LocationSet),
-        run: &mut Run,
+        run: &mut WayStates,
     ) -> [Option<Vec<Cell>>; 2] {
         let mut found = [None, None];
         let codes = setting.function.blocks.as_slice();
@@ -590,7 +591,7 @@ impl FunctionRanges {
 
     /// Finds the ranges of the blocks of the stretch that are looked at again, by what comes to them: first they grow,
     /// then they get narrower, and then they grow again, where that broke something.
-    fn find_stretch(&mut self, setting: &Analysis, means: &mut Means, run: &mut Run) {
+    fn find_stretch(&mut self, setting: &Analysis, means: &mut Means, run: &mut WayStates) {
         self.forget_stretch(setting);
         self.visit_all(setting, means, true, run);
         self.visit_all(setting, means, false, run);
@@ -601,7 +602,7 @@ impl FunctionRanges {
 
     /// Finds the ranges of the stretch anew, by what comes into it: of the blocks alone to which a change may come,
     /// where these are few, and nothing else comes from them to the others.
-    fn settle_stretch(&mut self, setting: &Analysis, means: &mut Means, run: &mut Run) {
+    fn settle_stretch(&mut self, setting: &Analysis, means: &mut Means, run: &mut WayStates) {
         self.pending.is_whole = !self.pick(setting, &mut means.memory, run);
         self.find_stretch(setting, means, run);
         if !self.pending.is_whole && self.leaks(setting) {
@@ -613,7 +614,7 @@ impl FunctionRanges {
     /// Finds the ranges, by what is to be visited. A stretch of the order begins where no way leads back behind it, so
     /// that what stands before it is looked at once. Where something else comes out of it than before, that is to be
     /// visited.
-    pub fn settle(&mut self, setting: &Analysis, means: &mut Means, run: &mut Run) {
+    pub fn settle(&mut self, setting: &Analysis, means: &mut Means, run: &mut WayStates) {
         let order = setting.shape.order.blocks.as_slice();
         let mut is_asked = false;
         self.pending.end = 0;

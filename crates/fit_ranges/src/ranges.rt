@@ -1,5 +1,5 @@
 //! Ranges of a program's locations where its blocks begin. Nothing rests on it, since the verifier asks all again.
-use crate::flow::{Analysis, FunctionRanges, Run, add_outs, at};
+use crate::flow::{Analysis, FunctionRanges, WayStates, add_outs, at};
 use fit_code::{Fault, Function, Heap, NO_LINE, Program, Reason};
 use fit_graph::{
     FunctionShape, LocationSet, Means, RegisterCounts, Thresholds, common_thresholds, find_live,
@@ -32,7 +32,7 @@ pub struct Ranges {
     /// Of each function and each of its blocks the cells that are said, by location. None of those that aren't named
     /// here.
     said: Vec<Vec<Vec<Cell>>>,
-    run: Run,
+    run: WayStates,
 }
 
 /// The ranges that are said, and behind them those that were found, so many at least: any words where none were.
@@ -102,7 +102,7 @@ impl Ranges {
         program: &Program,
         said: Vec<Vec<Vec<Cell>>>,
     ) -> Result<Ranges, Fault> {
-        let run = Run {
+        let run = WayStates {
             state: State::new(alloc)?,
             second: State::new(alloc)?,
         };

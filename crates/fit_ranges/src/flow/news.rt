@@ -3,8 +3,8 @@ use fit_code::Heap;
 use fit_graph::place_of;
 use sbx_range::{Cell, Range};
 
-/// So many words of 64 bits have a bit for each location that is told by itself: of all registers, and of the words that
-/// most frames have.
+/// So many words of 64 bits have a bit for each location that is told by itself: each register, and each word that most
+/// frames have.
 const WORDS: usize = 2;
 
 /// As many locations.

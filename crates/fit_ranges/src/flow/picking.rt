@@ -2,7 +2,7 @@
 //! difference. Where it makes one to others all the same, the whole stretch is.
 use crate::flow::known::touched_in;
 use crate::flow::spread::{differing, spread_behind};
-use crate::flow::{Analysis, FunctionRanges, Run, add_cells};
+use crate::flow::{Analysis, FunctionRanges, WayStates, add_cells};
 use fit_code::{Block, End, Heap};
 use fit_graph::{LocationSet, successors_in};
 use sbx_range::Cell;
@@ -55,7 +55,13 @@ impl FunctionRanges {
 
     /// Tries a block that runs otherwise than before, by what was known where it begins, or, if it is new, by what
     /// comes there.
-    fn try_block(&mut self, setting: &Analysis, memory: &mut Heap, block: usize, run: &mut Run) {
+    fn try_block(
+        &mut self,
+        setting: &Analysis,
+        memory: &mut Heap,
+        block: usize,
+        run: &mut WayStates,
+    ) {
         let codes = setting.function.blocks.as_slice();
         if block >= codes.len() {
             return;
@@ -70,7 +76,7 @@ impl FunctionRanges {
     }
 
     /// Tries the blocks of the stretch that run otherwise than before.
-    fn try_all(&mut self, setting: &Analysis, memory: &mut Heap, run: &mut Run) {
+    fn try_all(&mut self, setting: &Analysis, memory: &mut Heap, run: &mut WayStates) {
         let order = setting.shape.order.blocks.as_slice();
         for place in self.pending.start..self.pending.end {
             if place < order.len() {
@@ -239,7 +245,7 @@ impl FunctionRanges {
     }
 
     /// Picks the blocks of the stretch that are looked at again; says whether these are few.
-    pub fn pick(&mut self, setting: &Analysis, memory: &mut Heap, run: &mut Run) -> bool {
+    pub fn pick(&mut self, setting: &Analysis, memory: &mut Heap, run: &mut WayStates) -> bool {
         let count = self.pending.end.saturating_sub(self.pending.start);
         if (count < FEW) | (self.count_asked(setting) > count / 4) {
             return false;

@@ -3,7 +3,7 @@
 //! known of others is what it was.
 use crate::flow::known::{are_same, leave_out};
 use crate::flow::news::{NEWS, News, range_at};
-use crate::flow::{Analysis, FunctionRanges, Run, add_cells, at, cells_behind};
+use crate::flow::{Analysis, FunctionRanges, WayStates, add_cells, at, cells_behind};
 use fit_code::{Heap, hull};
 use fit_graph::{Growth, LocationSet, Means, go_along, join, range_in, successors_in};
 use sbx_domain::State;
@@ -17,7 +17,7 @@ const PATIENCE: u32 = 400;
 
 /// What is known where a block begins, and whether that is what comes along the ways that lead to it, and no more.
 #[derive(Drop)]
-struct Found {
+struct NewCells {
     cells: Option<Vec<Cell>>,
     is_exact: bool,
 }
@@ -99,9 +99,9 @@ impl FunctionRanges {
         setting: &Analysis,
         memory: &mut Heap,
         (grow, place, block): (bool, usize, usize),
-    ) -> Found {
+    ) -> NewCells {
         let Some(mut cells) = self.common(setting, memory, (block, usize::MAX), None) else {
-            return Found {
+            return NewCells {
                 cells: None,
                 is_exact: false,
             };
@@ -115,7 +115,7 @@ impl FunctionRanges {
             cells = raised;
         }
         put_said(cells.as_mut_slice(), at(setting.said, block));
-        Found {
+        NewCells {
             cells: Some(cells),
             is_exact,
         }
@@ -295,7 +295,7 @@ impl FunctionRanges {
         setting: &Analysis,
         memory: &mut Heap,
         (block, mut changed): (usize, Vec<Cell>),
-        run: &mut Run,
+        run: &mut WayStates,
     ) {
         let touched = self.touched(block);
         if !self.run_steps(setting, (block, &touched), &mut run.state) {
@@ -322,7 +322,7 @@ impl FunctionRanges {
         memory: &mut Heap,
         (grow, place, block): (bool, usize, usize),
         news: &News,
-        run: &mut Run,
+        run: &mut WayStates,
     ) -> bool {
         let at = (grow, place, block);
         let found = match self.only_way(setting, at) {
@@ -357,7 +357,7 @@ impl FunctionRanges {
         setting: &Analysis,
         memory: &mut Heap,
         (grow, place, block): (bool, usize, usize),
-        run: &mut Run,
+        run: &mut WayStates,
     ) {
         let comes_as_before = self.comes_as_before(setting, block);
         let found = if comes_as_before {
@@ -370,7 +370,7 @@ impl FunctionRanges {
             return;
         }
         let known = &mut blocks[block];
-        let Some(Found { cells, is_exact }) = found else {
+        let Some(NewCells { cells, is_exact }) = found else {
             known.is_exact = true;
             return;
         };
@@ -399,7 +399,7 @@ impl FunctionRanges {
         setting: &Analysis,
         memory: &mut Heap,
         (grow, place, block): (bool, usize, usize),
-        run: &mut Run,
+        run: &mut WayStates,
     ) {
         let blocks = self.blocks.as_mut_slice();
         if block >= blocks.len() {
@@ -424,7 +424,13 @@ impl FunctionRanges {
     }
 
     /// Visits each block of the stretch, and again those that are to be visited, the first one first, until none is.
-    pub fn visit_all(&mut self, setting: &Analysis, means: &mut Means, grow: bool, run: &mut Run) {
+    pub fn visit_all(
+        &mut self,
+        setting: &Analysis,
+        means: &mut Means,
+        grow: bool,
+        run: &mut WayStates,
+    ) {
         let (order, end) = (setting.shape.order.blocks.as_slice(), self.pending.end);
         let most = end.saturating_add(1).saturating_mul(2_000);
         let mut visits: usize = 0;
