@@ -10,8 +10,6 @@ mod program;
 mod run;
 mod state;
 mod stmt;
-#[cfg(test)]
-mod tests;
 pub mod variables;
 mod whole;
 

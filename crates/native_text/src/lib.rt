@@ -7,8 +7,6 @@ mod expressions;
 mod points;
 mod programs;
 mod statements;
-#[cfg(test)]
-mod tests;
 mod text;
 
 pub use programs::{ImageNote, write_program};

@@ -1,6 +1,8 @@
 //! A small program's lines; where a call returns to; an array of the most bytes.
-use crate::{ImageNote, write_program};
+ghost use Rattle.std.specs.Prelude.{◌≤◌};
+
 use native_lang::{Arm, BlockEnd, Expr, NativeProgram, NumberWidth, Operator, ProgramBlock, Stmt};
+use native_text::{ImageNote, write_program};
 use std::alloc::{AllocError, Global};
 
 /// Whether a text has a part.
@@ -13,31 +15,56 @@ fn has(text: &[u8], part: &str) -> bool {
     false
 }
 
-/// A loop that gets a byte, stores it and puts it out, until the input's end.
-fn echo(alloc: Global) -> Result<NativeProgram, AllocError> {
+/// A block of no statement.
+fn bare(alloc: Global, end: BlockEnd) -> ProgramBlock {
+    ProgramBlock {
+        statements: Vec::new(alloc),
+        end,
+    }
+}
+
+/// Puts a block that gets a byte, and goes on at the end of the input.
+fn put_getting(alloc: Global, blocks: &mut Vec<ProgramBlock>) -> Result<(), AllocError> {
+    let mut statements = Vec::new(alloc);
+    statements.push(Stmt::Get(8))?;
     let byte = Box::new(alloc, Expr::Variable(8))?;
     let end = Box::new(alloc, Expr::Number(0xffff_ffff))?;
     let is_end = Expr::Binary(Operator::Equal, byte, end);
-    let mut first = Vec::new(alloc);
-    first.push(Stmt::Get(8))?;
-    let mut second = Vec::new(alloc);
-    second.push(Stmt::Store(NumberWidth::Byte, Expr::Number(0x8_0000), Expr::Variable(8)))?;
-    second.push(Stmt::Put(Expr::Variable(8)))?;
-    let mut blocks = Vec::new(alloc);
     blocks.push(ProgramBlock {
-        statements: first,
+        statements,
         end: BlockEnd::If(is_end, 2, 1),
     })?;
+    Ok(())
+}
+
+/// Puts a block that stores it, and puts it out.
+fn put_storing(alloc: Global, blocks: &mut Vec<ProgramBlock>) -> Result<(), AllocError> {
+    let mut statements = Vec::new(alloc);
+    statements.push(Stmt::Store(NumberWidth::Byte, Expr::Number(0x8_0000), Expr::Variable(8)))?;
+    statements.push(Stmt::Put(Expr::Variable(8)))?;
     blocks.push(ProgramBlock {
-        statements: second,
+        statements,
         end: BlockEnd::Goto(0),
     })?;
-    blocks.push(ProgramBlock {
-        statements: Vec::new(alloc),
-        end: BlockEnd::Exit(Expr::Number(0)),
-    })?;
+    Ok(())
+}
+
+/// A loop that gets a byte, stores it and puts it out, until the input's end.
+fn put_echo(alloc: Global, blocks: &mut Vec<ProgramBlock>) -> Result<(), AllocError> {
+    put_getting(alloc, blocks)?;
+    put_storing(alloc, blocks)?;
+    blocks.push(bare(alloc, BlockEnd::Exit(Expr::Number(0))))?;
+    Ok(())
+}
+
+/// It, with so many data of a byte.
+fn echo(alloc: Global, count: usize, byte: u8) -> Result<NativeProgram, AllocError>
+    requires { count ≤ 524288 }
+{
+    let mut blocks = Vec::new(alloc);
+    put_echo(alloc, &mut blocks)?;
     let mut data = Vec::new(alloc);
-    data.push(9)?;
+    data.resize(count, byte)?;
     Ok(NativeProgram { blocks, data })
 }
 
@@ -54,23 +81,25 @@ L2:;
     EXIT(0u);
 ";
 
+/// Whether the text has them, and the lines before them and behind.
+fn has_lines(bytes: &[u8]) -> bool {
+    has(bytes, LINES)
+        && has(
+            bytes,
+            "#define GP_STACK_BYTES 4096u\n#define GP_IMAGE {1,2,}\n",
+        )
+        && has(bytes, "    RESUME(3);\nSTEP_RESUMES\n")
+        && has(bytes, "gp_start[] = {\n    9,\n    0};\n")
+}
+
 fn try_echo(alloc: Global) -> Result<bool, AllocError> {
-    let program = echo(alloc)?;
+    let program = echo(alloc, 1, 9)?;
     let named = ImageNote {
         image: &[1, 2],
         stack_bytes: 4096,
     };
     let text = write_program(alloc, &program, &named)?;
-    let bytes = text.as_bytes();
-    Ok(
-        has(bytes, LINES)
-            && has(
-                bytes,
-                "#define GP_STACK_BYTES 4096u\n#define GP_IMAGE {1,2,}\n",
-            )
-            && has(bytes, "    RESUME(3);\nSTEP_RESUMES\n")
-            && has(bytes, "gp_start[] = {\n    9,\n    0};\n"),
-    )
+    Ok(has_lines(text.as_bytes()))
 }
 
 #[test]
@@ -78,25 +107,22 @@ fn the_lines_of_a_loop(rt: HostRuntime) {
     assert!(rt; matches!(try_echo(rt.alloc()), Ok(true)));
 }
 
-/// A block of no statement.
-fn bare(alloc: Global, end: BlockEnd) -> ProgramBlock {
-    ProgramBlock {
-        statements: Vec::new(alloc),
-        end,
-    }
-}
-
-/// A call of what stands behind, and where it returns to.
-fn call(alloc: Global) -> Result<NativeProgram, AllocError> {
+/// Puts a call of what stands behind, and where it returns to.
+fn put_call(alloc: Global, blocks: &mut Vec<ProgramBlock>) -> Result<(), AllocError> {
     let mut arms = Vec::new(alloc);
     arms.push(Arm {
         word: 0x4_0000,
         label: 1,
     })?;
-    let mut blocks = Vec::new(alloc);
     blocks.push(bare(alloc, BlockEnd::Goto(2)))?;
     blocks.push(bare(alloc, BlockEnd::Exit(Expr::Number(0))))?;
     blocks.push(bare(alloc, BlockEnd::Dispatch(44, arms)))?;
+    Ok(())
+}
+
+fn call(alloc: Global) -> Result<NativeProgram, AllocError> {
+    let mut blocks = Vec::new(alloc);
+    put_call(alloc, &mut blocks)?;
     Ok(NativeProgram {
         blocks,
         data: Vec::new(alloc),
@@ -120,8 +146,7 @@ fn a_pause_behind_a_call(rt: HostRuntime) {
 }
 
 fn try_most(alloc: Global) -> Result<bool, AllocError> {
-    let mut program = echo(alloc)?;
-    program.data.resize(0x8_0000, 255)?;
+    let program = echo(alloc, 0x8_0000, 255)?;
     let named = ImageNote {
         image: &[],
         stack_bytes: 65_536,
