@@ -15,8 +15,6 @@ mod run;
 mod source;
 mod tables;
 mod teller;
-#[cfg(test)]
-mod tests;
 mod verdict;
 
 pub use page::page_windows;

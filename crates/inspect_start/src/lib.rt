@@ -8,8 +8,6 @@ mod names;
 mod numbers;
 mod reader;
 mod start;
-#[cfg(test)]
-mod tests;
 
 pub use fault::{StartCause, StartFault};
 pub use numbers::address;

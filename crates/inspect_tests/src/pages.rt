@@ -1,9 +1,10 @@
 //! The data of pages, held against lines that were made apart, of the texts that tell the same runs.
 ghost use Rattle.std.specs.Prelude.{◌≤◌};
 
-use crate::page_windows;
+use inspect_page::page_windows;
 use sbx_asm::assemble;
 use std::alloc::Global;
+use std::process::Abort;
 use std::test::Fail;
 
 /// A program that enters a window, gets and puts out a byte, has a slot annulled, stores, and loads what it may not.
@@ -79,24 +80,34 @@ fn data_of(
     )
 }
 
+/// Asserts that a text has each of the parts, and ends with the turns.
+fn has_all(rt: &impl Abort, text: &[u8]) {
+    for part in PARTS {
+        assert!(rt; has(text, part));
+    }
+    assert!(rt; text.ends_with(TURNS));
+}
+
 /// On the fewest windows.
 #[test]
 fn turns_are_told(rt: HostRuntime) -> Result<(), Fail> {
     let text = data_of(rt.alloc(), 4, SERVED, b"A", 100_000)?;
-    for part in PARTS {
-        assert!(rt; has(text.as_slice(), part));
-    }
-    assert!(rt; text.as_slice().ends_with(TURNS));
+    has_all(&rt, text.as_slice());
     Ok(())
 }
 
-/// On the most windows, with the most data, and cut short: the refusal is told, and no turn more than the limit.
+/// Asserts that a text tells a run that was cut short: the refusal, and no turn more than the limit.
+fn is_cut_short(rt: &impl Abort, text: &[u8]) {
+    assert!(rt; line_count(behind(text, b"\nt\n")) == 20_000);
+    assert!(rt; has(text, b"d80000 40000 1 00000007\n"));
+    assert!(rt; has(text, b"n32 20000 20000 0\n"));
+    assert!(rt; has(text, b"vrefused V"));
+}
+
+/// On the most windows, with the most data, and cut short.
 #[test]
 fn a_run_is_cut_short(rt: HostRuntime) -> Result<(), Fail> {
     let text = data_of(rt.alloc(), 32, ENDLESS, b"", 20_000)?;
-    assert_eq!(rt; line_count(behind(text.as_slice(), b"\nt\n")), 20_000);
-    assert!(rt; has(text.as_slice(), b"d80000 40000 1 00000007\n"));
-    assert!(rt; has(text.as_slice(), b"n32 20000 20000 0\n"));
-    assert!(rt; has(text.as_slice(), b"vrefused V"));
+    is_cut_short(&rt, text.as_slice());
     Ok(())
 }
