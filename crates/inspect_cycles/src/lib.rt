@@ -11,8 +11,6 @@ mod bound;
 mod pieces;
 mod reading;
 mod table;
-#[cfg(test)]
-mod tests;
 
 pub use bound::{CycleBound, most_beside_services, most_cycles};
 pub use pieces::{Piece, dearest_of};

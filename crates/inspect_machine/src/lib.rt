@@ -5,7 +5,5 @@
 mod bare;
 mod changed;
 mod run;
-#[cfg(test)]
-mod tests;
 
 pub use run::machine_windows;
