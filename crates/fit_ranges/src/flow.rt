@@ -284,10 +284,15 @@ impl FunctionRanges {
         for block in self.blocks.as_mut_slice() {
             block.is_fresh = false;
         }
+        self.grow(memory, count);
+        self.pending.begin(memory, count);
+    }
+
+    /// There are at least so many blocks: of new ones nothing is known.
+    fn grow(&mut self, memory: &mut Heap, count: usize) {
         for _ in self.blocks.len()..count {
             memory.push(&mut self.blocks, BlockRanges::nothing(memory.alloc));
         }
-        self.pending.begin(memory, count);
     }
 
     /// Other ways lead to a block than before: it is to be visited.

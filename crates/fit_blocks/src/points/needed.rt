@@ -1,5 +1,5 @@
-//! What an image needs of a source: the functions and the objects that its entry names, those that these name, and so
-//! on. What nothing names from there is left out, as a linker that collects sections would.
+//! The functions and the objects that an image needs: those that its entry names, those that these name, and so on.
+//! What nothing names from there is left out, as a linker that collects sections would.
 use fit_code::Heap;
 use fit_gas::{Assembly, CodeBody, Linked, SymbolPlace};
 use fit_graph::reached_from;

@@ -1,4 +1,4 @@
-//! What came to a block since it was visited.
+//! News of a block: the locations of which something else came to it since it was visited.
 use fit_code::Heap;
 use fit_graph::place_of;
 use sbx_range::{Cell, Range};

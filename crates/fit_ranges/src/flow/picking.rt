@@ -1,5 +1,5 @@
-//! Which blocks of a stretch are looked at again: where few run otherwise than before, those to which that may make a
-//! difference. Where it makes one to others all the same, the whole stretch is.
+//! The choice of blocks of a stretch that are looked at again: where few run otherwise than before, those to which that
+//! may make a difference. Where it makes one to others all the same, the whole stretch is.
 use crate::flow::known::touched_in;
 use crate::flow::spread::{differing, spread_behind};
 use crate::flow::{Analysis, FunctionRanges, WayStates, add_cells};

@@ -1,5 +1,5 @@
-//! What a change of some blocks may change of what is known elsewhere: the locations of which something else may be
-//! known then, and those that are worked out from them.
+//! The spread of a change of some blocks: the locations of which something else may be known elsewhere then, and those
+//! that are worked out from them.
 use fit_code::{Block, End, RegisterSet, Step};
 use fit_graph::{Effects, LocationSet, effects_in, effects_of, range_from};
 use sbx_range::Cell;
