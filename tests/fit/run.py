@@ -170,8 +170,29 @@ def try_changed(to, options):
             to.tally.check(f"changed {number}", holds, f"wanted a source or a reason, came {told}", (file,))
 
 
+def try_wrong_words(to):
+    """What is said of words that ask for nothing."""
+    one, turns = f"{STORED}/upper.s", "--turns wants a decimal number from 1 to 1000000000000, once"
+    for words, why in [
+        (["-o", "x"], "the path of a source is wanted"), ([one], "-o and the path of a file are wanted"),
+        ([one, "-o"], "-o wants the path of a file, once"),
+        ([one, "-o", "x", "-o", "y"], "-o wants the path of a file, once"),
+        ([one, "-o", "x", "--turns", "0"], turns), ([one, "-o", "x", "--turns", "5", "--turns", "5"], turns),
+        ([one, "-o", "x", "--stack", "1000"], "--stack wants a power of 2 from 1024 to 131072, once"),
+        ([one, "-o", "x", "--frob"], "--frob is no option"),
+        (["annotate"], "annotate wants the path of one source"),
+        (["annotate", one, one], "annotate wants the path of one source"),
+        (["annotate", one, "--turns", "5"], "annotate takes no --turns"),
+        (["annotate", one, "--stack", "1024"], "annotate takes no --stack"),
+        (["annotate", one, "--region"], "annotate takes no --region"),
+    ]:
+        told = run_within([FIT, *words], cwd=to.work)
+        to.tally.same(f"fit {' '.join(words)}: what is said", (told.status, told.err), (3, f"fit: {why}\n".encode()))
+
+
 def try_words(to):
     """Words, and files that aren't there."""
+    try_wrong_words(to)
     stored, x, tally = f"{STORED}/upper.s", f"{to.work}/x", to.tally
     for words, status in [
         ([], 3), (["--help"], 0), (["--help", stored], 3), ([stored], 3), (["-o", "x"], 3), ([stored, "-o"], 3), ([stored, "--strict"], 3),

@@ -15,7 +15,10 @@ use fit_legal::{JoinPlan, Legal, program_of};
 use fit_passes::{FitPlan, Made, Reason, Refusal, make};
 use std::alloc::Global;
 use std::process::ExitCode;
-use words::{Arguments, STACK, TURNS, USAGE};
+use words::{ArgumentFault, Arguments, STACK, TURNS, USAGE};
+
+/// The exit status where words ask for nothing.
+const WRONG_WORDS: u8 = 3;
 
 /// Reads the sources that words name. What is wrong with one is told: the exit status of that.
 fn read_sources(rt: &HostRuntime, words: &Arguments<'_>, source: &mut Assembly) -> Result<(), u8> {
@@ -132,34 +135,48 @@ fn perform(rt: &HostRuntime, words: &Arguments<'_>) -> u8 {
     }
 }
 
-/// Does what the words ask for, and gives the exit status: 3 where they ask for nothing, and are told what they may be.
-fn answer(rt: &HostRuntime, all: &[String]) -> u8 {
-    let (is_annotate, all) = match all {
-        [first, others @ ..] if first.as_str() == "annotate" => (true, others),
-        _ => (false, all),
-    };
-    let mut words = Arguments {
-        sources: Vec::new(rt.alloc()),
-        lacks: false,
-        out: None,
-        turns: None,
-        stack: None,
-        is_strict: false,
-        by_region: false,
-    };
-    let is_taken = words.take(all);
-    match words.sources.as_slice() {
-        _ if words.lacks => NO_MEMORY,
-        [source]
-            if is_taken & is_annotate
-                && words.turns.is_none()
-                && words.stack.is_none()
-                && !words.by_region => { annotate::perform(rt, &words, *source) }
-        [_, ..] if is_taken & !is_annotate && words.out.is_some() => perform(rt, &words),
-        _ => {
+/// Does what the words behind `annotate` ask for, and gives the exit status.
+fn perform_annotate<'a>(rt: &HostRuntime, all: &'a [String]) -> Result<u8, ArgumentFault<'a>> {
+    let mut words = Arguments::new(rt.alloc());
+    words.take(all)?;
+    let source = words.source_to_annotate()?;
+    Ok(annotate::perform(rt, &words, source))
+}
+
+/// Does what the words without a command ask for, and gives the exit status.
+fn perform_fit<'a>(rt: &HostRuntime, all: &'a [String]) -> Result<u8, ArgumentFault<'a>> {
+    if all.is_empty() {
+        return Err(ArgumentFault::Usage);
+    }
+    let mut words = Arguments::new(rt.alloc());
+    words.take(all)?;
+    words.ask_for_source()?;
+    Ok(perform(rt, &words))
+}
+
+/// Tells why words ask for nothing, and gives the exit status. That memory was refused is told at the end.
+fn lacking(rt: &HostRuntime, lack: ArgumentFault<'_>) -> u8 {
+    match lack {
+        ArgumentFault::Memory => return NO_MEMORY,
+        ArgumentFault::Usage => {
             let _ = rt.eprint(USAGE);
-            3
         }
+        lack => {
+            let _ = eprintln!(rt; "fit: {lack}");
+        }
+    }
+    WRONG_WORDS
+}
+
+/// Does what the words ask for, and gives the exit status.
+fn answer(rt: &HostRuntime, all: &[String]) -> u8 {
+    let done = match all {
+        [first, others @ ..] if first.as_str() == "annotate" => perform_annotate(rt, others),
+        _ => perform_fit(rt, all),
+    };
+    match done {
+        Ok(status) => status,
+        Err(lack) => lacking(rt, lack),
     }
 }
 
