@@ -164,16 +164,26 @@ def by_the_turn(piece):
     return f"{thousandths // 1000}.{thousandths % 1000:03}"
 
 
+def counted(count, noun):
+    """A count, and what is counted."""
+    return f"{count} {noun}" if count == 1 else f"{count} {noun}s"
+
+
+def text_of_piece(piece):
+    """What a piece takes."""
+    return f"{counted(piece[0], 'cycle')} in {counted(piece[1], 'turn')}"
+
+
 def row_of_block(address, piece, dearest):
     """The line of a block."""
     mark = ", the dearest" if dearest else ""
-    return f"  {address:08X}: {piece[0]} cycles in {piece[1]} turns, {by_the_turn(piece)} a turn{mark}\n"
+    return f"  {address:08X}: {text_of_piece(piece)}, {by_the_turn(piece)} a turn{mark}\n"
 
 
 def told_of(image, rows):
     """What is told of an image."""
     budget, dearest, most = bound_of(image, rows)
-    lines = [f"budget: {budget} turns\n", f"dearest piece: {dearest[0]} cycles in {dearest[1]} turns\n",
+    lines = [f"budget: {budget} turns\n", f"dearest piece: {text_of_piece(dearest)}\n",
              f"bound: {most} cycles\n",
              f"beside services: {bound_of(image, without_services(rows))[2]} cycles, and {rows['exit']} an exit, "
              f"{rows['get']} a get, {rows['put']} a put\n"]

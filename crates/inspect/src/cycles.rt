@@ -129,13 +129,19 @@ fn thousandths(piece: Piece) -> u128 {
     (1000 * u128::from(piece.cycles)).div_ceil(u128::from(piece.turns).max(1))
 }
 
+/// What stands behind a noun: a letter where it isn't counted once.
+fn plural(count: u64) -> &'static str {
+    if count == 1 { "" } else { "s" }
+}
+
 /// Tells a block: where it begins, and its dearest piece.
 fn tell_block(rt: &HostRuntime, address: u32, piece: Piece, mark: &str) -> io::Result<()> {
     let Piece { cycles, turns } = piece;
     let each = thousandths(piece);
     let (whole, rest) = (each / 1000, each % 1000);
+    let (of_cycles, of_turns) = (plural(cycles), plural(turns));
     println!(rt;
-        "  {address:08X}: {cycles} cycles in {turns} turns, {whole}.{rest:03} a turn{mark}"
+        "  {address:08X}: {cycles} cycle{of_cycles} in {turns} turn{of_turns}, {whole}.{rest:03} a turn{mark}"
     )
 }
 
@@ -195,9 +201,10 @@ fn tell_all(
         most,
     } = *bound;
     let Piece { cycles, turns } = dearest;
-    println!(rt;
-        "budget: {budget} turns\ndearest piece: {cycles} cycles in {turns} turns\nbound: {most} cycles"
-    )?;
+    let (of_cycles, of_turns) = (plural(cycles), plural(turns));
+    println!(rt; "budget: {budget} turns")?;
+    println!(rt; "dearest piece: {cycles} cycle{of_cycles} in {turns} turn{of_turns}")?;
+    println!(rt; "bound: {most} cycles")?;
     tell_beside(rt, table, accepted)?;
     let mut unmarked = Some(dearest);
     for (number, _) in accepted.image().functions().iter().enumerate() {
