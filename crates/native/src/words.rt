@@ -5,8 +5,9 @@ pub const USAGE: &str = "Usage: native IMG [-o OUT.c]
        native build IMG -o OUT.so [--compiler CC] [--unmasked] [--uncounted]
        native run IMG [--compiler CC] [--unmasked]
 
-Turns an image that `sandbox verify` accepts into C, which runs as fast as the program that the
-image was made of: it has no test of bounds and no fuel. An image that isn't accepted is refused.
+Turns an image that `sandbox verify` accepts into C, which can run nearly as fast as the program
+that the image was made of: it has no test of bounds and no fuel. An image that isn't accepted is
+refused.
 
   native IMG         the image as C, to OUT.c or to standard output
   native build       the same, compiled to a shared object
