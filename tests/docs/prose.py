@@ -3,7 +3,8 @@
 
 Counts the prose of all pages of the repository, or of the FILEs: words, sentences, how many sentences have more than 35
 words, the longest, the longest paragraph, and semicolons a thousand words. Code, tables and headings don't count; an
-item of a list is a paragraph. tests/docs/run.py holds the counts to the limits below."""
+item of a list is a paragraph. The last row has the pages whose words are limited together. tests/docs/run.py holds the
+counts to the limits below."""
 import collections
 import dataclasses
 import glob
@@ -21,6 +22,10 @@ from tally import Words
 LONG, SHARE, LONGEST = 35, 0.02, 60
 # Words of a paragraph, and semicolons in a thousand words of a folder's pages.
 PARAGRAPH, SEMICOLONS = 120, 2
+# Words of all pages together, but for what each version does and the pages that are read from end to end.
+ALL_WORDS = 20_000
+UNLIMITED = {"CHANGES.md", "docs/learn/course.md", "docs/machine/image.md", "docs/machine/profile.md",
+             "docs/use/faults.md", "docs/use/source.md"}
 
 FENCE = re.compile(r" *```")
 ITEM = re.compile(r"^ *([-*+]|\d+\.) ")
@@ -146,6 +151,12 @@ def hold_folder(tally, folder, texts):
                 total.semicolons * 1000 <= SEMICOLONS * total.words, " ".join(stops))
 
 
+def hold_all(tally, texts):
+    """The pages have few words in all."""
+    words = sum(counts(text).words for name, text in texts.items() if name not in UNLIMITED)
+    tally.check(f"all pages: {words:,} words", words <= ALL_WORDS, f"at most {ALL_WORDS:,} are wanted")
+
+
 def all_pages():
     """The pages, by their paths from the top."""
     folders = [glob.glob(f"{TOP}/{it}/**/*.md", recursive=True) for it in ("docs", "embed", "vectors")]
@@ -153,30 +164,34 @@ def all_pages():
 
 
 def hold(tally, asked):
-    """Holds the pages that are asked for, and the folders that they stand in, to the limits."""
-    folders = collections.defaultdict(dict)
-    for name in all_pages():
-        folders[os.path.dirname(name)][name] = text_of(f"{TOP}/{name}")
+    """Holds the pages that are asked for, the folders that they stand in, and all pages together to the limits."""
+    folders, pages = collections.defaultdict(dict), {it: text_of(f"{TOP}/{it}") for it in all_pages()}
+    for name, text in pages.items():
+        folders[os.path.dirname(name)][name] = text
     for folder, texts in folders.items():
         wanted = {name: text for name, text in texts.items() if name in asked}
         for name, text in wanted.items():
             hold_page(tally, name, text)
         if wanted:
             hold_folder(tally, folder or "the top", texts)
+    hold_all(tally, pages)
 
 
 def main(words):
     """Prints the counts as a table."""
     reader = Words(__doc__)
     reader.add_files("files")
-    files, total = reader.parse_args(words).files, Counts()
+    files, total, limited = reader.parse_args(words).files, Counts(), Counts()
     print("| page | words | sentences | above 35 | of 100 | longest | paragraph | semicolons of 1,000 |")
     print("|---|---|---|---|---|---|---|---|")
-    for name in files or all_pages():
-        found = counts(text_of(name if files else f"{TOP}/{name}"))
+    for page in files or [f"{TOP}/{it}" for it in all_pages()]:
+        found, name = counts(text_of(page)), os.path.relpath(page, TOP)
         total.add(found)
+        if name not in UNLIMITED:
+            limited.add(found)
         print(found.row(name))
     print(total.row("all"))
+    print(limited.row(f"those that have {ALL_WORDS:,} words at most"))
 
 
 if __name__ == "__main__":

@@ -6,7 +6,7 @@ docs/work/change.md says how a page shows them. Looks up the files and headings 
 that they cite, and the crates, types and calls that those of docs name. Counts the lines of the files whose lines a
 table tells, and the edits. Looks whether the map's tables have a row for each crate, those of docs/work/change.md one
 for each suite, and docs/proof/trusted.md each script that builds what is proved, and whether docs/proof/contracts.md is
-what tools/contracts prints. Holds sentences, paragraphs and semicolons to the limits of prose.py."""
+what tools/contracts prints. Holds sentences, paragraphs, semicolons and words to the limits of prose.py."""
 import functools
 import glob
 import os
