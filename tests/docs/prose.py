@@ -191,7 +191,7 @@ def main(words):
             limited.add(found)
         print(found.row(name))
     print(total.row("all"))
-    print(limited.row(f"those that have {ALL_WORDS:,} words at most"))
+    print(limited.row(f"limited together to {ALL_WORDS:,}"))
 
 
 if __name__ == "__main__":
