@@ -109,10 +109,15 @@ __INLINE int __converts_others(const char *__at) {
     return __others || __at[__builtin_strcspn(__at, "%")];
 }
 
-#define __IS_WHOLE(format) \
-    __extension__({ int __known = __converts_doubles(format); __builtin_constant_p(__known) && !__known; })
-#define __IS_SHORT(format) \
-    __extension__({ int __known = __converts_others(format); __builtin_constant_p(__known) && !__known; })
+/* Whether the compiler finds that a format has none of these. A format whose first byte it doesn't know isn't looked
+   at: the loops that would look for them would stay there, though nobody asks what they find. */
+#define __HAS_NONE(find, format) \
+    __extension__({ \
+        int __found = !__builtin_constant_p(*(format)) || find(format); \
+        __builtin_constant_p(__found) && !__found; \
+    })
+#define __IS_WHOLE(format) __HAS_NONE(__converts_doubles, format)
+#define __IS_SHORT(format) __HAS_NONE(__converts_others, format)
 #define __CHOOSE(name, format, ...) \
     if (__IS_WHOLE(format)) return __##name##_whole(__VA_ARGS__); \
     return __##name##_any(__VA_ARGS__)
@@ -166,6 +171,7 @@ __INLINE int vsscanf(const char *__from, const char *__format, va_list __argumen
 #undef __INLINE
 #undef __STEP
 #undef __STEP_SHORT
+#undef __HAS_NONE
 #undef __IS_WHOLE
 #undef __IS_SHORT
 #undef __CHOOSE
