@@ -17,8 +17,10 @@ LAST = re.compile(r"^\s*\.section\s+\.(?:fini_array|dtors)\b.*\n(?:.*\n)??\s*\.(
 ALIAS = re.compile(r"^\s*(?:\.set\s+)?([\w.$]+)\s*[=,]\s*([\w.$]+)\s*$", re.M)
 WORD = re.compile(r"^\s*\.(?:long|word|uaword|4byte)\s+([\w.$]+)")
 WORDS = re.compile(r"(?<![\w.$%])[A-Za-z_.$][\w.$]*")
-FRAME_SUM = re.compile(r"^(\s*)addcc(\s+%(?:fp|sp), -?\d+, (%\w\d))"
-                       r"((?:\n(?:\s*\.loc .*|\.L\w+:))*\n\s*b(?:e|ne|z|nz)\s)", re.M)
+# (what begins with letters is found ten times as fast as what begins with a line)
+FRAME_SUM = re.compile(r"addcc(\s+%(?:fp|sp), -?\d+, (%\w\d))"
+                       r"((?:\n(?:\s*\.loc .*|\.L\w+:))*\n\s*b(?:e|ne|z|nz)\s)")
+CALL_OF_MAIN, FILED = re.compile(r"call\s+main\b"), re.compile(r"\.file\s.*")
 # A trap that a compiler puts in, by its condition, and the conditions that hold where that doesn't.
 TRAP = re.compile(r"\s*t(a|e|ne|g|le|ge|l|gu|leu|cc|cs|geu|lu|pos|neg|vc|vs|z|nz)\s+5\b")
 OTHERWISE = {"e": "ne", "z": "ne", "g": "le", "ge": "l", "gu": "leu", "cc": "cs", "geu": "cs", "pos": "neg", "vc": "vs"}
@@ -71,8 +73,7 @@ class Assembly:
     @functools.cached_property
     def files(self):
         """The path of each file that lines come from, by its number."""
-        found = [FILE.match(line) for line in self.lines if ".file" in line]
-        return {it[1]: os.path.join("", *filter(None, it.groups()[1:])) for it in found if it}
+        return paths_in(self.lines)
 
     @functools.cached_property
     def origins(self):
@@ -100,10 +101,16 @@ class Assembly:
         return "\n".join(self.lines) + "\n"
 
 
+def paths_in(lines):
+    """The path of each file that lines come from, by its number, as an assembly's lines tell them."""
+    found = [FILE.match(line) for line in lines if ".file" in line]
+    return {it[1]: os.path.join("", *filter(None, it.groups()[1:])) for it in found if it}
+
+
 def files_of(path):
     """The paths of the files that an assembly has lines of."""
     with open(path, encoding="utf-8", errors="surrogateescape") as file:
-        return list(Assembly(file.read()).files.values())
+        return list(paths_in(FILED.findall(file.read())).values())
 
 
 def plain(name):
@@ -123,16 +130,23 @@ def plain_objects(text):
 
 
 def without_traps(assembly):
-    """Has the run end, as by abort, where a compiler put a trap in the place of what C doesn't define; returns the
-    numbers of these lines."""
-    found = [(at, TRAP.match(line)) for at, line in enumerate(assembly.lines) if "5" in line]
+    """The assembly whose run ends, as by abort, where a compiler put a trap in the place of what C doesn't define, and
+    the numbers of these lines."""
+    lines = list(assembly.lines)
+    found = [(at, TRAP.match(line)) for at, line in enumerate(lines) if "5" in line and line.lstrip()[:1] == "t"]
     found = [(at, trap[1]) for at, trap in found if trap]
     for at, condition in found:
         ended = "\tsethi %hi(393216), %o0\n\tta 0"
         if condition != "a":
             ended = f"\tb{OTHERWISE[condition]} .Ltrap{at}\n\tnop\n{ended}\n.Ltrap{at}:"
-        assembly.lines[at] = ended
-    return [at + 1 for at, _ in found]
+        lines[at] = ended
+    return Assembly("\n".join(lines)) if found else assembly, [at + 1 for at, _ in found]
+
+
+def destructor_of(text):
+    """The function that an attribute has run behind main; None where there is none."""
+    found = LAST.search(text) if ".fini_array" in text or ".dtors" in text else None
+    return found and found[1]
 
 
 def without_options(text):
@@ -151,7 +165,7 @@ def without_options(text):
 def without_frame_sums(text):
     """Parts a sum of a frame's address that sets the condition codes, where only equality is asked for behind it: fit
     takes the sum and the comparison, each by itself."""
-    return FRAME_SUM.sub(r"\1add\2\n\tcmp\t\3, 0\4", text)
+    return FRAME_SUM.sub(r"add\1\n\tcmp\t\2, 0\3", text)
 
 
 def without_lists(text):
@@ -176,6 +190,8 @@ def without_lists(text):
 
 def without_aliases(text):
     """Has each thing one name: a second one goes."""
+    if " = " not in text and ".set" not in text:
+        return text
     names = {}
     for line in text.splitlines():
         found = ALIAS.fullmatch(line) if " = " in line or ".set" in line else None
@@ -204,12 +220,16 @@ def renamed(text):
     return "\n".join(it if TEXT.match(it) else NAME.sub(INNER, it) for it in text.splitlines()) + "\n"
 
 
+def calls_main(text):
+    """Whether an instruction calls main."""
+    return any(not text[text.rfind("\n", 0, it.start()) + 1:it.start()].strip() for it in CALL_OF_MAIN.finditer(text))
+
+
 def started(text, has_parameters):
     """Puts a start before main where something runs before it or behind it, where it has parameters, or is called."""
     text, before = without_lists(without_frame_sums(without_aliases(without_options(text))))
-    is_told = AT_EXIT.search(text) is not None
-    is_called = re.search(r"^\s*call\s+main\b", text, re.M)
-    if not (before or is_told or has_parameters or is_called):
+    is_told = "__exit_" in text and AT_EXIT.search(text) is not None
+    if not (before or is_told or has_parameters or calls_main(text)):
         return text
     calls = "".join(f"\tcall\t{name}\n\tnop\n" for name in before)
     behind = "\tcall\texit\n\tnop\n" if is_told else "\tmov\t%o0, %i0\n\tret\n\trestore\n"

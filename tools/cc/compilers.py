@@ -96,7 +96,7 @@ def compiler_of(request):
 class Compiler:
     """What both have in common."""
 
-    target, size_level, library_flags, variables = [], "-Os", [], ["-g"]
+    target, size_level, library_flags, variables, apart = [], "-Os", [], ["-g"], []
 
     def __init__(self, path, request):
         self.path, self.request, self.tells = path, request, False
@@ -169,6 +169,10 @@ class Compiler:
         """What sources are compiled with beside the level that is asked for."""
         return []
 
+    def taken(self, _work):
+        """The files of assembly that a program has of the library beside the one that was made in a folder."""
+        return []
+
     def dependencies(self, path):
         """The words that write down what a source includes."""
         request = self.request
@@ -185,6 +189,9 @@ class Gcc(Compiler):
     kind = ["-c", "-flto"]
     # (an address of a variable in a register that is kept over calls would have to be tested, where it is a constant)
     library_flags = ["-fno-gcse", "-fno-move-loop-invariants"]
+    # What is compiled of the library once and for all, and not with each program: long functions, of which gcc makes
+    # nearly the same beside any program, and which it would take much of its time for.
+    apart = "decimal print_double scan scan_double strtod".split()
 
     def by_level(self):
         """At -O0 calls of functions that gcc knows are calls: it doesn't look for those that it knows in the library,
@@ -198,7 +205,9 @@ class Gcc(Compiler):
 
     def library(self, runtime):
         """The library's objects in an archive, so that a name of the program's goes before one of the library's."""
-        archive, objects = runtime.place("library.a"), runtime.objects(self.ending, *self.kind)
+        archive, objects = runtime.place("library.a"), runtime.all(runtime.sources(), self.ending, *self.kind)
+        self.texts = runtime.all(runtime.sources(is_apart=True), ".s", "-S")
+        objects += runtime.all(self.texts, ".o", "-c")
         if not os.path.exists(archive):
             subprocess.run([self.archiver, "rcs", f"{archive}.{os.getpid()}", *objects], check=True)
             settle(f"{archive}.{os.getpid()}", archive)
@@ -213,7 +222,8 @@ class Gcc(Compiler):
         path = self.plus if self.request.is_plus else self.path
         kept = [f"-Wl,-u,{name}" for name in KEPT]
         level = [self.request.level, *self.for_size(self.request.level)]
-        words = [path, *level, *self.target, *self.telling, *WHOLE, *kept, "-o", "whole", *objects, *library]
+        words = [path, *level, *self.target, *self.telling, *WHOLE, *kept, "-Wl,-Map=whole.map", "-o", "whole",
+                 *objects, *library]
         ran, is_long = limited(words, cwd=work)
         made = sorted(it for it in os.listdir(work) if it.startswith("whole.lto.o") and it.endswith(".s"))
         if is_long:
@@ -225,6 +235,12 @@ class Gcc(Compiler):
         self.told += self.named(ran.stderr, objects, work)
         os.rename(f"{work}/{made[0]}", f"{work}/program.s")
         return f"{work}/program.s"
+
+    def taken(self, work):
+        """Those of the library's files that were compiled once and for all, as the linker's map tells."""
+        with open(f"{work}/whole.map", encoding="utf-8", errors="surrogateescape") as file:
+            members = set(re.findall(r"library\.a\((\S+)\.o\)$", file.read(), re.M))
+        return [it for it in self.texts if os.path.basename(it) in members]
 
     def unassembled(self, text, path):
         """What the assembler doesn't take, which only a program itself can have written, by lines of C."""
@@ -248,6 +264,7 @@ class Gcc(Compiler):
         for path, source in zip(objects, sources):
             text = re.sub(re.escape(path) + r"( \(symbol from plugin\))?", source, text)
             text = text.replace(os.path.relpath(os.path.abspath(source), os.path.realpath(work)), source)
+        text = re.sub(re.escape(f"{work}/library.a(") + r"(\S+\.c)\.s(\.o)\)", r"\1\2", text)
         lines = [re.sub(r"^\S*/ld: ", "", it) for it in text.splitlines()]
         of_tools = r"collect2: |lto-wrapper: |compilation terminated|error: lto-wrapper|.* defaulting to "
         return "\n".join(it for it in lines if not re.match(of_tools, it))
@@ -261,7 +278,7 @@ class Clang(Compiler):
 
     def library(self, runtime):
         """The library as one file of LLVM's form."""
-        path, parts = runtime.place("library.bc"), runtime.objects(self.ending, *self.kind)
+        path, parts = runtime.place("library.bc"), runtime.all(runtime.sources(), self.ending, *self.kind)
         if not os.path.exists(path):
             draft = f"{path}.{os.getpid()}"
             subprocess.run([*self.linked("-mlink-bitcode-file", parts), *self.kind, "-O2", "-x", "c", os.devnull,

@@ -6,7 +6,7 @@ import subprocess
 import sys
 import tempfile
 
-from assembly import LAST, Assembly, started, where, without_traps
+from assembly import Assembly, destructor_of, started, where, without_traps
 from compilers import TOP, compiler_of, found_compiler, limited
 from fault import Fault
 from request import ending_of, request_of
@@ -14,7 +14,7 @@ from runtime import Runtime
 from telling import Teller, demangled
 
 sys.path[:0] = [f"{TOP}/tools/debug", f"{TOP}/tools"]
-from origins import Files, Origins
+from files import Files
 from standing import called, file_fault, make_stand
 
 # So many seconds of processor ./fit may take.
@@ -67,31 +67,28 @@ class Build:
         build.compiler.tells = True
         os.makedirs(build.work, exist_ok=True)
         text, _ = build.compiled(Runtime(build.compiler, build.work))
-        assembly = Assembly(started(text, self.has_parameters))
-        without_traps(assembly)
-        return assembly.text(), build.work
+        return without_traps(Assembly(started(text, self.has_parameters)))[0].text(), build.work
 
     def assembled(self):
         """Makes the assembly of all; returns the paths of its files."""
         runtime = Runtime(self.compiler, self.work)
         text, objects = self.compiled(runtime)
-        path = self.program
         say(self.compiler.told.rstrip("\n"))
         self.write_dependencies(objects)
-        last = LAST.search(text)
+        last = destructor_of(text)
         if last:
-            raise Fault(2, f"{self.request.name}: refused: {last[1]}: an __attribute__((destructor)) isn't taken: tell "
+            raise Fault(2, f"{self.request.name}: refused: {last}: an __attribute__((destructor)) isn't taken: tell "
                         "atexit of the function")
-        text = started(text, self.has_parameters)
-        self.assembly = Assembly(text)
-        helpers = runtime.helpers()
-        self.teller = Teller(self.request, Assembly(text), helpers, self.work)
-        say(*(self.trap(it) for it in without_traps(self.assembly)), self.has_parameters)
-        with open(path, "w", encoding="utf-8", errors="surrogateescape") as file:
-            file.write(self.assembly.text())
-        self.teller.assembly = Assembly(self.assembly.text())
+        assembly = Assembly(started(text, self.has_parameters))
+        helpers = [*self.compiler.taken(self.work), *runtime.helpers()]
+        self.teller = Teller(self.request, assembly, helpers, self.work)
+        assembly, traps = without_traps(assembly)
+        say(*(self.trap(it) for it in traps), self.has_parameters)
+        with open(self.program, "w", encoding="utf-8", errors="surrogateescape") as file:
+            file.write(assembly.text())
+        self.teller.assembly = assembly
         written = [it for it in self.request.files if ending_of(it) == ".s"]
-        return [*written, path, *helpers]
+        return [*written, self.program, *helpers]
 
     def trap(self, number):
         """What is told of a trap that a compiler put in."""
@@ -111,11 +108,17 @@ class Build:
             with open(target, "w", encoding="utf-8", errors="surrogateescape") as file:
                 file.write("".join(texts))
 
+    def given(self):
+        """What ./fit is given in the place of the assembly, with marks where it is asked which line a word is of."""
+        if not (self.request.is_traced or self.teller.has_namesakes):
+            return Files(self.made, self.work)
+        from origins import Origins  # (which most calls don't need)
+        return Origins(self.made, self.work)
+
     def fitted(self):
         """Compiles and fits; returns how ./fit ended."""
         self.made = self.assembled()
-        is_traced = self.request.is_traced or self.teller.has_namesakes
-        self.origins = (Origins if is_traced else Files)(self.made, self.work)
+        self.origins = self.given()
         words = [called("fit"), *self.origins.given, "-o", self.source, *self.request.fitting]
         ran, is_long = limited(words, SECONDS)
         if is_long:
@@ -131,9 +134,10 @@ class Build:
         if self.ran.returncode == 0:
             with open(self.source, encoding="utf-8", errors="surrogateescape") as file:
                 source = file.read()
-            self.mapped = self.origins.map_of(source, notes, self.teller.shown)
-            with open(self.source, "w", encoding="utf-8", errors="surrogateescape") as file:
-                file.write(self.origins.bare(source))
+            self.mapped, bare = self.origins.map_of(source, notes, self.teller.shown), self.origins.bare(source)
+            if bare != source:
+                with open(self.source, "w", encoding="utf-8", errors="surrogateescape") as file:
+                    file.write(bare)
 
     def keep(self):
         """Leaves what was made where --keep says."""

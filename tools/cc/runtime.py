@@ -23,7 +23,7 @@ class Runtime:
         self.compiler, self.request, self.work = compiler, compiler.request, work
         version = subprocess.run([compiler.path, "--version"], stdout=subprocess.PIPE, check=False).stdout
         settings = (version, compiler.target, compiler.kind, compiler.size_level, compiler.library_flags, HEADERS,
-                    PLUS, WORDS, self.request.arena, self.request.is_plus)
+                    PLUS, WORDS, compiler.apart, self.request.arena, self.request.is_plus)
         digest = hashlib.sha256(repr(settings).encode())
         for path in runtime_files():
             with open(path, "rb") as file:
@@ -58,18 +58,23 @@ class Runtime:
 
     def all(self, sources, ending, *words):
         """Compiles those of the library's sources that aren't kept, side by side; returns the paths of all."""
-        paths = {it: self.place(f"{os.path.basename(os.path.dirname(it))}-{os.path.basename(it)}{ending}")
-                 for it in sorted(sources)}
+        paths = {it: self.place(f"{self.name_of(it)}{ending}") for it in sorted(sources)}
         missing = [it for it in paths.items() if not os.path.exists(it[1])]
         if missing:
             self.tell()
         side_by_side(lambda it: self.make(*it, words), missing)
         return list(paths.values())
 
-    def objects(self, *words):
-        """The C library, and what C++ has of it."""
+    def name_of(self, source):
+        """What a part begins with that is made of a source, or of another part."""
+        folder, name = os.path.split(source)
+        return name if folder == self.folder else f"{os.path.basename(folder)}-{name}"
+
+    def sources(self, is_apart=False):
+        """The C library, and what C++ has of it: what is compiled with each program, or once and for all."""
         plus = glob.glob(f"{TOP}/runtime/cxx/*.cc") if self.request.is_plus else []
-        return self.all([*glob.glob(f"{TOP}/runtime/libc/*.c"), *plus], *words)
+        apart = [f"{TOP}/runtime/libc/{it}.c" for it in self.compiler.apart]
+        return apart if is_apart else [it for it in [*glob.glob(f"{TOP}/runtime/libc/*.c"), *plus] if it not in apart]
 
     def helpers(self):
         """What a compiler calls of itself: arithmetic of 64 bits and of floating point; and what no C can say."""

@@ -3,16 +3,14 @@
 ./fit tells of a word the line of C that its instruction had. So each instruction is given a file of its own,
 `name.c#0.123` for row 123 of the assembly with the number 0, in a copy that ./fit reads: then it tells the row, too.
 Code and exit words stay what they are, since of a line they have its number alone; but divisions that have one line
-share a file, since their tests share an end.
-
-Where ./fit knows no line it tells the row; so in each copy so many lines stand before the first one that no exit word
-has a row for a line of C."""
+share a file, since their tests share an end."""
 import bisect
 import os
 import re
 import sys
 
 from exits import NO_FUNCTION, Exits
+from files import PAD, Files
 from loaded import CODE, TOP
 from maps import MOST_LINE, NOTED, UNKNOWN, End, Fitted, Map, Origin, Place, Test
 
@@ -25,8 +23,6 @@ BRANCH = re.compile(r"b(?!tst|set|clr|tog)|call\b")
 JUMP = re.compile(r"\s+ba?(?:,a)?\s+(\.L\w+)\s*$")
 CALL = re.compile(r"\s*call\s+([\w.$]+)")
 REGISTER = re.compile(r"%(?!hi|lo)\w+")
-# A line that the compiler doesn't know; and so many lines stand before an assembly that has lines of C.
-UNTOLD, PAD = re.compile(r"^(\s*\.loc\s+\d+\s+)0\b", re.M), NO_LINE
 # A call through a pointer, and what leaves the begin of a constant in %o0.
 THROUGH, CONSTANT = re.compile(r"\s*(?:call|jmpl)\s+%"), re.compile(r"\s*(?:sethi\s+%hi\(|set\s+)(\d+)\)?,\s*%o0\s*$")
 # Conditions of branches that have two names, and those of the other ways.
@@ -137,49 +133,6 @@ class Marked:
         for row, line in self.told:
             out += [f".Lrow{self.number}.{row}:", line] if row else [line]
         return "\n".join(out) + "\n"
-
-
-class Files:
-    """The files of assembly of a program, and what ./fit is given in the place of those that have lines of C: so many
-    lines stand before them that a row is no line of C for an exit word, and of a line that isn't known ./fit is told.
-    It goes on with the line before else."""
-
-    def __init__(self, paths, folder):
-        self.given, self.paths = [], {}  # paths; that of the file that each is given for
-        for number, path in enumerate(paths):
-            with open(path, encoding="utf-8", errors="surrogateescape") as file:
-                text = file.read()
-            given = f"{folder}/{number}-{path.rpartition('/')[2]}" if ROWS.search(text) else path
-            self.given.append(given)
-            self.paths[given] = path
-            told = self.told_of(number, path, text)
-            if given != path:
-                with open(given, "w", encoding="utf-8", errors="surrogateescape") as file:
-                    file.write("\n" * PAD + told)
-
-    def told_of(self, _number, _path, text):
-        """The text for ./fit, of one with lines of C."""
-        return UNTOLD.sub(rf"\g<1>{NO_LINE}", text)
-
-    def row(self, _path, row):
-        """The row of a file of assembly, by that of the text for ./fit."""
-        return row
-
-    def bare(self, text):
-        """What ./fit made or told, with rows of files of assembly as these are."""
-        def with_row(found):
-            path = self.paths[found[1]]
-            return f"{path}:{self.row(path, int(found[2]) - PAD)}"
-        names = "|".join(re.escape(given) for given, path in self.paths.items() if given != path)
-        return re.sub(rf"({names}):(\d+)", with_row, text) if names else text
-
-    def told(self, text, _shown):
-        """What ./fit told."""
-        return self.bare(text)
-
-    @staticmethod
-    def map_of(_source, _notes, _shown):
-        """No map: where words come from isn't known."""
 
 
 class Origins(Files):
