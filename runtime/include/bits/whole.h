@@ -72,64 +72,77 @@ int __vsscanf_any(const char *, const char *, va_list) __asm__("vsscanf");
 
 #define __INLINE extern __inline __attribute__((__always_inline__, __gnu_inline__, __artificial__))
 
-/* On to the letter of the next conversion, which is of doubles, or may be; and behind it. A long double counts as
-   one. */
-#define __STEP \
-    __at += __builtin_strcspn(__at, "%"); \
-    __at += *__at != 0; \
-    __at += __builtin_strspn(__at, "-+ #'0123456789.*hljztq"); \
-    __doubles |= *__at == 'a' || *__at == 'A' || *__at == 'L'; \
-    __doubles |= (*__at >= 'E' && *__at <= 'G') || (*__at >= 'e' && *__at <= 'g'); \
-    __at += *__at != 0;
+/* What is asked of a format: whether it may convert a double, and whether it has a conversion that printf_short.c
+   hasn't. */
+enum { __DOUBLES = 1, __OTHERS = 2 };
 
-/* Whether a format may convert a double. In a set of scanf's (%[..]) a sign of a conversion counts as one, which is
-   on the safe side. */
-__INLINE int __converts_doubles(const char *__at) {
-    int __doubles = 0;
-    __STEP __STEP __STEP __STEP __STEP __STEP __STEP __STEP
-    __STEP __STEP __STEP __STEP __STEP __STEP __STEP __STEP
-    return __doubles || __at[__builtin_strcspn(__at, "%")];
-}
+/* The same of each letter, by its number; and 4 of the lengths that printf_short.c has: l, z and t, where a long is an
+   int. A long double counts as a double. */
+#define __16_OTHERS "\2\2\2\2\2\2\2\2\2\2\2\2\2\2\2\2"
+#define __LETTERS \
+    __16_OTHERS __16_OTHERS "\2\2\2\2\2\0\2\2\2\2\2\2\2\2\2\2" __16_OTHERS /* % */ \
+    "\2\3\2\2\2\3\3\3\2\2\2\2\3\2\2\2" /* A E F G L */ \
+    "\2\2\2\2\2\2\2\2\0\2\2\2\2\2\2\2" /* X */ \
+    "\2\3\2\0\0\3\3\3\2\0\2\2\6\2\2\0" /* a c d e f g i l o */ \
+    "\2\2\2\0\6\0\2\2\0\2\6\2\2\2\2\2" /* s t u x z */ \
+    __16_OTHERS __16_OTHERS __16_OTHERS __16_OTHERS __16_OTHERS __16_OTHERS __16_OTHERS __16_OTHERS
+#define __LETTER __letters[(unsigned char)*__at]
 
-/* Over one conversion; others is whether it is none that printf_short.c has: a width, - and 0, one of the lengths l, z
-   and t, a letter of whole numbers, c, s, or another %. */
-#define __STEP_SHORT \
+/* Over one conversion: up to it, to its letter, and behind that. Before its other flags and lengths stands what
+   printf_short.c has of these: a width, - and 0, and one length. The compiler goes through each step of each call, so
+   that there are few, and no branches. */
+#define __BEGIN \
     __at += __builtin_strcspn(__at, "%"); \
     __is_one = *__at != 0; \
-    __at += __is_one; \
+    __at += __is_one;
+#define __SHORT \
     __at += __builtin_strspn(__at, "-0123456789"); \
-    __at += sizeof(long) == sizeof(int) && (*__at == 'l' || *__at == 'z' || *__at == 't'); \
-    __others |= __is_one && __builtin_strspn(__at, "diuxXocs%") == 0; \
+    __at += sizeof(long) == sizeof(int) ? __LETTER >> 2 : 0; \
+    __found |= -__is_one & __LETTER & __OTHERS;
+#define __END \
+    __at += __builtin_strspn(__at, "-+ #'0123456789.*hljztq"); \
+    __found |= __LETTER & __DOUBLES; \
     __at += *__at != 0;
+#define __STEP __BEGIN __END
+#define __STEP_SHORT __BEGIN __SHORT __END
 
-__INLINE int __converts_others(const char *__at) {
-    int __others = 0, __is_one;
-    __STEP_SHORT __STEP_SHORT __STEP_SHORT __STEP_SHORT __STEP_SHORT __STEP_SHORT __STEP_SHORT __STEP_SHORT
-    __STEP_SHORT __STEP_SHORT __STEP_SHORT __STEP_SHORT __STEP_SHORT __STEP_SHORT __STEP_SHORT __STEP_SHORT
-    return __others || __at[__builtin_strcspn(__at, "%")];
+/* In a set of scanf's (%[..]) a sign of a conversion counts as one, which is on the safe side. */
+__INLINE int __converts_doubles(const char *__at) {
+    const char *const __letters = __LETTERS;
+    int __found = 0, __is_one;
+    __STEP __STEP __STEP __STEP __STEP __STEP __STEP __STEP
+    __STEP __STEP __STEP __STEP __STEP __STEP __STEP __STEP
+    return __at[__builtin_strcspn(__at, "%")] ? __DOUBLES : __found;
 }
 
-/* Whether the compiler finds that a format has none of these. A format whose first byte it doesn't know isn't looked
-   at: the loops that would look for them would stay there, though nobody asks what they find. */
-#define __HAS_NONE(find, format) \
-    __extension__({ \
-        int __found = !__builtin_constant_p(*(format)) || find(format); \
-        __builtin_constant_p(__found) && !__found; \
-    })
-#define __IS_WHOLE(format) __HAS_NONE(__converts_doubles, format)
-#define __IS_SHORT(format) __HAS_NONE(__converts_others, format)
+__INLINE int __converts_any(const char *__at) {
+    const char *const __letters = __LETTERS;
+    int __found = 0, __is_one;
+    __STEP_SHORT __STEP_SHORT __STEP_SHORT __STEP_SHORT __STEP_SHORT __STEP_SHORT __STEP_SHORT __STEP_SHORT
+    __STEP_SHORT __STEP_SHORT __STEP_SHORT __STEP_SHORT __STEP_SHORT __STEP_SHORT __STEP_SHORT __STEP_SHORT
+    return __at[__builtin_strcspn(__at, "%")] ? __DOUBLES | __OTHERS : __found;
+}
+
+/* What the compiler finds in a format. One whose first byte it doesn't know isn't looked at: the loops that look for
+   conversions would stay there, though nobody asks what they find. */
+#define __FOUND(converts, format) (__builtin_constant_p(*(format)) ? converts(format) : __DOUBLES | __OTHERS)
+#define __LACKS(found, what) (__builtin_constant_p(found) && !((found) & what))
 #define __CHOOSE(name, format, ...) \
-    if (__IS_WHOLE(format)) return __##name##_whole(__VA_ARGS__); \
+    const int __found = __FOUND(__converts_doubles, format); \
+    if (__LACKS(__found, __DOUBLES)) return __##name##_whole(__VA_ARGS__); \
+    return __##name##_any(__VA_ARGS__)
+#define __CHOOSE_SHORT(name, format, ...) \
+    const int __found = __FOUND(__converts_any, format); \
+    if (__LACKS(__found, __OTHERS)) return __##name##_short(__VA_ARGS__); \
+    if (__LACKS(__found, __DOUBLES)) return __##name##_whole(__VA_ARGS__); \
     return __##name##_any(__VA_ARGS__)
 #define __REST __builtin_va_arg_pack()
 
 __INLINE int printf(const char *__format, ...) {
-    if (__IS_SHORT(__format)) return __printf_short(__format, __REST);
-    __CHOOSE(printf, __format, __format, __REST);
+    __CHOOSE_SHORT(printf, __format, __format, __REST);
 }
 __INLINE int fprintf(FILE *__to, const char *__format, ...) {
-    if (__IS_SHORT(__format)) return __fprintf_short(__to, __format, __REST);
-    __CHOOSE(fprintf, __format, __to, __format, __REST);
+    __CHOOSE_SHORT(fprintf, __format, __to, __format, __REST);
 }
 __INLINE int sprintf(char *__to, const char *__format, ...) {
     __CHOOSE(sprintf, __format, __to, __format, __REST);
@@ -169,12 +182,18 @@ __INLINE int vsscanf(const char *__from, const char *__format, va_list __argumen
 }
 
 #undef __INLINE
+#undef __16_OTHERS
+#undef __LETTERS
+#undef __LETTER
+#undef __BEGIN
+#undef __SHORT
+#undef __END
 #undef __STEP
 #undef __STEP_SHORT
-#undef __HAS_NONE
-#undef __IS_WHOLE
-#undef __IS_SHORT
+#undef __FOUND
+#undef __LACKS
 #undef __CHOOSE
+#undef __CHOOSE_SHORT
 #undef __REST
 
 #endif
