@@ -16,8 +16,8 @@ static inline void quit(int word) { exit(word != 0); }
 #else
 
 typedef __SIZE_TYPE__ size_t;
+#undef NULL
 #define NULL 0
-
 /* The next byte of the input, 0 to 255; -1 at its end, and from then on. */
 static inline int get(void) {
     register int c __asm__("o0");
