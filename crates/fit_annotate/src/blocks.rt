@@ -1,6 +1,6 @@
 //! The steps of a block, and what ends it.
 use crate::program::ReadImage;
-use fit_code::{Block, End, SourceLine, Step};
+use fit_code::{Block, End, Instruction, SourceLine, Step};
 use sbx_image::{Function, Image, Kind};
 use std::mem::replace;
 use v8_formats::{Branch, Cond, Instr, Operand, Reg, Three, Trap, decode};
@@ -60,7 +60,7 @@ enum Word {
     Step(Step),
     /// How the block ends, what its end has in its slot, and whether that is for the way alone on which a branch is
     /// taken.
-    End(End, Option<Instr>, bool),
+    End(End, Option<Instruction>, bool),
 }
 
 /// `%g0,%g0,%g0`, which a leaf's return has.
@@ -107,11 +107,11 @@ impl BlockReading<'_> {
 
     /// The instruction in the slot of a transfer at an address; none where it does nothing. That of a return may be
     /// any.
-    fn slot(&self, address: u32, returns: bool) -> Result<Option<Instr>, Misplaced> {
+    fn slot(&self, address: u32, returns: bool) -> Result<Option<Instruction>, Misplaced> {
         let behind = address.saturating_add(4);
         match self.instr(behind) {
             Some(Instr::Sethi(fields)) if fields.rd == Reg::G0 => Ok(None),
-            Some(instr) if returns | is_plain(&instr) => Ok(Some(instr)),
+            Some(instr) if returns | is_plain(&instr) => Ok(Some(Instruction::of(instr))),
             Some(_) => Err(Misplaced(behind, What::Slot)),
             None => Err(Misplaced(address, What::NoSlot)),
         }
@@ -155,13 +155,14 @@ impl BlockReading<'_> {
         let is_framed = self.function.frame > 0;
         let slot = self.slot(address, true)?;
         let mut is_wrong = framed | is_framed;
-        if let Some(instr) = &slot {
+        if let Some(held) = &slot {
+            let instr = held.instr();
             if framed & is_framed
                 && let Instr::Restore(fields) = instr
             {
-                return Ok(Word::End(End::Return(*fields), None, false));
+                return Ok(Word::End(End::Return(fields), None, false));
             }
-            is_wrong |= !is_plain(instr);
+            is_wrong |= !is_plain(&instr);
         }
         if is_wrong {
             return Err(Misplaced(address, What::Return));
@@ -182,7 +183,7 @@ impl BlockReading<'_> {
             return Err(Misplaced(address, What::Call));
         }
         Ok(Word::Step(Step {
-            instr: Instr::Call(0),
+            instruction: Instruction::of(Instr::Call(0)),
             line: self.line(address),
             callee: Some(callee),
             object: None,
@@ -223,7 +224,7 @@ impl BlockReading<'_> {
     /// A step that is no call.
     fn step(&self, address: u32, instr: Instr) -> Step {
         Step {
-            instr,
+            instruction: Instruction::of(instr),
             line: self.line(address),
             callee: None,
             object: None,
@@ -235,7 +236,7 @@ impl BlockReading<'_> {
     fn end_block(
         &self,
         address: u32,
-        (mut end, mut slot, is_apart): (End, Option<Instr>, bool),
+        (mut end, mut slot, is_apart): (End, Option<Instruction>, bool),
         read: &mut ReadImage,
     ) {
         let (alloc, line) = (read.memory.alloc, self.line(address));
@@ -253,10 +254,10 @@ impl BlockReading<'_> {
                 end = End::Branch { cond, taken, next };
                 read.memory.push(&mut read.slots, block);
             }
-            (End::Return(_), Some(instr)) => {
+            (End::Return(_), Some(held)) => {
                 slot = None;
                 spared = 1;
-                let step = self.step(address.saturating_add(4), instr);
+                let step = self.step(address.saturating_add(4), held.instr());
                 read.memory.push(&mut read.steps, step);
             }
             _ => {}

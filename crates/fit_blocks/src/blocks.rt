@@ -5,7 +5,9 @@ use crate::plain::step_of;
 use crate::points::{ControlFlow, Layout, Point, is_call_through_pointer, name_of, points_of};
 use crate::slots::{frame_and_start, leads_of, may_go_before, number_marked};
 use crate::stops::Stops;
-use fit_code::{Block, End, Function, RegisterSet, SourceLine, Step, operands_read, writes};
+use fit_code::{
+    Block, End, Function, Instruction, RegisterSet, SourceLine, Step, operands_read, writes,
+};
 use fit_gas::{CodeBody, owned};
 use std::mem;
 use v8_formats::{Instr, Operand, Three};
@@ -159,7 +161,7 @@ impl Builder<'_, '_> {
     /// Whether what stands in the slot of a call at a place writes one of some registers.
     fn slot_writes(&mut self, place: usize, registers: RegisterSet, line: SourceLine) -> bool {
         match self.slot(place, line) {
-            Some(slot) => !writes(&slot.instr).is_disjoint(registers),
+            Some(slot) => !writes(&slot.instr()).is_disjoint(registers),
             None => false,
         }
     }
@@ -242,7 +244,7 @@ pub fn result_register() -> Reg {
 
 /// The registers that a call through a pointer reads.
 fn pointer_read(step: &Step) -> RegisterSet {
-    match step.instr {
+    match step.instr() {
         Instr::Jmpl(pointer) => operands_read(pointer.rs1, pointer.operand2),
         _ => RegisterSet::NONE,
     }
@@ -250,7 +252,7 @@ fn pointer_read(step: &Step) -> RegisterSet {
 
 /// What leaves the pointer of a call in the register for that.
 fn passing_step(step: &Step) -> Step {
-    let instr = match step.instr {
+    let instr = match step.instr() {
         Instr::Jmpl(pointer) => Instr::Add(Three {
             rd: pointer_register(),
             rs1: pointer.rs1,
@@ -265,7 +267,7 @@ fn passing_step(step: &Step) -> Step {
 fn plain_call(step: &Step) -> Step {
     let mut call = *step;
     if is_call_through_pointer(step) {
-        call.instr = Instr::Call(0);
+        call.instruction = Instruction::of(Instr::Call(0));
     }
     call
 }

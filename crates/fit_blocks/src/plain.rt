@@ -1,7 +1,7 @@
 //! Steps that compilers wrote, in forms of which more is known.
 mod steps;
 
-use fit_code::{Heap, Step};
+use fit_code::{Heap, Instruction, Step};
 pub use steps::step_of;
 use v8_formats::{Instr, Operand, Three};
 use v8_word::Reg;
@@ -41,6 +41,32 @@ fn place_in(order: &[usize], code: usize) -> usize {
     0
 }
 
+/// An instruction in forms of which more is known, with the move that stands before it, if one does.
+fn plain_of(instr: &Instr) -> (Option<Instr>, Instr) {
+    match *instr {
+        Instr::OrCc(fields) => match named_alone(&fields) {
+            Some(register) if fields.rd == Reg::G0 => (None, against_zero(register)),
+            Some(_) => (Some(Instr::Or(fields)), against_zero(fields.rd)),
+            None => (None, *instr),
+        },
+        Instr::Add(
+            Three {
+                rd,
+                rs1,
+                operand2: Operand::Register(second),
+            },
+        ) if (rs1 == second) & (second != Reg::G0) => {
+            let shift = Instr::Sll(Three {
+                rd,
+                rs1,
+                operand2: Operand::Immediate(1),
+            });
+            (None, shift)
+        }
+        other => (None, other),
+    }
+}
+
 /// Pushes a step in forms of which more is known: `tst r` as `cmp r,0`, `orcc a,0,d` as a move and a compare of `d`
 /// with 0, and a number added to itself as a shift. A call gets the number of its callee in the program, of whose
 /// functions `order` has the numbers in the source.
@@ -49,31 +75,19 @@ pub fn push_plain(memory: &mut Heap, steps: &mut Vec<Step>, step: &Step, order: 
         Some(callee) => Some(place_in(order, callee)),
         None => None,
     };
-    let instr = match step.instr {
-        Instr::OrCc(fields) => match named_alone(&fields) {
-            Some(register) if fields.rd == Reg::G0 => against_zero(register),
-            Some(_) => {
-                let instr = Instr::Or(fields);
-                memory.push(steps, Step { instr, ..*step });
-                against_zero(fields.rd)
-            }
-            None => step.instr,
-        },
-        Instr::Add(
-            Three {
-                rd,
-                rs1,
-                operand2: Operand::Register(second),
+    let (before, instr) = plain_of(&step.instr());
+    if let Some(before) = before {
+        let instruction = Instruction::of(before);
+        memory.push(
+            steps,
+            Step {
+                instruction,
+                ..*step
             },
-        ) if (rs1 == second) & (second != Reg::G0) => Instr::Sll(Three {
-            rd,
-            rs1,
-            operand2: Operand::Immediate(1),
-        }),
-        other => other,
-    };
+        );
+    }
     let step = Step {
-        instr,
+        instruction: Instruction::of(instr),
         callee,
         ..*step
     };

@@ -8,7 +8,7 @@ mod needed;
 use crate::plain::step_of;
 use crate::points::flow::flow_of;
 pub use fields::{MemoryAccess, access_of, signed};
-use fit_code::Step;
+use fit_code::{Instruction, Step};
 use fit_gas::{AddressPart, CodeBody, SymbolPlace, with_part};
 pub use layout::{Layout, layout_of, name_of, pointer_word};
 use v8_formats::{Instr, Three, decode};
@@ -42,7 +42,7 @@ pub struct Point {
 
 /// Whether a step that is no return is a call through a pointer.
 pub fn is_call_through_pointer(step: &Step) -> bool {
-    matches!(step.instr, Instr::Jmpl(_))
+    matches!(step.instr(), Instr::Jmpl(_))
 }
 
 /// The instructions of a function, by its number in the source. What stops it is noted: an instruction that sandboxed
@@ -58,7 +58,11 @@ pub fn points_of(layout: &mut Layout, number: usize, code: &CodeBody) -> Vec<Poi
             let symbol = reference.symbol;
             if !matches!(reference.part, AddressPart::Target) {
                 let (object, address) = layout.reach(symbol, reference.offset, item.line);
-                step.instr = decode(with_part(item.word, reference.part, address));
+                step.instruction = Instruction::of(decode(with_part(
+                    item.word,
+                    reference.part,
+                    address,
+                )));
                 step.object = object;
                 if let Some(named) = object {
                     layout.name_outside(named, address);
@@ -71,7 +75,7 @@ pub fn points_of(layout: &mut Layout, number: usize, code: &CodeBody) -> Vec<Poi
                 }
             }
         }
-        let flow = match flow_of(&step.instr, to) {
+        let flow = match flow_of(&step.instr(), to) {
             Ok(flow) => flow,
             Err(stop) => {
                 layout.stops.note(item.line, stop);

@@ -144,7 +144,7 @@ impl Asking<'_> {
             return_from(self.ranges.results(), callee, state);
             return lack;
         }
-        let effects = effects_of(frame, &step.instr);
+        let effects = effects_of(frame, &step.instr());
         // a frame word before registers
         let mut lack = match effects.word_read {
             Some(word) if state.range(word).is_none() => Some(NotShown::Defined(word)),
@@ -152,7 +152,7 @@ impl Asking<'_> {
         };
         if lack.is_none() {
             let [first, second] = trace.at(place);
-            lack = match (operation_of(&step.instr), first, second) {
+            lack = match (operation_of(&step.instr()), first, second) {
                 (Operation::Divide(_, fields), _, Some(range)) if !excludes_zero(range) => {
                     Some(NotShown::Divisible(fields.operand2, range))
                 }
@@ -164,7 +164,7 @@ impl Asking<'_> {
                 _ => None,
             };
         }
-        state.transfer(frame, &step.instr);
+        state.transfer(frame, &step.instr());
         lack
     }
 

@@ -84,7 +84,7 @@ fn object_of_sum(program: &Program, held: &Held, fields: &Three, state: &State) 
 
 /// The object whose address a step leaves in a register, where the state is that before the step.
 fn object_behind(program: &Program, held: &Held, step: &Step, state: &State) -> Option<usize> {
-    match &step.instr {
+    match &step.instr() {
         // the low half of an address that is named
         Instr::Add(_) | Instr::Or(_) if step.object.is_some() => step.object,
         Instr::Add(fields) | Instr::Or(fields) => object_of_sum(program, held, fields, state),

@@ -13,7 +13,8 @@ use crate::plans::{SUM, Test, TestKind, TestPlan, TestWay, plan_of, subtracting,
 use crate::undefined::clear_undefined;
 use crate::upper::write_upper;
 use fit_code::{
-    Block, End, Fault, Function, Heap, NO_LINE, Program, Reason, RegisterSet, with_operands,
+    Block, End, Fault, Function, Heap, Instruction, NO_LINE, Program, Reason, RegisterSet,
+    with_operands,
 };
 use fit_graph::{enter, range_in, start};
 use fit_ranges::Ranges;
@@ -207,7 +208,7 @@ fn join_address(blocks: &mut [Block], ask: &Ask, access: &UnshownAccess) -> Opti
         && rs1.number() != SUM
     {
         let (rd, step) = (register(SUM), &mut blocks[ask.block].steps[ask.place]);
-        step.instr = with_operands(&step.instr, rd, Operand::Immediate(0));
+        step.instruction = Instruction::of(with_operands(&step.instr(), rd, Operand::Immediate(0)));
         return Some(Instr::Add(Three { rd, rs1, operand2 }));
     }
     None
@@ -412,8 +413,9 @@ impl Tests {
                 // what a test tells an end is told by a step where there is no other way
                 let (slot, line) = (block.slot, block.line);
                 block.slot = None;
-                if first {
-                    push_instrs(&mut self.memory, &mut block.steps, &[slot], line);
+                if first && let Some(held) = slot {
+                    let told = Some(held.instr());
+                    push_instrs(&mut self.memory, &mut block.steps, &[told], line);
                 }
                 self.memory.push(&mut self.changed, (function, number));
             }

@@ -82,7 +82,7 @@ impl Carried {
         }
         for step in steps {
             let effects = effects_in(frame, step);
-            let is_computed = matches!(operation_of(&step.instr), Operation::Compute(..));
+            let is_computed = matches!(operation_of(&step.instr()), Operation::Compute(..));
             let reads = if is_computed & step.callee.is_none() {
                 effects.reads.registers()
             } else {

@@ -24,7 +24,7 @@ fn globals_of_step(step: &Step, known: &[RegisterSet]) -> RegisterSet {
     match step.callee {
         Some(callee) if callee < known.len() => known[callee],
         Some(_) => GLOBALS,
-        None => writes(&step.instr).intersection(GLOBALS),
+        None => writes(&step.instr()).intersection(GLOBALS),
     }
 }
 
@@ -75,7 +75,7 @@ fn live_at_end(
         }
     }
     if let Some(slot) = &block.slot {
-        let effects = effects_of(function.frame, slot);
+        let effects = effects_of(function.frame, &slot.instr());
         registers = registers.before(effects.reads, effects.writes);
     }
     registers.union(read_at_end(function, results, &block.end))
@@ -114,7 +114,7 @@ fn lost_in_block(
             }
             live = live.before(kept, GLOBALS);
         } else {
-            let effects = effects_of(function.frame, &step.instr);
+            let effects = effects_of(function.frame, &step.instr());
             live = live.before(effects.reads, effects.writes);
         }
     }

@@ -69,7 +69,7 @@ fn behind_step(frame: u32, step: &Step, known: KnownUpper) -> KnownUpper {
     let found = if written.is_disjoint(RegisterSet::Y) {
         known
     } else {
-        again(&step.instr)
+        again(&step.instr())
     };
     kept(found, written.registers())
 }
@@ -87,7 +87,7 @@ fn before_step(frame: u32, steps: &[Step], place: usize, known: KnownUpper) -> K
 fn at_end(frame: u32, block: &Block, known: KnownUpper) -> KnownUpper {
     let found = before_step(frame, block.steps.as_slice(), block.steps.len(), known);
     match &block.slot {
-        Some(slot) => kept(found, writes(slot)),
+        Some(slot) => kept(found, writes(&slot.instr())),
         None => found,
     }
 }

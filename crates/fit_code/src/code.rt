@@ -1,4 +1,5 @@
 //! Programs between reading and printing.
+use crate::instruction::Instruction;
 use sbx_parts::Range;
 use v8_formats::{Instr, Three};
 use v8_word::Cond;
@@ -20,7 +21,7 @@ pub const NO_LINE: SourceLine = SourceLine { file: 0, number: 0 };
 #[derive(Clone, Copy)]
 pub struct Step {
     /// The instruction. Of a call it is CALL with displacement 0.
-    pub instr: Instr,
+    pub instruction: Instruction,
     /// The line of C that it comes from; where none is known, the line of assembly.
     pub line: SourceLine,
     /// The number of the function that is called.
@@ -28,7 +29,7 @@ pub struct Step {
     /// The number of the object whose address, or an address within which, its number is a part of.
     pub object: Option<usize>,
     /// What a call has in its delay slot; nothing is as NOP.
-    pub slot: Option<Instr>,
+    pub slot: Option<Instruction>,
 }
 
 /// How a block ends. Blocks are named by their numbers in the function.
@@ -55,7 +56,7 @@ pub struct Block {
     pub steps: Vec<Step>,
     pub end: End,
     /// What the end has in its delay slot, on each way; nothing is as NOP. None while passes before placing go over it.
-    pub slot: Option<Instr>,
+    pub slot: Option<Instruction>,
     /// The line of its end.
     pub line: SourceLine,
 }
@@ -109,6 +110,13 @@ pub struct Program {
     pub regions: Vec<Region>,
     /// The names of the files of lines.
     pub files: Vec<String>,
+}
+
+impl Step {
+    /// Its instruction.
+    pub fn instr(&self) -> Instr {
+        self.instruction.instr()
+    }
 }
 
 impl End {

@@ -184,7 +184,8 @@ impl Block {
         };
         for step in self.steps.as_slice() {
             if step.callee.is_none() {
-                let (reads, writes) = uses_of(&step.instr, &operation_of(&step.instr));
+                let instr = step.instr();
+                let (reads, writes) = uses_of(&instr, &operation_of(&instr));
                 named.add(reads.union(writes));
             }
         }

@@ -6,6 +6,7 @@
 mod code;
 mod effects;
 mod fault;
+mod instruction;
 mod memory;
 mod operands;
 mod registers;
@@ -14,6 +15,7 @@ mod ways;
 pub use code::{Block, End, Function, NO_LINE, Object, Program, Region, SourceLine, Step};
 pub use effects::{is_compare, is_logic_compare, named_by, operands_read, reads, uses_of, writes};
 pub use fault::{Fault, JUMP_THROUGH_POINTER, Naming, Reason};
+pub use instruction::Instruction;
 pub use memory::Heap;
 pub use operands::{fields_of, is_same, with_operands, with_target};
 pub use registers::RegisterSet;

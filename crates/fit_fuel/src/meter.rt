@@ -1,6 +1,6 @@
 //! A meter in turns: a register, or a word of the frame, that a function counts down at places which stand on each
 //! round of its loops; and what those places take.
-use fit_code::{Block, End, Function, Heap, Step};
+use fit_code::{Block, End, Function, Heap, Instruction, Step};
 use v8_formats::{Cond, Instr, Operand, Reg, Three, Upper};
 
 /// What a function counts its turns by.
@@ -78,13 +78,13 @@ pub fn counting_step(block: &Block) -> Option<(usize, Three)> {
     let steps = block.steps.as_slice();
     let mut count = steps.len();
     if let Some(last) = steps.last()
-        && let Instr::Sethi(_) = last.instr
+        && let Instr::Sethi(_) = last.instr()
     {
         count = count.saturating_sub(1);
     }
     let place = count.saturating_sub(1);
     if place < steps.len()
-        && let Instr::SubCc(fields) = steps[place].instr
+        && let Instr::SubCc(fields) = steps[place].instr()
     {
         return Some((place, fields));
     }
@@ -95,7 +95,7 @@ pub fn counting_step(block: &Block) -> Option<(usize, Three)> {
 fn scratch_before(meter: &Meter, steps: &[Step], place: usize) -> u32 {
     let mut number: u32 = 0;
     for (at, step) in steps.iter().enumerate() {
-        number = match step.instr {
+        number = match step.instr() {
             Instr::Sethi(fields) if at < place && fields.rd == meter.scratch => {
                 fields.imm22.wrapping_mul(1024)
             }
@@ -145,7 +145,7 @@ pub fn places_of(memory: &mut Heap, meter: &Meter, function: &Function) -> Vec<u
 fn steps_before(meter: &Meter, steps: &[Step]) -> usize {
     let mut count: usize = 0;
     for place in 0..steps.len() {
-        if let Instr::Load(_) = steps[place].instr
+        if let Instr::Load(_) = steps[place].instr()
             && meter.has_word()
         {
             count = place.saturating_add(1);
@@ -167,7 +167,7 @@ pub fn set_weight(meter: &Meter, block: &mut Block, weight: u32, memory: &mut He
     for instr in &counting(meter, weight) {
         if let Some(instr) = *instr {
             let step = Step {
-                instr,
+                instruction: Instruction::of(instr),
                 line: block.line,
                 callee: None,
                 object: None,

@@ -11,7 +11,7 @@ const MASK: u8 = 5;
 
 /// Whether a step, which is no call, writes a register, as what points into the soft stack.
 pub fn moves(step: &Step, pointer: Reg) -> bool {
-    step.callee.is_none() && writes(&step.instr).contains(pointer)
+    step.callee.is_none() && writes(&step.instr()).contains(pointer)
 }
 
 /// Sets a register to the difference of two.
@@ -27,7 +27,7 @@ fn difference(rd: u8, rs1: u8, second: u8) -> Three {
 /// with the most that there may be: it is within, whatever that gives.
 pub fn push_moved(memory: &mut Heap, steps: &mut Vec<Step>, step: &Step, place: &StackPlace) {
     let (line, pointer) = (step.line, place.stack.register.number());
-    let moved = with_target(&step.instr, register(NUMBER));
+    let moved = with_target(&step.instr(), register(NUMBER));
     push_step(memory, steps, moved, step.object, line);
     push_number(memory, steps, BASE, place.start, line);
     let far = Instr::Sub(difference(NUMBER, NUMBER, BASE));
@@ -44,7 +44,7 @@ pub fn push_moved(memory: &mut Heap, steps: &mut Vec<Step>, step: &Step, place: 
 /// The number of the register to which a step moves the way back, %o7, or from which it moves one there; and whether it
 /// is that.
 pub fn way_moved(step: &Step) -> Option<(u8, bool)> {
-    let Instr::Or(Three { rd, rs1, operand2 }) = step.instr else {
+    let Instr::Or(Three { rd, rs1, operand2 }) = step.instr() else {
         return None;
     };
     match operand2 {

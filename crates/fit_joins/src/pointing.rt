@@ -2,7 +2,7 @@
 use crate::keeping::{BASE, push_step};
 use fit_blocks::{pointer_register, pointer_word, result_register};
 use fit_checks::{push_block, register};
-use fit_code::{Block, End, Function, Heap, NO_LINE, Step};
+use fit_code::{Block, End, Function, Heap, Instruction, NO_LINE, Step};
 use v8_formats::{Cond, Instr, Operand, Reg, Three, Upper};
 
 /// The exit word of a run that calls through what is no pointer to a function, but for the line.
@@ -42,7 +42,7 @@ fn push_none(memory: &mut Heap, blocks: &mut Vec<Block>) {
 /// Pushes a block that calls a function, by its number in the source, and returns; gives its number.
 fn push_caller(memory: &mut Heap, blocks: &mut Vec<Block>, callee: usize) -> usize {
     let call = Step {
-        instr: Instr::Call(0),
+        instruction: Instruction::of(Instr::Call(0)),
         line: NO_LINE,
         callee: Some(callee),
         object: None,

@@ -2,7 +2,7 @@
 //! arguments that its callers leave at `%sp + 64` and behind: the address of a struct that is returned, the seventh
 //! argument and further ones. The others have them on the soft stack, where their callers leave them.
 use fit_blocks::{MemoryAccess, access_of, signed};
-use fit_code::{Block, End, Function, Heap, Step, with_operands};
+use fit_code::{Block, End, Function, Heap, Instruction, Step, with_operands};
 use v8_formats::{Instr, Operand, Three, Upper};
 use v8_word::{Reg, reg_at};
 
@@ -26,7 +26,7 @@ pub fn in_object(object: usize, address: u32, step: &Step, made: Option<Reg>) ->
             let rs1 = rd;
             (rd, Instr::Or(Three { rd, rs1, operand2 }))
         }
-        None => (scratch(), with_operands(&step.instr, scratch(), operand2)),
+        None => (scratch(), with_operands(&step.instr(), scratch(), operand2)),
     };
     let high = Instr::Sethi(Upper {
         rd: base,
@@ -34,12 +34,12 @@ pub fn in_object(object: usize, address: u32, step: &Step, made: Option<Reg>) ->
     });
     let object = Some(object);
     let first = Step {
-        instr: high,
+        instruction: Instruction::of(high),
         object,
         ..*step
     };
     let second = Step {
-        instr,
+        instruction: Instruction::of(instr),
         object,
         ..*step
     };
@@ -65,7 +65,7 @@ impl Argument {
 
     /// Whether a step of a function with a window stores something else in all of its place.
     fn is_lost_by(&self, step: &Step) -> bool {
-        if let Some(access) = access_of(&step.instr)
+        if let Some(access) = access_of(&step.instr())
             && access.stores
             && let Some(stored) = argument_at(&access, Reg::SP, 0)
         {
@@ -246,7 +246,7 @@ fn stored_for(
 fn room_taken_in(block: &Block) -> i64 {
     let mut most: i64 = 0;
     for step in block.steps.as_slice() {
-        if let Instr::Add(fields) | Instr::Sub(fields) = step.instr
+        if let Instr::Add(fields) | Instr::Sub(fields) = step.instr()
             && fields.rd == Reg::SP
             && let Operand::Immediate(number) = fields.operand2
         {
@@ -270,10 +270,10 @@ fn room_taken(function: &Function) -> i64 {
 /// What a step reaches behind a register, and how many bytes of it, as far as it may be an argument in memory: where it
 /// takes the address of one, all there may be.
 fn reach_of(step: &Step) -> Option<(Three, i64)> {
-    match step.instr {
+    match step.instr() {
         Instr::Add(fields) if fields.rd != Reg::SP => Some((fields, BYTES as i64)),
         _ => {
-            let access = access_of(&step.instr)?;
+            let access = access_of(&step.instr())?;
             Some((access.fields, i64::from(access.bytes)))
         }
     }
@@ -330,7 +330,7 @@ fn block_leaves_for_soft(
     }
     for (place, step) in blocks[number].steps.as_slice().iter().enumerate() {
         let at = (number, place);
-        if let Some(access) = access_of(&step.instr)
+        if let Some(access) = access_of(&step.instr())
             && access.stores
             && let Some(argument) = argument_at(&access, Reg::SP, 0)
             && let Ok(Some(callee)) = stored_for(memory, blocks, at, &argument, callees)
@@ -388,7 +388,7 @@ pub fn argument_of(
     step: &Step,
     callees: Callees,
 ) -> Result<Option<ReachedPlace>, &'static str> {
-    let Some((access, made)) = access_or_sum(&step.instr) else {
+    let Some((access, made)) = access_or_sum(&step.instr()) else {
         return Ok(None);
     };
     let base = if framed { Reg::FP } else { Reg::SP };

@@ -11,7 +11,8 @@ use crate::places::{
 };
 use fit_blocks::{Layout, Stops, signed};
 use fit_code::{
-    Block, End, Function, Heap, RegisterSet, Step, operands_read, reads, with_operands, writes,
+    Block, End, Function, Heap, Instruction, RegisterSet, Step, operands_read, reads,
+    with_operands, writes,
 };
 use fit_gas::{owned, word_of};
 use v8_formats::{Instr, Operand, Three, Upper};
@@ -59,7 +60,7 @@ fn next_register(register: Reg) -> Reg {
 
 /// A step, by %sp where it spills words, a double word as two.
 fn spilled(step: &Step, size: u32) -> (Step, Option<Step>) {
-    let Some((access, place)) = word_place(&step.instr, size) else {
+    let Some((access, place)) = word_place(&step.instr(), size) else {
         return (*step, None);
     };
     let rd = access.fields.rd;
@@ -75,7 +76,7 @@ fn spilled(step: &Step, size: u32) -> (Step, Option<Step>) {
 
 /// Whether a step reads %sp or %fp.
 fn uses_frame(step: &Step) -> bool {
-    step.callee.is_none() && !reads(&step.instr).is_disjoint(RegisterSet::STACK)
+    step.callee.is_none() && !reads(&step.instr()).is_disjoint(RegisterSet::STACK)
 }
 
 /// What a step does with a frame of some size that has an object in its place, as `argument_of` tells it; and the step
@@ -87,13 +88,13 @@ fn reached(step: &Step, object: usize, size: u32) -> Result<Option<ReachedPlace>
     if !uses_frame(step) {
         return Ok(None);
     }
-    if let Some((access, place)) = place_accessed(&step.instr, size) {
+    if let Some((access, place)) = place_accessed(&step.instr(), size) {
         let end = place.saturating_add(i64::from(access.bytes));
         if (place < 0) | (i64::from(size) < end) {
             return Err("an access to the stack outside of its frame");
         }
         Ok(Some((object, place, None, None)))
-    } else if let Some((place, rd)) = address_made(&step.instr, size) {
+    } else if let Some((place, rd)) = address_made(&step.instr(), size) {
         Ok(Some((object, place, Some(rd), None)))
     } else if let Some((base, moved)) = by_scratch(step, object, size) {
         Ok(Some((object, base, Some(scratch()), Some(moved))))
@@ -113,11 +114,17 @@ pub fn push_softened(
 ) -> bool {
     if !uses_frame(step) {
         memory.push(steps, *step);
-    } else if let Some((_, place)) = place_accessed(&step.instr, size) {
+    } else if let Some((_, place)) = place_accessed(&step.instr(), size) {
         let operand2 = push_offset(memory, steps, step, place);
-        let instr = with_operands(&step.instr, register, operand2);
-        memory.push(steps, Step { instr, ..*step });
-    } else if let Some((place, rd)) = address_made(&step.instr, size) {
+        let instr = with_operands(&step.instr(), register, operand2);
+        memory.push(
+            steps,
+            Step {
+                instruction: Instruction::of(instr),
+                ..*step
+            },
+        );
+    } else if let Some((place, rd)) = address_made(&step.instr(), size) {
         push_address(memory, steps, step, (rd, register, place));
     } else if let Some((base, moved)) = by_scratch(step, 0, size) {
         push_address(memory, steps, step, (scratch(), register, base));
@@ -142,14 +149,26 @@ fn push_offset(memory: &mut Heap, steps: &mut Vec<Step>, step: &Step, number: i6
     let rd = scratch();
     let imm22 = word_of(number) >> 10;
     let instr = Instr::Sethi(Upper { rd, imm22 });
-    memory.push(steps, Step { instr, ..*step });
+    memory.push(
+        steps,
+        Step {
+            instruction: Instruction::of(instr),
+            ..*step
+        },
+    );
     let operand2 = Operand::Immediate(word_of(number) & 0x3ff);
     let instr = Instr::Or(Three {
         rd,
         rs1: rd,
         operand2,
     });
-    memory.push(steps, Step { instr, ..*step });
+    memory.push(
+        steps,
+        Step {
+            instruction: Instruction::of(instr),
+            ..*step
+        },
+    );
     Operand::Register(rd)
 }
 
@@ -162,12 +181,18 @@ pub fn push_address(
 ) {
     let operand2 = push_offset(memory, steps, step, number);
     let instr = Instr::Add(Three { rd, rs1, operand2 });
-    memory.push(steps, Step { instr, ..*step });
+    memory.push(
+        steps,
+        Step {
+            instruction: Instruction::of(instr),
+            ..*step
+        },
+    );
 }
 
 /// Whether a step takes room from %sp, in a function that has no window.
 fn takes_room(framed: bool, step: &Step) -> bool {
-    !framed && writes(&step.instr).contains(Reg::SP)
+    !framed && writes(&step.instr()).contains(Reg::SP)
 }
 
 /// Whether a function uses its frame of some size; and whether for more than to spill words. It is a fault where a step
@@ -206,11 +231,11 @@ fn use_of_block(stops: &mut Stops, framed: bool, block: &Block, size: u32) -> (b
     for step in block.steps.as_slice() {
         if takes_room(framed, step) {
             continue;
-        } else if !writes(&step.instr).is_disjoint(RegisterSet::STACK) {
+        } else if !writes(&step.instr()).is_disjoint(RegisterSet::STACK) {
             stops.form(step.line, UNKNOWN_SIZE);
         } else if uses_frame(step) {
             is_used = true;
-            is_more |= word_place(&step.instr, size).is_none();
+            is_more |= word_place(&step.instr(), size).is_none();
         }
     }
     (is_used, is_more)
@@ -376,7 +401,7 @@ fn room_of_block(stops: &mut Stops, block: &Block) -> i64 {
     let mut most: i64 = -1;
     for step in block.steps.as_slice() {
         if takes_room(false, step) {
-            if let Instr::Add(fields) | Instr::Sub(fields) = step.instr
+            if let Instr::Add(fields) | Instr::Sub(fields) = step.instr()
                 && fields.rs1 == Reg::SP
                 && let Operand::Immediate(number) = fields.operand2
             {

@@ -2,7 +2,9 @@
 //! And those that keep their way back, or go by one that was kept: `setjmp` and `longjmp`.
 use crate::frames::{push_address, push_softened};
 use fit_blocks::{access_of, signed, step_of};
-use fit_code::{Block, End, Function, Heap, RegisterSet, SourceLine, Step, is_same, reads, writes};
+use fit_code::{
+    Block, End, Function, Heap, Instruction, RegisterSet, SourceLine, Step, is_same, reads, writes,
+};
 use fit_joins::WayBack;
 use std::slice;
 use v8_formats::{Instr, Operand, Three};
@@ -18,7 +20,7 @@ const ARGUMENTS: i64 = 64 + 512;
 
 /// Whether a step, which is no call, writes %sp.
 fn moves(step: &Step) -> bool {
-    step.callee.is_none() && writes(&step.instr).contains(Reg::SP)
+    step.callee.is_none() && writes(&step.instr()).contains(Reg::SP)
 }
 
 /// Whether a function writes %sp.
@@ -32,7 +34,7 @@ pub fn moves_stack(function: &Function) -> bool {
 
 /// Whether a step is a move of one register to another one.
 fn is_copy(step: &Step, from: Reg, to: Reg) -> bool {
-    step.callee.is_none() && is_same(&step.instr, &copy_of(from, to))
+    step.callee.is_none() && is_same(&step.instr(), &copy_of(from, to))
 }
 
 /// What a function without a window does with the way back to its caller, by its name and by a move of %o7 as in the
@@ -107,7 +109,7 @@ pub fn arguments_end(function: &Function) -> i64 {
 fn arguments_end_in(block: &Block) -> i64 {
     let mut least = ARGUMENTS;
     for step in block.steps.as_slice() {
-        if let Instr::Add(fields) = step.instr
+        if let Instr::Add(fields) = step.instr()
             && (fields.rs1 == Reg::SP) & (fields.rd != Reg::SP)
             && let Operand::Immediate(number) = fields.operand2
         {
@@ -119,7 +121,7 @@ fn arguments_end_in(block: &Block) -> i64 {
 
 /// Whether a step is an access by %sp from so many bytes on.
 fn is_behind(step: &Step, from: i64) -> bool {
-    match access_of(&step.instr) {
+    match access_of(&step.instr()) {
         Some(access) => match access.fields.operand2 {
             Operand::Immediate(number) => {
                 (access.fields.rs1 == Reg::SP) & (from <= signed(number))
@@ -158,16 +160,25 @@ pub fn push_moving(
         memory.push(steps, *step);
         return true;
     }
-    let read = reads(&step.instr).intersection(RegisterSet::STACK);
+    let read = reads(&step.instr()).intersection(RegisterSet::STACK);
     if !moves(step) {
         let register = if is_by_frame(step) { base } else { pointer };
         return (read != RegisterSet::STACK) & push_softened(memory, steps, step, register, size);
     }
-    match step.instr {
+    match step.instr() {
         Instr::Load(fields) if is_by_frame(step) => {
             let rd = pointer;
             let instr = Instr::Load(Three { rd, ..fields });
-            push_softened(memory, steps, &Step { instr, ..*step }, base, size)
+            push_softened(
+                memory,
+                steps,
+                &Step {
+                    instruction: Instruction::of(instr),
+                    ..*step
+                },
+                base,
+                size,
+            )
         }
         _ if is_by_frame(step) => false,
         _ => push_move(memory, steps, step, pointer),
@@ -176,20 +187,26 @@ pub fn push_moving(
 
 /// Whether a step, which is no call, reads %fp.
 pub fn is_by_frame(step: &Step) -> bool {
-    step.callee.is_none() && reads(&step.instr).contains(Reg::FP)
+    step.callee.is_none() && reads(&step.instr()).contains(Reg::FP)
 }
 
 /// Pushes a sum, a difference, a move or a load by which the stack pointer gets another word, with what points into the
 /// soft stack in its place; says whether it is one of these.
 fn push_move(memory: &mut Heap, steps: &mut Vec<Step>, step: &Step, pointer: Reg) -> bool {
-    let instr = match step.instr {
+    let instr = match step.instr() {
         Instr::Add(fields) => Instr::Add(with_pointer(&fields, pointer)),
         Instr::Sub(fields) => Instr::Sub(with_pointer(&fields, pointer)),
         Instr::Or(fields) => Instr::Or(with_pointer(&fields, pointer)),
         Instr::Load(fields) => Instr::Load(with_pointer(&fields, pointer)),
         _ => return false,
     };
-    memory.push(steps, Step { instr, ..*step });
+    memory.push(
+        steps,
+        Step {
+            instruction: Instruction::of(instr),
+            ..*step
+        },
+    );
     true
 }
 
@@ -265,7 +282,7 @@ fn end_by_base(memory: &mut Heap, block: &mut Block, (pointer, base): (Reg, Reg)
 
 /// What a step makes %sp a multiple of, where it does that and nothing else; else 0.
 fn aligned_to(step: &Step) -> u32 {
-    match step.instr {
+    match step.instr() {
         Instr::Andn(fields) if (fields.rs1 == Reg::SP) & (fields.rd == Reg::SP) => {
             match fields.operand2 {
                 Operand::Immediate(number) if (number & number.wrapping_add(1) == 0) => {

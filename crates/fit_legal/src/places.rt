@@ -1,7 +1,7 @@
 //! Places in the frames of functions that compilers wrote.
 use crate::arguments::scratch;
 use fit_blocks::{MemoryAccess, access_of, signed};
-use fit_code::{RegisterSet, Step, fields_of, with_operands};
+use fit_code::{Instruction, RegisterSet, Step, fields_of, with_operands};
 use fit_gas::word_of;
 use v8_formats::{Instr, Operand, Three};
 use v8_word::Reg;
@@ -67,7 +67,7 @@ pub fn word_step(step: &Step, stores: bool, place: i64, rd: Reg) -> Step {
         operand2: Operand::Immediate(word_of(place)),
     };
     Step {
-        instr: moved_word(stores, fields),
+        instruction: Instruction::of(moved_word(stores, fields)),
         object: None,
         ..*step
     }
@@ -95,7 +95,7 @@ pub fn address_made(instr: &Instr, size: u32) -> Option<(i64, Reg)> {
 /// A step with the scratch register in the place of %sp or %fp, where one alone of its operands is that; and the offset
 /// from %sp that the scratch register has to hold.
 pub fn by_scratch(step: &Step, object: usize, size: u32) -> Option<(i64, Step)> {
-    let Three { rs1, operand2, .. } = fields_of(&step.instr);
+    let Three { rs1, operand2, .. } = fields_of(&step.instr());
     let second = match operand2 {
         Operand::Register(register) => base_of(register, size),
         Operand::Immediate(_) => None,
@@ -105,12 +105,15 @@ pub fn by_scratch(step: &Step, object: usize, size: u32) -> Option<(i64, Step)> 
         (None, Some(base)) => (base, rs1, Operand::Register(scratch())),
         _ => return None,
     };
-    let is_sum = matches!(step.instr, Instr::Add(_) | Instr::Sub(_) | Instr::SubCc(_));
-    if !(is_sum | access_of(&step.instr).is_some()) {
+    let is_sum = matches!(
+        step.instr(),
+        Instr::Add(_) | Instr::Sub(_) | Instr::SubCc(_)
+    );
+    if !(is_sum | access_of(&step.instr()).is_some()) {
         return None;
     }
     let step = Step {
-        instr: with_operands(&step.instr, rs1, operand2),
+        instruction: Instruction::of(with_operands(&step.instr(), rs1, operand2)),
         object: Some(object),
         ..*step
     };

@@ -40,7 +40,7 @@ fn check_named(stops: &mut Stops, frame: u32, step: &Step, forbidden: Forbidden)
     if step.callee.is_some() {
         return;
     }
-    let Effects { reads, writes, .. } = effects_of(frame, &step.instr);
+    let Effects { reads, writes, .. } = effects_of(frame, &step.instr());
     let named = reads.union(writes);
     if !named.is_disjoint(forbidden.held) {
         stops.form(step.line, HOLDS);

@@ -1,5 +1,5 @@
 //! %o7 as a register like others: clang has words there between calls, which lose it as they lose the globals.
-use fit_code::{Block, End, Function, fields_of, with_operands, with_target};
+use fit_code::{Block, End, Function, Instruction, fields_of, with_operands, with_target};
 use v8_formats::{Instr, Operand, Three, Upper};
 use v8_word::Reg;
 
@@ -46,7 +46,7 @@ fn replace_in(block: &mut Block, other: Reg) {
     }
     for step in block.steps.iter_mut() {
         if step.callee.is_none() {
-            step.instr = instr_with(&step.instr, other);
+            step.instruction = Instruction::of(instr_with(&step.instr(), other));
         }
     }
 }

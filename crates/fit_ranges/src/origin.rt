@@ -146,7 +146,7 @@ impl<'p> AddressSum<'p> {
             self.folded.take(effects.writes);
             if self.object.is_none() {
                 self.object = step.object;
-                if let Instr::Add(_) | Instr::Or(_) = step.instr {
+                if let Instr::Add(_) | Instr::Or(_) = step.instr() {
                     self.folded.add(effects.reads.registers());
                 }
             }
@@ -156,7 +156,7 @@ impl<'p> AddressSum<'p> {
     /// Puts what a step computes in the place of its result, which was there so many times. Says whether that could be
     /// done.
     fn expand(&mut self, times: i64, step: &Step, operands: OperandRanges) -> bool {
-        let Operation::Compute(op, fields) = operation_of(&step.instr) else {
+        let Operation::Compute(op, fields) = operation_of(&step.instr()) else {
             return false;
         };
         let (first, second) = match op {
@@ -209,7 +209,7 @@ fn parts_of<'p>(
     step: &Step,
     operands: OperandRanges,
 ) -> Option<AddressSum<'p>> {
-    let (first, second) = operands_of(frame, &step.instr)?;
+    let (first, second) = operands_of(frame, &step.instr())?;
     let mut sum = AddressSum::nothing(setting, step.object);
     sum.add(Operand::Register(first), 1, operands[0]);
     sum.add(second, 1, operands[1]);

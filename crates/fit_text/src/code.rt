@@ -4,7 +4,8 @@ use crate::data::push_data;
 use crate::names::names_of;
 use crate::text::SourceText;
 use fit_code::{
-    Block, End, Fault, Function, Heap, NO_LINE, Program, Range, Reason, SourceLine, Step,
+    Block, End, Fault, Function, Heap, Instruction, NO_LINE, Program, Range, Reason, SourceLine,
+    Step,
 };
 use inspect_image::{Bounds, Location};
 use std::alloc::{AllocError, Global};
@@ -20,7 +21,7 @@ const PUT: u32 = 2;
 /// Whether a step asks for the service of a number.
 fn asks_for(step: &Step, service: u32) -> bool {
     matches!(
-        step.instr,
+        step.instr(),
         Instr::Ticc(Trap { operand2: Operand::Immediate(number), .. }) if number == service
     )
 }
@@ -86,7 +87,7 @@ fn push_steps(out: &mut SourceText, files: &[String], names: &[String], steps: &
             out.put("\n    call ", &names[number]);
             out.put_slot(&step.slot);
         } else {
-            out.put_instr(files, &step.instr, step.line);
+            out.put_instr(files, &step.instr(), step.line);
         }
     }
 }
@@ -106,7 +107,7 @@ fn push_end(
         End::Branch { cond, taken, .. } => (cond, taken),
         End::Return(fields) => {
             let (text, slot) = if is_framed {
-                ("ret", Some(Instr::Restore(fields)))
+                ("ret", Some(Instruction::of(Instr::Restore(fields))))
             } else {
                 ("retl", block.slot)
             };

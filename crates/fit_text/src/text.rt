@@ -1,7 +1,7 @@
 //! A source that is being written.
 use crate::names::commented;
 use arrayvec::ArrayString;
-use fit_code::{Heap, NO_LINE, SourceLine};
+use fit_code::{Heap, Instruction, NO_LINE, SourceLine};
 use std::fmt::Display;
 use v8_formats::Instr;
 use v8_forms::print_instr;
@@ -68,9 +68,9 @@ impl SourceText {
     }
 
     /// Adds the line of what stands in a delay slot; nothing is as NOP.
-    pub fn put_slot(&mut self, slot: &Option<Instr>) {
+    pub fn put_slot(&mut self, slot: &Option<Instruction>) {
         match slot {
-            Some(instr) => self.put_instr(&[], instr, NO_LINE),
+            Some(held) => self.put_instr(&[], &held.instr(), NO_LINE),
             None => self.add("\n    nop"),
         }
     }

@@ -10,7 +10,7 @@ use v8_formats::encode;
 /// Tells the words of a block's steps, and its end.
 fn push_block(told: &mut String, block: &Block) -> Result<(), AllocError> {
     for step in block.steps.as_slice() {
-        let word = encode(&step.instr);
+        let word = encode(&step.instr());
         write!(told, " {word:08x}")?;
     }
     match block.end {

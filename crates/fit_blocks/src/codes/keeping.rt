@@ -2,7 +2,7 @@
 //! sets them to the blocks that ask for them.
 use crate::codes::setting::{CodesOrY, setting_of};
 use fit_code::{
-    Block, Function, Heap, RegisterSet, Step, fields_of, is_logic_compare, with_target,
+    Block, Function, Heap, Instruction, RegisterSet, Step, fields_of, is_logic_compare, with_target,
 };
 use v8_formats::{Instr, Operand, Three};
 use v8_word::Reg;
@@ -154,7 +154,7 @@ fn moved(rd: Reg, operand2: Operand) -> Instr {
 
 /// Pushes what keeps the operands of the compare that sets the codes of a step before that is done: what `marks` says.
 fn push_before(memory: &mut Heap, steps: &mut Vec<Step>, step: &Step, marks: u8, spares: &Spares) {
-    let Some(Compared { first, second }) = compare_of(&step.instr, false) else {
+    let Some(Compared { first, second }) = compare_of(&step.instr(), false) else {
         return;
     };
     if let Some(first) = first
@@ -172,13 +172,13 @@ fn push_before(memory: &mut Heap, steps: &mut Vec<Step>, step: &Step, marks: u8,
 fn push_setter(memory: &mut Heap, steps: &mut Vec<Step>, step: &Step, marks: u8, spares: &Spares) {
     let kept = [
         spares.at(marks, KeptWord::Result),
-        first_of_result(&step.instr, marks, spares),
+        first_of_result(&step.instr(), marks, spares),
     ];
-    let mut result = fields_of(&step.instr).rd;
+    let mut result = fields_of(&step.instr()).rd;
     if result == Reg::G0 {
         result = kept[0].or(kept[1]).unwrap_or(Reg::G0);
     }
-    push(memory, steps, step, with_target(&step.instr, result));
+    push(memory, steps, step, with_target(&step.instr(), result));
     for place in 0..2 {
         if let Some(rd) = kept[place]
             && rd != result
@@ -211,7 +211,13 @@ fn first_of_result(instr: &Instr, marks: u8, spares: &Spares) -> Option<Reg> {
 
 /// Pushes a step like another one that names no object.
 fn push(memory: &mut Heap, steps: &mut Vec<Step>, step: &Step, instr: Instr) {
-    memory.push(steps, Step { instr, ..*step });
+    memory.push(
+        steps,
+        Step {
+            instruction: Instruction::of(instr),
+            ..*step
+        },
+    );
 }
 
 /// Lets the step of a block that sets the codes, or Y, last keep what `marks` says.

@@ -84,7 +84,7 @@ pub fn asked_of(block: &Block) -> Option<AskedCodes> {
 fn reads_signs(block: &Block) -> bool {
     let mut reads = false;
     for step in block.steps.as_slice() {
-        reads |= matches!(step.instr, Instr::MulsCc(_));
+        reads |= matches!(step.instr(), Instr::MulsCc(_));
     }
     reads
 }

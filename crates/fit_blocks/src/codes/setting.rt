@@ -52,12 +52,12 @@ pub fn setting_of(special: CodesOrY, steps: &[Step]) -> LastSetter {
             found.is_lost = true;
             continue;
         }
-        found.reads |= found.setter.is_none() & !reads(&step.instr).is_disjoint(asked);
-        let written = writes(&step.instr);
+        found.reads |= found.setter.is_none() & !reads(&step.instr()).is_disjoint(asked);
+        let written = writes(&step.instr());
         if written.is_disjoint(asked) {
             found.written.add(written);
         } else {
-            found.setter = Some(step.instr);
+            found.setter = Some(step.instr());
             found.place = place;
             found.written = RegisterSet::NONE;
             found.is_lost = false;

@@ -50,7 +50,7 @@ fn frame_of(before: &[Point], fields: &Three) -> Option<u32> {
     };
     let mut is_alone = true;
     for point in before {
-        let (rd, rs1, number) = match point.step.instr {
+        let (rd, rs1, number) = match point.step.instr() {
             Instr::Sethi(upper) => (upper.rd, Reg::G0, upper.imm22.wrapping_mul(0x400)),
             Instr::Or(fields) | Instr::Add(fields) => match fields.operand2 {
                 Operand::Immediate(number) => (fields.rd, fields.rs1, number),
@@ -106,11 +106,11 @@ fn room_taken(instr: &Instr) -> Option<u32> {
 fn more_room(points: &[Point], start: usize) -> Option<(usize, u32)> {
     for place in start..points.len() {
         let Point { step, flow } = &points[place];
-        if let Some(number) = room_taken(&step.instr) {
+        if let Some(number) = room_taken(&step.instr()) {
             return (signed(number) > 0).then_some((place, number));
         }
-        let names_it = reads(&step.instr)
-            .union(writes(&step.instr))
+        let names_it = reads(&step.instr())
+            .union(writes(&step.instr()))
             .contains(Reg::SP);
         if names_it | !matches!(flow, ControlFlow::On | ControlFlow::Nothing) {
             return None;
@@ -134,7 +134,7 @@ fn is_led_to(points: &[Point], first: usize, last: usize) -> bool {
 /// It is a fault where the frame isn't known.
 pub fn frame_and_start(stops: &mut Stops, points: &mut [Point]) -> (Option<u32>, usize) {
     for place in 0..points.len() {
-        if let Instr::Save(fields) = points[place].step.instr {
+        if let Instr::Save(fields) = points[place].step.instr() {
             let start = place.saturating_add(1);
             let mut frame = frame_of(&points[..place], &fields);
             if let Some(taken) = frame

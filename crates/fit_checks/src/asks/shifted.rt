@@ -2,7 +2,7 @@
 //! number there whose low bits are right, as 1,073,741,823 for -1 before a shift by 2; with the small one the sum
 //! doesn't overflow.
 use crate::cuts::by_immediate;
-use fit_code::{End, RegisterSet, Step};
+use fit_code::{End, Instruction, RegisterSet, Step};
 use fit_graph::{LocationSet, effects_of, run_step};
 use sbx_domain::State;
 use sbx_range::{Range, is_single};
@@ -47,11 +47,11 @@ fn least_shift(frame: u32, steps: &[Step], place: usize, register: u8, live: Reg
     let mut least: u32 = 32;
     for at in place..steps.len() {
         let step = &steps[at];
-        let effects = effects_of(frame, &step.instr);
+        let effects = effects_of(frame, &step.instr());
         let is_given = step.callee.is_some() & may_be_given;
         if is_given | effects.reads.has(register) {
             let mut shift = 0;
-            if let Instr::Sll(fields) = step.instr
+            if let Instr::Sll(fields) = step.instr()
                 && let Operand::Immediate(count) = fields.operand2
                 && fields.rs1.number() == register
             {
@@ -96,7 +96,7 @@ pub fn shorten_steps(
     let mut wraps = false;
     for place in 0..steps.len() {
         let mut shorter = None;
-        if let Instr::Add(fields) = steps[place].instr
+        if let Instr::Add(fields) = steps[place].instr()
             && let Operand::Register(added) = &fields.operand2
             && let Some(known) = state.range(added.number() as u16)
             && is_single(known) & (known.lo.unsigned_abs() >= GREAT)
@@ -109,10 +109,10 @@ pub fn shorten_steps(
                 shorter = Some(by_immediate(register, fields.rs1.number(), small));
             }
         }
-        wraps |= shorter.is_none() & adds_shifted(&steps[place].instr, state);
+        wraps |= shorter.is_none() & adds_shifted(&steps[place].instr(), state);
         run_step(frame, results, &steps[place], state);
         if let Some(fields) = shorter {
-            steps[place].instr = Instr::Add(fields);
+            steps[place].instruction = Instruction::of(Instr::Add(fields));
             is_changed = true;
         }
     }

@@ -1,5 +1,5 @@
 //! Blocks in two.
-use fit_code::{Block, End, Heap, SourceLine, Step};
+use fit_code::{Block, End, Heap, Instruction, SourceLine, Step};
 use v8_formats::{Cond, Instr};
 
 /// Puts instructions that call nobody behind steps, those of them that are there.
@@ -12,7 +12,7 @@ pub fn push_instrs(
     for instr in instrs {
         if let Some(instr) = *instr {
             let step = Step {
-                instr,
+                instruction: Instruction::of(instr),
                 line,
                 callee: None,
                 object: None,
@@ -32,7 +32,7 @@ pub fn insert_instr(
     line: SourceLine,
 ) {
     let step = Step {
-        instr,
+        instruction: Instruction::of(instr),
         line,
         callee: None,
         object: None,
@@ -59,7 +59,7 @@ pub fn push_block(
     let block = Block {
         steps,
         end,
-        slot,
+        slot: Instruction::held(slot),
         line,
     };
     memory.push(blocks, block);

@@ -25,7 +25,7 @@ pub fn telling(word: i32) -> Instr {
 fn is_shared(block: &Block) -> bool {
     if let End::Exit = block.end
         && let [step] = block.steps.as_slice()
-        && let Instr::Srl(fields) = step.instr
+        && let Instr::Srl(fields) = step.instr()
         && let Operand::Immediate(bits) = fields.operand2
     {
         let is_told = fields.rs1.number() == TOLD;

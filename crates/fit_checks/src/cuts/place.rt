@@ -2,8 +2,8 @@
 use crate::cuts::cut::push_instrs;
 use crate::cuts::words::by_immediate;
 use fit_code::{
-    Block, End, Heap, RegisterSet, SourceLine, Step, fields_of, is_compare, operands_read,
-    with_operands, with_target,
+    Block, End, Heap, Instruction, RegisterSet, SourceLine, Step, fields_of, is_compare,
+    operands_read, with_operands, with_target,
 };
 use fit_graph::effects_in;
 use v8_formats::{Cond, Instr, Operand, Reg, Three};
@@ -49,7 +49,7 @@ pub fn last_writer(frame: u32, steps: &[Step], what: RegisterSet) -> Option<Writ
         if step.callee.is_none() & !writes.is_disjoint(what) {
             return Some(Writer {
                 place,
-                instr: step.instr,
+                instr: step.instr(),
                 reads,
                 writes,
                 written,
@@ -235,10 +235,10 @@ fn reading(instr: &Instr, other: Reg, from: Reg) -> Instr {
 fn keep_operand(memory: &mut Heap, block: &mut Block, place: usize, (spare, lost): (Reg, Reg)) {
     if place < block.steps.len() {
         let step = block.steps[place];
-        block.steps[place].instr = reading(&step.instr, spare, lost);
+        block.steps[place].instruction = Instruction::of(reading(&step.instr(), spare, lost));
         let moved = Instr::Or(by_immediate(spare.number(), lost.number(), 0));
         let before = Step {
-            instr: moved,
+            instruction: Instruction::of(moved),
             object: None,
             ..step
         };
@@ -249,7 +249,7 @@ fn keep_operand(memory: &mut Heap, block: &mut Block, place: usize, (spare, lost
 /// The step that keeps the carry in a register, and the one that sets it again from there.
 fn steps_of_carry(spare: Reg, line: SourceLine) -> [Step; 2] {
     let kept = Step {
-        instr: Instr::Addx(by_immediate(spare.number(), 0, 0)),
+        instruction: Instruction::of(Instr::Addx(by_immediate(spare.number(), 0, 0))),
         line,
         callee: None,
         object: None,
@@ -261,7 +261,7 @@ fn steps_of_carry(spare: Reg, line: SourceLine) -> [Step; 2] {
         operand2: Operand::Register(spare),
     });
     let set = Step {
-        instr: compare,
+        instruction: Instruction::of(compare),
         ..kept
     };
     [kept, set]
@@ -293,7 +293,7 @@ pub fn keep_carry(
     let (_, writes) = use_of(frame, &steps[reader]);
     let is_last = !writes.is_disjoint(codes)
         || in_use(frame, block, reader.saturating_add(1)).is_disjoint(codes);
-    if !is_last || matches!(steps[reader].instr, Instr::MulsCc(_)) {
+    if !is_last || matches!(steps[reader].instr(), Instr::MulsCc(_)) {
         return false;
     }
     let [kept, set] = steps_of_carry(*spare, steps[reader].line);

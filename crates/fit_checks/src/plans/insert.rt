@@ -4,7 +4,7 @@ use crate::cuts::{
     telling, use_of,
 };
 use crate::plans::plan::{SUM, Test, TestWay};
-use fit_code::{Block, End, Heap, RegisterSet, Step};
+use fit_code::{Block, End, Heap, Instruction, RegisterSet, Step};
 use fit_graph::effects_of;
 use v8_formats::{Cond, Instr, Operand, Reg, Three, Two};
 use v8_meaning::{Operation, operation_of};
@@ -58,7 +58,7 @@ const CODES_OF_DIVISION: &str =
 /// What stands behind a division where codes that it sets are asked for: a compare of its result with 0, if that is
 /// kept, and if no branch asks for its overflow. Else why there is none.
 fn compare_of_result(division: &Step, end: &End) -> Result<Step, &'static str> {
-    let result = match &division.instr {
+    let result = match &division.instr() {
         Instr::UdivCc(fields) | Instr::SdivCc(fields) => fields.rd.number(),
         _ => 0,
     };
@@ -73,7 +73,10 @@ fn compare_of_result(division: &Step, end: &End) -> Result<Step, &'static str> {
         return Err(CODES_OF_DIVISION);
     }
     let instr = Instr::SubCc(by_immediate(0, result, 0));
-    Ok(Step { instr, ..*division })
+    Ok(Step {
+        instruction: Instruction::of(instr),
+        ..*division
+    })
 }
 
 /// Whether a second operand is 0.
@@ -94,7 +97,7 @@ fn is_sign_shift(operand: Operand) -> bool {
 
 /// Whether a step may write memory.
 fn writes_memory(step: &Step) -> bool {
-    match operation_of(&step.instr) {
+    match operation_of(&step.instr()) {
         Operation::Transfer(transfer, _) => transfer.writes_memory(),
         _ => step.callee.is_some(),
     }
@@ -106,11 +109,11 @@ fn loads_kept_word(frame: u32, steps: &[Step], place: usize) -> bool {
     if place >= steps.len() {
         return false;
     }
-    let word = effects_of(frame, &steps[place].instr).word_read;
+    let word = effects_of(frame, &steps[place].instr()).word_read;
     let mut is_kept = true;
     for at in place..steps.len() {
         is_kept &= match word {
-            Some(_) => effects_of(frame, &steps[at].instr).word_written != word,
+            Some(_) => effects_of(frame, &steps[at].instr()).word_written != word,
             None => !writes_memory(&steps[at]),
         };
     }
@@ -123,7 +126,7 @@ fn made_again(frame: u32, steps: &[Step], place: usize) -> Option<Instr> {
     if place >= steps.len() {
         return None;
     }
-    match &steps[place].instr {
+    match &steps[place].instr() {
         Instr::Sra(fields) if is_sign_shift(fields.operand2) => Some(Instr::Sra(Three {
             rd: register(REST),
             rs1: fields.rs1,
@@ -145,11 +148,11 @@ fn steps_of_sign(again: Instr, step: Step) -> [Step; 2] {
         operand2: Operand::Immediate(0),
     });
     let first = Step {
-        instr: again,
+        instruction: Instruction::of(again),
         ..step
     };
     let second = Step {
-        instr: write,
+        instruction: Instruction::of(write),
         ..step
     };
     [first, second]

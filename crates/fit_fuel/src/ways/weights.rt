@@ -30,7 +30,7 @@ pub fn weight_of_block(setting: &FuelTask<'_>, place: usize) -> i64 {
         let turns = match called_by(step, task.known) {
             Some(total) => total.budget.unwrap_or(0).saturating_add(2),
             None if step.callee.is_some() => 2,
-            None if matches!(step.instr, Instr::Ticc(_)) => 5,
+            None if matches!(step.instr(), Instr::Ticc(_)) => 5,
             None => 1,
         };
         weight = weight.saturating_add(i64::try_from(turns).unwrap_or(i64::MAX));

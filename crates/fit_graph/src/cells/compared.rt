@@ -67,7 +67,7 @@ fn word_of(held: &[HeldWord; 32], operand: Operand) -> HeldWord {
 /// none.
 fn run(held: &mut [HeldWord; 32], frame: u32, step: &Step) -> [HeldWord; 2] {
     let mut compared = [UNKNOWN; 2];
-    let result = match operation_of(&step.instr) {
+    let result = match operation_of(&step.instr()) {
         Operation::Compute(op, fields) => {
             let first = word_of(held, Operand::Register(fields.rs1));
             let second = word_of(held, fields.operand2);
@@ -103,7 +103,7 @@ fn run(held: &mut [HeldWord; 32], frame: u32, step: &Step) -> [HeldWord; 2] {
 /// How many of some steps stand up to the last one that compares, with it.
 fn count_to_compare(steps: &[Step]) -> usize {
     for place in (0..steps.len()).rev() {
-        if let Instr::AddCc(_) | Instr::OrCc(_) | Instr::SubCc(_) = steps[place].instr {
+        if let Instr::AddCc(_) | Instr::OrCc(_) | Instr::SubCc(_) = steps[place].instr() {
             return place.saturating_add(1);
         }
     }

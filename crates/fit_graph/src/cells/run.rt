@@ -43,9 +43,9 @@ pub fn enter(function: &Function, params: &[Range], has_forms: bool, state: &mut
 
 /// A step in a frame of so many bytes; of a call up to where its callee begins.
 pub fn run_to_call(frame: u32, step: &Step, state: &mut State) {
-    state.transfer(frame, &step.instr);
+    state.transfer(frame, &step.instr());
     if let Some(slot) = &step.slot {
-        state.transfer(frame, slot);
+        state.transfer(frame, &slot.instr());
     }
 }
 
@@ -75,7 +75,7 @@ pub fn go_along(frame: u32, block: &Block, way: usize, state: &mut State) -> boo
         _ => way == 0,
     };
     if let Some(slot) = &block.slot {
-        state.transfer(frame, slot);
+        state.transfer(frame, &slot.instr());
     }
     open
 }

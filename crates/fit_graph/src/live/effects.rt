@@ -63,6 +63,6 @@ pub fn effects_of(frame: u32, instr: &Instr) -> Effects {
 pub fn effects_in(frame: u32, step: &Step) -> Effects {
     match step.callee {
         Some(_) => of_registers(RegisterSet::NONE, RegisterSet::LOST_BY_CALL),
-        None => effects_of(frame, &step.instr),
+        None => effects_of(frame, &step.instr()),
     }
 }

@@ -72,7 +72,7 @@ fn live_behind(
         }
     }
     if let Some(slot) = &block.slot {
-        behind.pass(&effects_of(function.frame, slot));
+        behind.pass(&effects_of(function.frame, &slot.instr()));
     }
     let reads = read_at_end(function, results, &block.end);
     behind.pass(&of_registers(reads, RegisterSet::NONE));
@@ -98,10 +98,10 @@ fn pass_step(
             live.pass(&of_registers(given, RegisterSet::LOST_BY_CALL));
         }
     } else {
-        live.pass(&effects_of(frame, &step.instr));
+        live.pass(&effects_of(frame, &step.instr()));
     }
     if let Some(slot) = &step.slot {
-        live.pass(&effects_of(frame, slot));
+        live.pass(&effects_of(frame, &slot.instr()));
     }
     is_new
 }
@@ -156,7 +156,7 @@ impl BlockEffects {
     /// Takes in a step that stands before those that were.
     fn pass(&mut self, frame: u32, step: &Step) {
         self.has_calls |= step.callee.is_some() | step.slot.is_some();
-        let effects = effects_of(frame, &step.instr);
+        let effects = effects_of(frame, &step.instr());
         self.reads.pass(&effects);
         add_writes(&mut self.writes, &effects);
     }

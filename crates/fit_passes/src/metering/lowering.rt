@@ -1,11 +1,11 @@
 //! Lowering what a meter begins with, by the turns that a run takes outside of the loops that count it down.
-use fit_code::Block;
+use fit_code::{Block, Instruction};
 use fit_fuel::{Meter, number_in};
 use v8_formats::{Instr, Operand, Three, Upper, encode};
 
 /// Whether an instruction of a word stands in a slot.
-fn is_in(slot: &Option<Instr>, word: u32) -> bool {
-    matches!(slot, Some(instr) if encode(instr) == word)
+fn is_in(slot: &Option<Instruction>, word: u32) -> bool {
+    matches!(slot, Some(held) if encode(&held.instr()) == word)
 }
 
 /// How often an instruction stands among the steps of a block, or in the slots of its calls and of its end.
@@ -13,7 +13,7 @@ fn count_of(block: &Block, instr: &Instr) -> usize {
     let word = encode(instr);
     let mut count = usize::from(is_in(&block.slot, word));
     for step in block.steps.as_slice() {
-        count = count.saturating_add(usize::from(encode(&step.instr) == word));
+        count = count.saturating_add(usize::from(encode(&step.instr()) == word));
         count = count.saturating_add(usize::from(is_in(&step.slot, word)));
     }
     count
@@ -24,14 +24,14 @@ fn count_of(block: &Block, instr: &Instr) -> usize {
 fn replace(block: &mut Block, old: &Instr, new: &Instr) {
     let word = encode(old);
     if is_in(&block.slot, word) {
-        block.slot = Some(*new);
+        block.slot = Some(Instruction::of(*new));
     }
     for step in block.steps.as_mut_slice() {
-        if encode(&step.instr) == word {
-            step.instr = *new;
+        if encode(&step.instr()) == word {
+            step.instruction = Instruction::of(*new);
         }
         if is_in(&step.slot, word) {
-            step.slot = Some(*new);
+            step.slot = Some(Instruction::of(*new));
         }
     }
 }

@@ -11,7 +11,7 @@ const EXIT_WORD: u8 = 8;
 fn is_movable(step: &Step) -> bool {
     let (reads, writes) = use_of(0, step);
     let is_plain = matches!(
-        operation_of(&step.instr),
+        operation_of(&step.instr()),
         Operation::Compute(..)
             | Operation::SetHigh(_)
             | Operation::Transfer(Transfer::Load(_) | Transfer::Store(_), _)
@@ -49,7 +49,7 @@ fn fill_end(block: &mut Block, after: usize) {
         place -= 1;
     }
     let step = block.steps.remove(place);
-    block.slot = Some(step.instr);
+    block.slot = Some(step.instruction);
 }
 
 /// Fills the slots of a block's calls, each of which takes the step before it, if that may go there.
@@ -62,7 +62,7 @@ fn fill_calls(steps: &mut Vec<Step>) {
             && steps[place].slot.is_none()
             && is_movable(&steps[before])
         {
-            steps[place].slot = Some(steps[before].instr);
+            steps[place].slot = Some(steps[before].instruction);
             steps.remove(before);
         }
     }

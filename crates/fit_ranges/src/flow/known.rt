@@ -180,11 +180,11 @@ pub fn touched_in(function: &Function, block: &Block) -> LocationSet {
     for step in block.steps.as_slice() {
         add_effects(&mut touched, &effects_in(function.frame, step));
         if let Some(slot) = &step.slot {
-            add_effects(&mut touched, &effects_of(function.frame, slot));
+            add_effects(&mut touched, &effects_of(function.frame, &slot.instr()));
         }
     }
     if let Some(slot) = &block.slot {
-        add_effects(&mut touched, &effects_of(function.frame, slot));
+        add_effects(&mut touched, &effects_of(function.frame, &slot.instr()));
     }
     touched
 }

@@ -55,9 +55,12 @@ impl Spreading {
     /// back something else.
     fn pass_step(&mut self, frame: u32, step: &Step, is_other: bool) {
         if let Some(slot) = &step.slot {
-            self.pass(&effects_of(frame, slot), is_transfer(slot));
+            self.pass(
+                &effects_of(frame, &slot.instr()),
+                is_transfer(&slot.instr()),
+            );
         }
-        self.pass(&effects_in(frame, step), is_transfer(&step.instr));
+        self.pass(&effects_in(frame, step), is_transfer(&step.instr()));
         if is_other & step.callee.is_some() {
             // %o0 to %o5
             self.add(RegisterSet::range(8, 6));
@@ -97,7 +100,10 @@ pub fn spread_behind(
         found.add(compared);
     }
     if let Some(slot) = &block.slot {
-        found.pass(&effects_of(frame, slot), is_transfer(slot));
+        found.pass(
+            &effects_of(frame, &slot.instr()),
+            is_transfer(&slot.instr()),
+        );
     }
     found.locations
 }

@@ -53,7 +53,7 @@ impl Trace {
 
     /// Adds the operands of the next step, where the state is that before it.
     pub fn push(&mut self, memory: &mut Heap, frame: u32, step: &Step, state: &State) {
-        let known = match operands_of(frame, &step.instr) {
+        let known = match operands_of(frame, &step.instr()) {
             Some((first, second)) => [
                 range_of(Operand::Register(first), state),
                 range_of(second, state),
