@@ -205,10 +205,10 @@ class Gcc(Compiler):
 
     def library(self, runtime):
         """The library's objects in an archive, so that a name of the program's goes before one of the library's."""
-        archive, objects = runtime.place("library.a"), runtime.all(runtime.sources(), self.ending, *self.kind)
-        self.texts = runtime.all(runtime.sources(is_apart=True), ".s", "-S")
-        objects += runtime.all(self.texts, ".o", "-c")
+        archive, ending = runtime.place("library.a"), ".told.s" if self.tells else ".s"
+        self.texts = runtime.all(runtime.sources(is_apart=True), ending, "-S")
         if not os.path.exists(archive):
+            objects = runtime.all(runtime.sources(), self.ending, *self.kind) + runtime.all(self.texts, ".o", "-c")
             subprocess.run([self.archiver, "rcs", f"{archive}.{os.getpid()}", *objects], check=True)
             settle(f"{archive}.{os.getpid()}", archive)
         # (what the compiler told of the library's sources is left beside the archive by its name, in each call)
@@ -239,8 +239,8 @@ class Gcc(Compiler):
     def taken(self, work):
         """Those of the library's files that were compiled once and for all, as the linker's map tells."""
         with open(f"{work}/whole.map", encoding="utf-8", errors="surrogateescape") as file:
-            members = set(re.findall(r"library\.a\((\S+)\.o\)$", file.read(), re.M))
-        return [it for it in self.texts if os.path.basename(it) in members]
+            names = set(re.findall(r"library\.a\((\S+\.c)(?:\.told)?\.s\.o\)$", file.read(), re.M))
+        return [it for it in self.texts if os.path.basename(it).partition(".c.")[0] + ".c" in names]
 
     def unassembled(self, text, path):
         """What the assembler doesn't take, which only a program itself can have written, by lines of C."""
@@ -264,7 +264,7 @@ class Gcc(Compiler):
         for path, source in zip(objects, sources):
             text = re.sub(re.escape(path) + r"( \(symbol from plugin\))?", source, text)
             text = text.replace(os.path.relpath(os.path.abspath(source), os.path.realpath(work)), source)
-        text = re.sub(re.escape(f"{work}/library.a(") + r"(\S+\.c)\.s(\.o)\)", r"\1\2", text)
+        text = re.sub(re.escape(f"{work}/library.a(") + r"(\S+\.c)(?:\.told)?\.s(\.o)\)", r"\1\2", text)
         lines = [re.sub(r"^\S*/ld: ", "", it) for it in text.splitlines()]
         of_tools = r"collect2: |lto-wrapper: |compilation terminated|error: lto-wrapper|.* defaulting to "
         return "\n".join(it for it in lines if not re.match(of_tools, it))

@@ -61,13 +61,18 @@ class Build:
             return file.read(), objects
 
     def with_variables(self):
-        """The assembly of the same sources in which the compiler tells of variables, and a folder with what else it
-        told: beside the other one, since it places lines otherwise then, and exit words have lines."""
+        """The assemblies of the same sources, and of the library's, in which the compiler tells of variables, by the
+        paths of the ones that don't, and a folder with what else it told: beside the other ones, since it places lines
+        otherwise then, and exit words have lines."""
         build = Build(self.request, f"{self.work}/variables")
         build.compiler.tells = True
         os.makedirs(build.work, exist_ok=True)
         text, _ = build.compiled(Runtime(build.compiler, build.work))
-        return without_traps(Assembly(started(text, self.has_parameters)))[0].text(), build.work
+        told = {self.program: without_traps(Assembly(started(text, self.has_parameters)))[0].text()}
+        for path, other in zip(self.compiler.taken(self.work), build.compiler.taken(build.work)):
+            with open(other, encoding="utf-8", errors="surrogateescape") as file:
+                told[path] = file.read()
+        return told, build.work
 
     def assembled(self):
         """Makes the assembly of all; returns the paths of its files."""

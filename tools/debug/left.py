@@ -34,13 +34,13 @@ def leave(build, map_path, elf_path):
             source = file.read()
         told, folder = build.with_variables()
 
-        def write(text):
-            data, why = linked.debug_file(loaded, source, build.mapped, build.origins, folder, (build.program, text))
+        def write(told):
+            data, why = linked.debug_file(loaded, source, build.mapped, build.origins, folder, (build.program, told))
             with open(elf_path, "wb") as file:
                 file.write(data)
             return why
         why = write(told)
         if not why and not is_read(elf_path):
-            write("")
+            write({})
             why = GDB_FAULT
     return why

@@ -248,8 +248,8 @@ def is_same_access(one, other):
 
 def debug_file(loaded, source, mapped, origins, folder, program):
     """The bytes of the ELF file of an image, by the source that ./fit made; and why it has no more than names and
-    lines, where it hasn't. `program` is the path of the program's assembly, and the text of the one in which the
-    compiler tells of variables; the folder has what else it told then."""
+    lines, where it hasn't. `program` is the path of the program's assembly, and the texts of those in which the
+    compiler tells of variables, by paths; the folder has what else it told then."""
     fitted = Fitted(source)
     names = Names()
     names.functions, names.objects = fitted.functions, fitted.objects
@@ -260,9 +260,10 @@ def debug_file(loaded, source, mapped, origins, folder, program):
         names.labels.setdefault(address, f".L{address:x}")
     try:
         path, told = program
-        if not next(it for it in origins.files if it.path == path).tell(told):
+        same = {it.path for it in origins.files if it.path in told and it.tell(told[it.path])}
+        if path not in same:
             raise Unreadable("the compiler makes other code where it tells of variables")
-        objects = early_objects(told, folder)
+        objects = early_objects(told[path], folder)
         linked = Linked(linked_of(origins, folder, objects), loaded, fitted, mapped, origins,
                         os.path.dirname(path))
         debug, why = linked.sections(os.path.realpath(folder)), None
