@@ -26,7 +26,7 @@ USAGE = "Usage: cc [OPTION..] FILE.c.."
 UPPER = f"{EXAMPLES}/c/upper.c"
 COMPILER, COMPILER_PLUS = "sparc64-linux-gnu-gcc", "sparc64-linux-gnu-g++"
 # So many seconds of processor a program of 500 lines may take: more than twice what it does beside other work.
-MOST_SECONDS = 12
+MOST_SECONDS = 4
 
 
 class Author:
