@@ -175,9 +175,11 @@ def try_options(author):
 def try_fault_of_fit(author):
     """What the verifier refuses of fit's is told as a fault of fit's, and never as the program's."""
     farm = author.at("farm")
-    os.makedirs(farm)
+    os.makedirs(f"{farm}/tools")
     shutil.copy(CC, farm)
-    for name in ("tools", "runtime", "sandbox", "inspect"):
+    # Nothing that builds is there, as in a release: so what is called is the fit beside it.
+    tools = [f"tools/{it}" for it in os.listdir(f"{TOP}/tools") if it != "build"]
+    for name in (*tools, "runtime", "sandbox", "inspect"):
         os.symlink(f"{TOP}/{name}", f"{farm}/{name}")
     put(f"{farm}/fit", f'#!/bin/sh\n{TOP}/fit "$@" && sed -i "s/^.fuel [0-9]*$/.fuel 1/" fitted.s\n')
     text = text_of(f"{farm}/fit").replace(" fitted.s", ' "$(echo "$*" | sed "s/.*-o //; s/ .*//")"')
