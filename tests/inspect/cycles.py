@@ -164,14 +164,14 @@ def by_the_turn(piece):
     return f"{thousandths // 1000}.{thousandths % 1000:03}"
 
 
-def counted(count, noun):
+def with_noun(count, noun):
     """A count, and what is counted."""
     return f"{count} {noun}" if count == 1 else f"{count} {noun}s"
 
 
 def text_of_piece(piece):
     """What a piece takes."""
-    return f"{counted(piece[0], 'cycle')} in {counted(piece[1], 'turn')}"
+    return f"{with_noun(piece[0], 'cycle')} in {with_noun(piece[1], 'turn')}"
 
 
 def row_of_block(address, piece, dearest):
