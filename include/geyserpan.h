@@ -10,7 +10,8 @@
 
    - Pointers. None is NULL, also where its length is 0. Each has room for what its type says, or for as many bytes as its length
      says, which is below 2^63. What a call writes to (`room`, and what a pointer without const points to) overlaps nothing else that
-     the call is given. What it only reads may overlap.
+     the call is given. What it only reads may overlap, and nothing else writes to it until the call returns: copy what a stranger
+     shares, as memory or a mapped file.
    - Handles. A handle is what its `new` wrote, and is given to none after its `free`: after that, and for any other pointer, a call
      is undefined behaviour. The struct may be copied and moved; the copies are one handle.
    - Threads. A handle is given to one call at a time. Between calls it may go to another thread, ordered by a lock or a join. Calls
