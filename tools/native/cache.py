@@ -16,7 +16,7 @@ def folder():
 def sum_of(path):
     """The SHA-256 of a file, in hexadecimal digits."""
     with open(path, "rb") as file:
-        return hashlib.file_digest(file, "sha256").hexdigest()
+        return hashlib.sha256(file.read()).hexdigest()
 
 
 class Cache:
