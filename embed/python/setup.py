@@ -3,6 +3,7 @@ GEYSERPAN says below which folder `tools/release/library` laid header and archiv
 import os
 
 from setuptools import Extension, setup
+from setuptools.command.build_ext import build_ext
 from wheel.bdist_wheel import bdist_wheel
 
 PREFIX = os.environ.get("GEYSERPAN", "/usr/local")
@@ -15,8 +16,19 @@ class StableWheel(bdist_wheel):
         return "cp311", "abi3", super().get_tag()[2]
 
 
+class Built(build_ext):
+    """The module, where the library is laid out."""
+
+    def run(self):
+        lacks = [it for it in ("include/geyserpan.h", "lib/libgeyserpan.a") if not os.path.isfile(f"{PREFIX}/{it}")]
+        if lacks:
+            raise SystemExit(f"{PREFIX}/{lacks[0]} isn't there: set GEYSERPAN to the folder that tools/release/library, "
+                             "or a release's install, laid out")
+        super().run()
+
+
 setup(
-    cmdclass={"bdist_wheel": StableWheel},
+    cmdclass={"bdist_wheel": StableWheel, "build_ext": Built},
     ext_modules=[Extension(
         "geyserpan._native",
         ["src/geyserpan/_native.c"],

@@ -25,6 +25,8 @@ TOO_DENSE = re.compile(r"refused: (?:\w+: )?(no place for a test|condition codes
 LIMITS = "a program has at most 4096 blocks, 65536 words and 256 functions"
 USAGE = f"{TOP}/tools/cc/usage"
 MAIN = re.compile(r"^[\w\s*]*?\bmain\s*\(([^)]*)\)", re.M)
+# Comments and strings of C.
+APART = re.compile(r"//[^\n]*|/\*.*?\*/|\"(?:\\.|[^\"\\\n])*\"", re.S)
 
 
 def say(*lines):
@@ -41,15 +43,29 @@ class Build:
         self.compiler = compiler_of(request)
         self.has_parameters = self.parameters_of_main()
 
+    def texts(self):
+        """The paths and the texts of the sources in C."""
+        for path in self.request.files:
+            if ending_of(path) != ".s":
+                with open(path, encoding="utf-8", errors="replace") as file:
+                    yield path, file.read()
+
     def parameters_of_main(self):
         """Where main has parameters, and what they are; None where it hasn't."""
-        for path in self.request.files:
-            with open(path, encoding="utf-8", errors="replace") as file:
-                text = "" if ending_of(path) == ".s" else file.read()
+        for path, text in self.texts():
             found = MAIN.search(text)
             if found and found[1].strip() not in ("", "void"):
                 line = text[: found.start(1)].count("\n") + 1
                 return f"{path}:{line}: note: main is called as program without words: argc is 1, argv[1] is NULL"
+        return None
+
+    def use_of_errors(self):
+        """Where stderr is named first, and what becomes of it; None where it isn't."""
+        for path, text in self.texts():
+            found = "stderr" in text and re.search(r"\bstderr\b", APART.sub(lambda it: "\n" * it[0].count("\n"), text))
+            if found:
+                line = found.string[: found.start()].count("\n") + 1
+                return f"{path}:{line}: note: what goes to stderr is dropped: print to stdout what has to be read"
         return None
 
     def compiled(self, runtime):
@@ -88,7 +104,7 @@ class Build:
         helpers = [*self.compiler.taken(self.work), *runtime.helpers()]
         self.teller = Teller(self.request, assembly, helpers, self.work)
         assembly, traps = without_traps(assembly)
-        say(*(self.trap(it) for it in traps), self.has_parameters)
+        say(*(self.trap(it) for it in traps), self.has_parameters, self.use_of_errors())
         with open(self.program, "w", encoding="utf-8", errors="surrogateescape") as file:
             file.write(assembly.text())
         self.teller.assembly = assembly

@@ -37,6 +37,11 @@ def demangled(text):
     return subprocess.run(["c++filt"], input=text, stdout=subprocess.PIPE, text=True, check=False).stdout
 
 
+def of_several(why, count):
+    """What a note says, of so many tests."""
+    return why if count == 1 else why.replace("a test was added", f"{count} tests were added")
+
+
 def from_here(path):
     """A path by where it lies below this folder; the whole one elsewhere, and in the library."""
     here = os.getcwd().rstrip("/") + "/"
@@ -87,16 +92,23 @@ class Teller:
         """The notes: those on the program line by line where they are few, else how many stand in each function; those
         on the library counted."""
         found = NOTE.findall(plain_objects(text))
-        if self.request.notes:
-            return [f"{where(self.path(name), line)}: note: {why}" for name, line, why in found]
         own = [it for it in found if not self.is_library(it[0])]
-        lines = [f"{where(self.path(name), line)}: note: {why}" for name, line, why in own]
+        if self.request.notes:
+            return self.by_line(own) + self.by_line([it for it in found if self.is_library(it[0])])
+        lines = self.by_line(own)
         if len(own) > FEW:
             lines = [f"{self.request.name}: {len(own)} tests were added ({self.counted(own)}): --notes tells each"]
         if len(found) > len(own):
             rest = len(found) - len(own)
             lines.append(f"{self.request.name}: {rest} tests were added in the library: --notes tells each")
         return lines
+
+    def by_line(self, found):
+        """Notes in the order of files and lines; those that say the same of a line, as of copies of a function, are one
+        that counts them."""
+        counts = collections.Counter((self.path(name), int(line), why) for name, line, why in found)
+        return [f"{where(path, line)}: note: {of_several(why, counts[path, line, why])}"
+                for path, line, why in sorted(counts, key=lambda it: it[:2])]
 
     def is_library(self, name):
         """Whether a file of that name is the library's, or one of C++'s headers."""

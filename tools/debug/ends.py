@@ -19,7 +19,7 @@ KINDS = {
     1: Kind("an index leaves its object", 11),
     2: Kind("a pointer leaves the program's data, isn't aligned, or leads to a constant", 11),
     3: Kind("a divisor is 0", 8),
-    4: Kind("the loops have used up their turns: ask for more by --turns", 24),
+    4: Kind("the loops have used up their turns: ask for more by --turns, or look why this one doesn't end", 24),
     5: Kind("calls go too deep: ask for more by --stack", 11),
     9: Kind("a call through a pointer that is no function's", 11),
 }
