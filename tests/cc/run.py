@@ -143,6 +143,9 @@ def try_ends(author):
     author.called(1, "abort was called", "trap.c", "--run", given=b"a")
     author.called(0, "accepted", "trap.c", "--run", given=b"b")
     author.called(1, "the exit word is 7 (00000007)", "seven.c", "--run")
+    author.called(1, "within.c:9: a divisor is 0", "within.c", "--run", given=b"1 2")
+    author.called(1, "within.c:9: a pointer leaves the program's data", "within.c", "--run", given=b"1 9999999")
+    author.called(0, "within.c:11: note: what goes to stderr is dropped", "within.c", "--run", given=b"1")
     author.called(1, "deep.c:2: calls go too deep: ask for more by --stack", "deep.c", "--run")
     author.called(0, "accepted", "deep.c", "--run", "--stack", "65536")
     author.called(1, "the loops have used up their turns: ask for more by --turns", "deep.c", "--run", "--stack",

@@ -36,6 +36,10 @@ int main(void) {
     "int main(void) { return down(depth) != 400; }\n",
     "heap.c": "#include <stdlib.h>\nint main(void) {\n    volatile char *p = malloc(100000);\n"
     "    if (!p) return 2;\n    p[99999] = 1;\n    return 0;\n}\n",
+    "within.c": "#include <stdio.h>\n#include <stdlib.h>\nstatic int *list;\nint main(void) {\n    int at;\n"
+    "    list = calloc(3, sizeof *list);\n    list[1] = 4;\n"
+    '    while (scanf("%d", &at) == 1)\n        printf("%d\\n",\n               8 / list[at]);\n'
+    '    fprintf(stderr, "done\\n");\n    return 0;\n}\n',
     "bare.c": "int main(void) {\n    return 7;\n}\n",
     "unused.c": "int main(void) { int unused; return 0; }\n",
     "given.c": '#include <stdio.h>\nint main(void) { printf("%d\\n", GIVEN); return INNER + GIVEN - 3; }\n',

@@ -29,6 +29,18 @@ OTHERWISE |= {there: here for here, there in OTHERWISE.items()} | {"nz": "e", "l
 TEXT = re.compile(r"\s*\.(asci[iz]|string|file|ident)\b")
 # An object as a note of ./fit's names it.
 OBJECT = re.compile(r"(?<=the index into )[^\n]+?(?= \(\d+ bytes?\))")
+# Of gcc's debug information a function that became a part of its caller, with the file and the line that it was called
+# at: by the labels of its one piece, or by the name of a list of pieces.
+CALLED_AT = re.compile(r"""\.uaword\s+(?:(\.LBB\d+)\n\s*\.uaword\s+(\.LBE\d+)-\.LBB\d+|(\.LLRL\d+))
+\s*\.(?:byte|uahalf)\s+(\w+)\n\s*\.(?:byte|uahalf|uaword)\s+(\w+)\n""")
+PIECES = re.compile(r"^(\.LLRL\d+):\n(.*?)^\s*\.byte\s+0\n", re.M | re.S)
+PIECE = re.compile(r"(?:uleb128|uaword)\s+(\.LBB\d+)(?:-\S+)?\n\s*\.uleb128\s+(\.LBE\d+)-")
+# The header for formats, whose functions become parts of those that print and read.
+WRAPPED = "/runtime/include/bits/whole.h"
+# A division by a word of memory, which gcc loads between the write of Y and the division.
+DIVISION = re.compile(r"""(?:\tsra\t(%\w\d), 31, (%\w\d)\n)?\twr\t(%\w\d), 0, %y
+\tld\t(\[[^\]\n]*\]), (%\w\d)\n\tnop\n\tnop
+\t([us]div(?:cc)?\t(%\w\d), (%\w\d), (%\w\d))\n""")
 # The variables of exit.c of which one is there only where something calls atexit.
 AT_EXIT = re.compile(r"^(?:\s*\.(?:local|comm)\s+)?__exit_(?:functions|told)\b(?!\.\d)", re.M)
 START = """
@@ -107,6 +119,36 @@ def paths_in(lines):
     return {it[1]: os.path.join("", *filter(None, it.groups()[1:])) for it in found if it}
 
 
+def calls_within(text):
+    """Where functions were called that became parts of their callers: by the label at the begin of each piece the one
+    at its end, and the file's number and the line."""
+    pieces = {name: PIECE.findall(listed) for name, listed in PIECES.findall(text)}
+    return {begin: (end, file, line) for one, last, name, file, line in CALLED_AT.findall(text)
+            for begin, end in (pieces.get(name, ()) if name else [(one, last)])}
+
+
+def at_callers(text):
+    """An assembly in which what became of printf and its kin has the line of the call, and not that of the header: its
+    arguments are worked out there."""
+    wrapped = {number for number, path in paths_in(FILED.findall(text)).items() if path.endswith(WRAPPED)}
+    if not wrapped:
+        return text
+    calls, stack, lines = calls_within(text), [], text.splitlines()
+    for at, line in enumerate(lines):
+        if line.startswith(".LB"):
+            label = line.partition(":")[0]
+            if label in calls:
+                end, file, number = calls[label]
+                stack.append((end, str(int(file, 0)), int(number, 0)))
+            else:
+                stack = [it for it in stack if it[0] != label]
+        elif stack and ".loc" in line and (loc := PLACE.match(line)) and loc[1] in wrapped:
+            place = next((it for it in reversed(stack) if it[1] not in wrapped), None)
+            if place:
+                lines[at] = f"\t.loc {place[1]} {place[2]} 1"
+    return "\n".join(lines) + "\n"
+
+
 def files_of(path):
     """The paths of the files that an assembly has lines of."""
     with open(path, encoding="utf-8", errors="surrogateescape") as file:
@@ -168,6 +210,22 @@ def without_frame_sums(text):
     return FRAME_SUM.sub(r"add\1\n\tcmp\t\2, 0\3", text)
 
 
+def with_divisor_first(found):
+    """The words of a division in which the divisor is loaded before Y is written, since a test of its address has no
+    place behind that. The sign of the dividend, which gcc works out in the divisor's register, goes to the quotient's,
+    where that is another one than theirs; else they stay."""
+    of, sign, high, address, divisor, division, dividend, by, quotient = found.groups()
+    load, nops = f"\tld\t{address}, {divisor}\n", "\tnop\n" * 3
+    if by != divisor or divisor == dividend or divisor in address:
+        return found[0]
+    if high == "%g0":
+        before = f"\tsra\t{of}, 31, {sign}\n" if of else ""
+        return f"{before}{load}\twr\t%g0, 0, %y\n{nops}\t{division}\n"
+    if sign == high == divisor and of == dividend and quotient not in (dividend, divisor):
+        return f"{load}\tsra\t{dividend}, 31, {quotient}\n\twr\t{quotient}, 0, %y\n{nops}\t{division}\n"
+    return found[0]
+
+
 def without_lists(text):
     """Takes out the lists of functions that run before main; returns the text, and these functions in their order."""
     if not LISTS.search(text):
@@ -227,6 +285,7 @@ def calls_main(text):
 
 def started(text, has_parameters):
     """Puts a start before main where something runs before it or behind it, where it has parameters, or is called."""
+    text = DIVISION.sub(with_divisor_first, text)
     text, before = without_lists(without_frame_sums(without_aliases(without_options(text))))
     is_told = "__exit_" in text and AT_EXIT.search(text) is not None
     if not (before or is_told or has_parameters or calls_main(text)):

@@ -6,7 +6,7 @@ import subprocess
 import sys
 import tempfile
 
-from assembly import Assembly, destructor_of, started, where, without_traps
+from assembly import Assembly, at_callers, destructor_of, started, where, without_traps
 from compilers import TOP, compiler_of, found_compiler, limited
 from fault import Fault
 from request import ending_of, request_of
@@ -94,6 +94,7 @@ class Build:
         """Makes the assembly of all; returns the paths of its files."""
         runtime = Runtime(self.compiler, self.work)
         text, objects = self.compiled(runtime)
+        text = at_callers(text)
         say(self.compiler.told.rstrip("\n"))
         self.write_dependencies(objects)
         last = destructor_of(text)
