@@ -107,8 +107,9 @@ class Teller:
         """Notes in the order of files and lines; those that say the same of a line, as of copies of a function, are one
         that counts them."""
         counts = collections.Counter((self.path(name), int(line), why) for name, line, why in found)
-        return [f"{where(path, line)}: note: {of_several(why, counts[path, line, why])}"
-                for path, line, why in sorted(counts, key=lambda it: it[:2])]
+        lines = [f"{where(path, line)}: note: {of_several(why, counts[path, line, why])}"
+                 for path, line, why in sorted(counts, key=lambda it: it[:2])]
+        return demangled("\n".join(lines)).splitlines()
 
     def is_library(self, name):
         """Whether a file of that name is the library's, or one of C++'s headers."""
