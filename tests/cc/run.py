@@ -145,6 +145,9 @@ def try_ends(author):
     author.called(1, "the exit word is 7 (00000007)", "seven.c", "--run")
     author.called(1, "within.c:9: a divisor is 0", "within.c", "--run", given=b"1 2")
     author.called(1, "within.c:9: a pointer leaves the program's data", "within.c", "--run", given=b"1 9999999")
+    author.called(1, "compiled again more plainly, by -O0, since part: no place for a test", "dense.c", "--run",
+                  given=b"1 2")
+    author.called(1, "dense.c:4: a divisor is 0", "dense.c", "--run", given=b"1 2")
     author.called(0, "within.c:11: note: what goes to stderr is dropped", "within.c", "--run", given=b"1")
     author.called(1, "deep.c:2: calls go too deep: ask for more by --stack", "deep.c", "--run")
     author.called(0, "accepted", "deep.c", "--run", "--stack", "65536")

@@ -40,6 +40,10 @@ int main(void) {
     "    list = calloc(3, sizeof *list);\n    list[1] = 4;\n"
     '    while (scanf("%d", &at) == 1)\n        printf("%d\\n",\n               8 / list[at]);\n'
     '    fprintf(stderr, "done\\n");\n    return 0;\n}\n',
+    "dense.c": "#include <stdio.h>\n#include <stdlib.h>\nstatic int *list;\n"
+    "__attribute__((noinline)) static int part(int of, int at) { return of / list[at]; }\n"
+    "int main(void) {\n    int at;\n    list = calloc(3, sizeof *list);\n    list[1] = 4;\n"
+    '    while (scanf("%d", &at) == 1) printf("%d\\n", part(8, at));\n    return 0;\n}\n',
     "bare.c": "int main(void) {\n    return 7;\n}\n",
     "unused.c": "int main(void) { int unused; return 0; }\n",
     "given.c": '#include <stdio.h>\nint main(void) { printf("%d\\n", GIVEN); return INNER + GIVEN - 3; }\n',

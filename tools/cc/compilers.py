@@ -122,6 +122,10 @@ class Compiler:
                     return [word for it in folders for word in ("-isystem", it)]
         return []
 
+    def plainer(self):
+        """The level at which code is less dense; None where there is none."""
+        return "-O1" if self.request.level not in ("-O1", "-O0") else None
+
     def front(self, source):
         """The words before all others to compile a source; as c++, C is C++, but for that of the library."""
         kind = ["-x", "c++"] if self.request.name == "c++" and source in self.request.files else []
@@ -192,6 +196,9 @@ class Gcc(Compiler):
     # What is compiled of the library once and for all, and not with each program: long functions, of which gcc makes
     # nearly the same beside any program, and which it would take much of its time for.
     apart = "decimal print_double scan scan_double strtod".split()
+
+    def plainer(self):
+        return super().plainer() or ("-O0" if self.request.level == "-O1" else None)
 
     def by_level(self):
         """At -O0 calls of functions that gcc knows are calls: it doesn't look for those that it knows in the library,

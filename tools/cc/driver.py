@@ -11,7 +11,7 @@ from compilers import TOP, compiler_of, found_compiler, limited
 from fault import Fault
 from request import ending_of, request_of
 from runtime import Runtime
-from telling import Teller, demangled
+from telling import Teller, demangled, in_plain_names
 
 sys.path[:0] = [f"{TOP}/tools/debug", f"{TOP}/tools"]
 from files import Files
@@ -20,8 +20,9 @@ from standing import called, file_fault, make_stand
 # So many seconds of processor ./fit may take.
 SECONDS = 300
 # What fit says of code that is compiled for size then, and of code that is compiled more plainly.
-TOO_LARGE = re.compile(r"refused: (?:\w+: )?(the blocks of [a-z ]+ would be|more than \d+ (words|labels|registers))")
-TOO_DENSE = re.compile(r"refused: (?:\w+: )?(no place for a test|condition codes of several|no register is left)")
+INSIDE = r"refused: (?:[\w.$]+: )?"
+TOO_LARGE = re.compile(INSIDE + r"(the blocks of [a-z ]+ would be|more than \d+ (words|labels|registers))")
+TOO_DENSE = re.compile(INSIDE + r"(no place for a test|condition codes of several|no register is left)")
 LIMITS = "a program has at most 4096 blocks, 65536 words and 256 functions"
 USAGE = f"{TOP}/tools/cc/usage"
 MAIN = re.compile(r"^[\w\s*]*?\bmain\s*\(([^)]*)\)", re.M)
@@ -199,22 +200,24 @@ def image_by(request, work):
 def again_for(build, told):
     """At which level to compile again, and why; nothing where that asks for nothing else."""
     said = build.ran.stderr.strip()
-    why = said.splitlines()[-1].rpartition("refused: ")[2] if said else ""
+    why = in_plain_names(said.splitlines()[-1].rpartition("refused: ")[2]) if said else ""
     if told.endswith(": A3"):
         return build.compiler.size_level, LIMITS
     if TOO_LARGE.search(said):
         return build.compiler.size_level, why
-    return ("-O1", why) if TOO_DENSE.search(said) else (None, None)
+    return (build.compiler.plainer(), why) if TOO_DENSE.search(said) else (None, None)
 
 
 def image_of(request, work):
     """Makes the image in the folder for work, at another level where that does it; returns how it was made."""
     build, told = image_by(request, work)
-    level, why = again_for(build, told)
-    if level and level != request.level:
+    for folder in "again", "plainest":
+        level, why = again_for(build, told)
+        if level in (None, build.request.level):
+            break
         size = "for size" if level == build.compiler.size_level else "more plainly"
         say(f"{request.name}: compiled again {size}, by {level}, since {why}")
-        build, told = image_by(request.at(level), f"{work}/again")
+        build, told = image_by(request.at(level), f"{work}/{folder}")
     build.keep()
     if build.ran.returncode:
         build.refuse()

@@ -6,7 +6,7 @@ import re
 import shutil
 import subprocess
 
-from assembly import files_of, plain_objects, where
+from assembly import files_of, plain, plain_objects, where
 from compilers import TOP, runtime_files
 
 # So many notes are told line by line.
@@ -35,6 +35,11 @@ def demangled(text):
     if "_Z" not in text or not shutil.which("c++filt"):
         return text
     return subprocess.run(["c++filt"], input=text, stdout=subprocess.PIPE, text=True, check=False).stdout
+
+
+def in_plain_names(why):
+    """Why something is refused, with the names of functions as C has them."""
+    return re.sub(r"\b__main\b", "main", re.sub(r"^[\w.$]+(?=: )", lambda it: plain(it[0]), why))
 
 
 def of_several(why, count):
@@ -95,7 +100,7 @@ class Teller:
         own = [it for it in found if not self.is_library(it[0])]
         if self.request.notes:
             return self.by_line(own) + self.by_line([it for it in found if self.is_library(it[0])])
-        lines = self.by_line(own)
+        lines = self.by_line(own, are_joined=True)
         if len(own) > FEW:
             lines = [f"{self.request.name}: {len(own)} tests were added ({self.counted(own)}): --notes tells each"]
         if len(found) > len(own):
@@ -103,12 +108,15 @@ class Teller:
             lines.append(f"{self.request.name}: {rest} tests were added in the library: --notes tells each")
         return lines
 
-    def by_line(self, found):
-        """Notes in the order of files and lines; those that say the same of a line, as of copies of a function, are one
-        that counts them."""
+    def by_line(self, found, are_joined=False):
+        """Notes in the order of files and lines; where they are joined, those that say the same of a line, as of copies
+        of a function, are one that counts them."""
         counts = collections.Counter((self.path(name), int(line), why) for name, line, why in found)
-        lines = [f"{where(path, line)}: note: {of_several(why, counts[path, line, why])}"
-                 for path, line, why in sorted(counts, key=lambda it: it[:2])]
+        lines = []
+        for path, line, why in sorted(counts, key=lambda it: it[:2]):
+            count = counts[path, line, why]
+            told = [of_several(why, count)] if are_joined else [why] * count
+            lines += [f"{where(path, line)}: note: {it}" for it in told]
         return demangled("\n".join(lines)).splitlines()
 
     def is_library(self, name):
@@ -149,7 +157,7 @@ class Teller:
         if not found:
             return text.strip()
         name, line, why = found.groups()
-        why = re.sub(r"\b__main\b", "main", why.strip())
+        why = in_plain_names(why.strip())
         advice = next((said for pattern, said in ADVICE if re.search(pattern, why)), None)
         why += f": {advice}" if advice and advice not in why else ""
         if not name:
