@@ -35,8 +35,8 @@ CALLED_AT = re.compile(r"""\.uaword\s+(?:(\.LBB\d+)\n\s*\.uaword\s+(\.LBE\d+)-\.
 \s*\.(?:byte|uahalf)\s+(\w+)\n\s*\.(?:byte|uahalf|uaword)\s+(\w+)\n""")
 PIECES = re.compile(r"^(\.LLRL\d+):\n(.*?)^\s*\.byte\s+0\n", re.M | re.S)
 PIECE = re.compile(r"(?:uleb128|uaword)\s+(\.LBB\d+)(?:-\S+)?\n\s*\.uleb128\s+(\.LBE\d+)-")
-# The header for formats, whose functions become parts of those that print and read.
-WRAPPED = "/runtime/include/bits/whole.h"
+# The headers whose functions become parts of those that call them: for formats, and for bytes.
+WRAPPED = ("/runtime/include/bits/whole.h", "/runtime/plug.h")
 # A division by a word of memory, which gcc loads between the write of Y and the division.
 DIVISION = re.compile(r"""(?:\tsra\t(%\w\d), 31, (%\w\d)\n)?\twr\t(%\w\d), 0, %y
 \tld\t(\[[^\]\n]*\]), (%\w\d)\n\tnop\n\tnop
@@ -128,8 +128,8 @@ def calls_within(text):
 
 
 def at_callers(text):
-    """An assembly in which what became of printf and its kin has the line of the call, and not that of the header: its
-    arguments are worked out there."""
+    """An assembly in which what became of printf, get and their kin has the line of the call, and not that of the
+    header: arguments are worked out there."""
     wrapped = {number for number, path in paths_in(FILED.findall(text)).items() if path.endswith(WRAPPED)}
     if not wrapped:
         return text
