@@ -221,7 +221,7 @@ def with_divisor_first(found):
     if high == "%g0":
         before = f"\tsra\t{of}, 31, {sign}\n" if of else ""
         return f"{before}{load}\twr\t%g0, 0, %y\n{nops}\t{division}\n"
-    if sign == high == divisor and of == dividend and quotient not in (dividend, divisor):
+    if sign == high == divisor and of == dividend and quotient not in (dividend, divisor, "%g0"):
         return f"{load}\tsra\t{dividend}, 31, {quotient}\n\twr\t{quotient}, 0, %y\n{nops}\t{division}\n"
     return found[0]
 
