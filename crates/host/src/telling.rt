@@ -8,7 +8,7 @@ use crate::running::HostRun;
 use crate::words::Report;
 use bitflags::Flags;
 use sbx_run::{Accepted, budget};
-use serde_json::json;
+use serde_json::{Map, Value};
 use std::alloc::{AllocError, Global};
 use std::fmt::{self, Display, Formatter};
 use std::io::Write;
@@ -47,10 +47,51 @@ pub fn tell_asked(
     }
 }
 
+/// The members of an object of JSON, by their names.
+type Members = Map<String, Value>;
+
+/// Gives an object one more member.
+fn put_member(
+    alloc: Global,
+    members: &mut Members,
+    name: &str,
+    value: Value,
+) -> Result<(), AllocError> {
+    let name = String::from_str(alloc, name)?;
+    let _ = members.insert(name, value)?;
+    Ok(())
+}
+
+/// Gives an object a text by its name.
+fn put_text(
+    alloc: Global,
+    members: &mut Members,
+    name: &str,
+    text: &str,
+) -> Result<(), AllocError> {
+    let text = Value::try_from_str(alloc, text)?;
+    put_member(alloc, members, name, text)
+}
+
+/// Gives an object numbers by their names.
+fn put_numbers(
+    alloc: Global,
+    members: &mut Members,
+    numbers: &[(&str, u64)],
+) -> Result<(), AllocError> {
+    for (name, number) in numbers {
+        put_member(alloc, members, *name, Value::from(*number))?;
+    }
+    Ok(())
+}
+
 /// An object that names an image and why it is denied.
 fn denial_object(alloc: Global, path: &str, denial: &Denial) -> Result<String, AllocError> {
     let reason = format!(in alloc; "{denial}")?;
-    json!(in alloc; {"image": path, "denied": reason.as_str()})?.to_string(alloc)
+    let mut members = Map::new(alloc);
+    put_text(alloc, &mut members, "image", path)?;
+    put_text(alloc, &mut members, "denied", reason.as_str())?;
+    Value::Object(members).to_string(alloc)
 }
 
 /// Tells why an image is denied.
@@ -71,17 +112,19 @@ pub fn tell_denial(
 
 /// An object that names an image, and tells its run beside its budget.
 fn run_object(alloc: Global, path: &str, budget: u64, ran: &HostRun) -> Result<String, AllocError> {
-    json!(in alloc; {
-        "image": path,
-        "exit": ran.told.status,
-        "turns": ran.told.turns,
-        "budget": budget,
-        "overflows": ran.told.overflows,
-        "underflows": ran.told.underflows,
-        "output": ran.output,
-        "input_left": ran.has_left
-    })?
-    .to_string(alloc)
+    let numbers = [
+        ("exit", u64::from(ran.told.status)),
+        ("turns", ran.told.turns),
+        ("budget", budget),
+        ("overflows", ran.told.overflows),
+        ("underflows", ran.told.underflows),
+        ("output", ran.output),
+    ];
+    let mut members = Map::new(alloc);
+    put_text(alloc, &mut members, "image", path)?;
+    put_member(alloc, &mut members, "input_left", Value::from(ran.has_left))?;
+    put_numbers(alloc, &mut members, &numbers)?;
+    Value::Object(members).to_string(alloc)
 }
 
 /// What failed where an exit word is one of a test that `fit` adds; nothing is told of another word.
@@ -143,7 +186,11 @@ pub fn tell_run(
 
 /// An object that names an image, and tells that its run was stopped where it had put out so much.
 fn stopped_object(alloc: Global, path: &str, output: u64) -> Result<String, AllocError> {
-    json!(in alloc; {"image": path, "stopped": "output", "output": output})?.to_string(alloc)
+    let mut members = Map::new(alloc);
+    put_text(alloc, &mut members, "image", path)?;
+    put_text(alloc, &mut members, "stopped", "output")?;
+    put_numbers(alloc, &mut members, &[("output", output)])?;
+    Value::Object(members).to_string(alloc)
 }
 
 /// Tells that a run was stopped since it puts out more than so many bytes.
