@@ -5,6 +5,7 @@
 #include <stdlib.h>
 #include <string.h>
 #include <time.h>
+#include <unistd.h>
 
 static uint8_t file[8 << 20], input[1 << 20], room[1 << 20];
 static size_t file_length, input_length;
@@ -658,37 +659,92 @@ static double used(void)
     return now.tv_sec * 1e6 + now.tv_nsec * 1e-3;
 }
 
-/* Runs of one kind: the microseconds of each. */
-static void cost(long runs, const char *kind)
-{
-    geyserpan_image image = opened(&all);
+/* What `cost` measures: runs by five ways, and by themselves `open` and `engine_begin`. */
+enum kind { ONCE, KEPT, RESTARTED, ENGINE, BEGUN, OPENED, READIED };
+static const char *const KINDS[] = {"once", "kept", "restarted", "engine", "begun", "opened", "readied"};
+
+struct handles {
+    geyserpan_image image;
     geyserpan_run run;
+    geyserpan_engine engine;
+};
+
+static void make(enum kind kind, struct handles *of)
+{
     geyserpan_report report;
     geyserpan_why why;
     geyserpan_done done;
-    HOLDS(geyserpan_run_new(&run) == GEYSERPAN_OK && geyserpan_begin(&run, &image) == GEYSERPAN_OK);
-    geyserpan_engine engine;
-    HOLDS(geyserpan_engine_new(&engine) == GEYSERPAN_OK);
-    int is_once = !strcmp(kind, "once"), is_kept = !strcmp(kind, "kept"), is_engine = !strcmp(kind, "engine"), is_begun = !strcmp(kind, "begun");
+    switch (kind) {
+    case ONCE:
+        HOLDS(geyserpan_once(file, file_length, &all, input, input_length, room, sizeof room, &report, &why) == GEYSERPAN_OK);
+        break;
+    case KEPT:
+        HOLDS(geyserpan_run_image(&of->image, input, input_length, room, sizeof room, &report) == GEYSERPAN_OK);
+        break;
+    case RESTARTED:
+        HOLDS(geyserpan_restart(&of->run, &of->image) == GEYSERPAN_OK);
+        HOLDS(geyserpan_step(&of->run, UINT64_MAX, input, input_length, 1, room, sizeof room, &done) == GEYSERPAN_ENDED);
+        break;
+    case ENGINE:
+        HOLDS(geyserpan_engine_run(&of->image, input, input_length, room, sizeof room, &report) == GEYSERPAN_OK);
+        break;
+    case BEGUN:
+        HOLDS(geyserpan_engine_begin(&of->engine, &of->image) == GEYSERPAN_OK);
+        HOLDS(geyserpan_engine_step(&of->engine, UINT64_MAX, input, input_length, 1, room, sizeof room, &done) == GEYSERPAN_ENDED);
+        break;
+    case OPENED:
+        HOLDS(geyserpan_open(&of->image, file, file_length, &all, &why) == GEYSERPAN_OK);
+        break;
+    case READIED:
+        HOLDS(geyserpan_engine_begin(&of->engine, &of->image) == GEYSERPAN_OK);
+        break;
+    }
+}
+
+/* Calls of one kind: the microseconds of each. */
+static void cost(long runs, const char *name)
+{
+    struct handles of = {.image = opened(&all)};
+    HOLDS(geyserpan_run_new(&of.run) == GEYSERPAN_OK && geyserpan_begin(&of.run, &of.image) == GEYSERPAN_OK);
+    HOLDS(geyserpan_engine_new(&of.engine) == GEYSERPAN_OK);
+    enum kind kind = ONCE;
+    while (kind < READIED && strcmp(KINDS[kind], name))
+        kind++;
+    HOLDS(!strcmp(KINDS[kind], name));
     double begun = used();
     for (long i = 0; i < runs; i++)
-        if (is_once) {
-            HOLDS(geyserpan_once(file, file_length, &all, input, input_length, room, sizeof room, &report, &why) == GEYSERPAN_OK);
-        } else if (is_kept) {
-            HOLDS(geyserpan_run_image(&image, input, input_length, room, sizeof room, &report) == GEYSERPAN_OK);
-        } else if (is_engine) {
-            HOLDS(geyserpan_engine_run(&image, input, input_length, room, sizeof room, &report) == GEYSERPAN_OK);
-        } else if (is_begun) {
-            HOLDS(geyserpan_engine_begin(&engine, &image) == GEYSERPAN_OK);
-            HOLDS(geyserpan_engine_step(&engine, UINT64_MAX, input, input_length, 1, room, sizeof room, &done) == GEYSERPAN_ENDED);
-        } else {
-            HOLDS(geyserpan_restart(&run, &image) == GEYSERPAN_OK);
-            HOLDS(geyserpan_step(&run, UINT64_MAX, input, input_length, 1, room, sizeof room, &done) == GEYSERPAN_ENDED);
-        }
+        make(kind, &of);
     printf("%.2f\n", (used() - begun) / runs);
-    geyserpan_engine_free(engine);
-    geyserpan_run_free(run);
+    geyserpan_engine_free(of.engine);
+    geyserpan_run_free(of.run);
+    geyserpan_image_free(of.image);
+}
+
+static long resident(void)
+{
+    long pages = 0;
+    FILE *of = fopen("/proc/self/statm", "r");
+    HOLDS(of && fscanf(of, "%*d %ld", &pages) == 1 && !fclose(of));
+    return pages * sysconf(_SC_PAGESIZE);
+}
+
+/* So many sessions on the engine, parked behind the input: the bytes of memory that they keep. */
+static void parked(size_t count)
+{
+    geyserpan_image image = opened(&all);
+    geyserpan_engine *engines = calloc(count, sizeof *engines);
+    geyserpan_done done;
+    HOLDS(engines);
+    long before = resident();
+    for (size_t i = 0; i < count; i++) {
+        HOLDS(geyserpan_engine_new(&engines[i]) == GEYSERPAN_OK && geyserpan_engine_begin(&engines[i], &image) == GEYSERPAN_OK);
+        HOLDS(geyserpan_engine_step(&engines[i], UINT64_MAX, input, input_length, 0, room, sizeof room, &done) == GEYSERPAN_WANTS);
+    }
+    printf("%ld\n", resident() - before);
+    for (size_t i = 0; i < count; i++)
+        geyserpan_engine_free(engines[i]);
     geyserpan_image_free(image);
+    free(engines);
 }
 
 static uint64_t word(int count, char **words, int at, uint64_t otherwise)
@@ -729,6 +785,8 @@ int main(int count, char **words)
         threads((long)word(count, words, 3, 8), (long)word(count, words, 4, 100));
     else if (!strcmp(mode, "cost"))
         cost((long)word(count, words, 3, 1000), count > 4 ? words[4] : "restarted");
+    else if (!strcmp(mode, "parked"))
+        parked((size_t)word(count, words, 3, 10000));
     else
         return 3;
     return 0;

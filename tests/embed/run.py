@@ -18,7 +18,8 @@ share/geyserpan/embed there, which find header and library by pkg-config.
 
 With --cost it only measures a run of three examples by `once`, by `run_image`, by `restart` and `step`, by
 `engine_run`, by `engine_begin` and `engine_step`, in microseconds of the processor and, where valgrind is there, in
-instructions, and by a process of the program; and the size of the library."""
+instructions, and by a process of the program; `open` and `engine_begin` by themselves, of two programs from C, too,
+where there is a compiler for SPARC, and the memory of ten thousand sessions; and the size of the library."""
 import glob
 import hashlib
 import os
@@ -736,8 +737,12 @@ def processes(image, given, count):
     return (used() - begun) / count * 1e6
 
 
-# The kinds of runs that `calls cost` makes.
+# The kinds of runs that `calls cost` makes, and of calls before a run.
 KINDS = ("once", "kept", "restarted", "engine", "begun")
+BEFORE = ("opened", "readied")
+# Programs from C whose runs begin with 320 bytes of data, and one of a hundred words.
+FROM_C = ("upper", "control")
+SESSIONS = 10000
 
 
 def instructions(calls, image, given, kind):
@@ -750,17 +755,31 @@ def instructions(calls, image, given, kind):
     return (counts[1] - counts[0]) / 100
 
 
-def measure_image(calls, image, given):
-    """A line for each kind of run of an image."""
+def measure_image(calls, image, given, kinds):
+    """A line for each kind of call of an image."""
     runs = "20000" if len(given) < 9 else "1000"
     print(f"{os.path.basename(image)}, {len(given)} bytes of input:")
-    for kind in KINDS:
+    for kind in kinds:
         time = float(run([calls, "cost", image, runs, kind], given, None).out)
         more = f", {1e6 / time:,.0f} sessions a second" if kind == "restarted" else ""
         counted = f", {instructions(calls, image, given, kind):,.0f} instructions" if has("valgrind") else ""
         print(f"  {kind}: {time:.2f} microseconds{counted}{more}", flush=True)
-    if os.path.exists(PROGRAM):
+    if kinds is not BEFORE and os.path.exists(PROGRAM):
         print(f"  process: {processes(image, given, 100):.0f} microseconds")
+
+
+def measure_from_c(calls, work):
+    """The calls before a run of programs from C, and the memory of their sessions; nothing where they can't be made."""
+    for name in FROM_C:
+        image = f"{work}/{name}.img"
+        ran = run([f"{TOP}/cc", f"{EXAMPLES}/c/{name}.c", "-o", image], b"", 600)
+        if ran.status:
+            print(f"{name}.c: {ran.said.strip().splitlines()[-1]}")
+            return
+        facts = run([calls, "facts", image]).out.decode().split()
+        measure_image(calls, image, b"", BEFORE)
+        kept = int(run([calls, "parked", image, str(SESSIONS)], b"", None).out)
+        print(f"  {facts[2]} words, {facts[3]} bytes of data: {SESSIONS:,} sessions keep {kept / 1e6:.0f} MB", flush=True)
 
 
 def calls_in(prefix, work, *flags):
@@ -791,7 +810,8 @@ def measure(prefix, work):
         return FAILED
     hello, echo = (f"{EXAMPLES}/{it}/{it}.img" for it in ("hello", "echo"))
     for image, given in ((hello, b""), (filter_image, b"HAL"), (echo, b"abc" * 300)):
-        measure_image(calls, image, given)
+        measure_image(calls, image, given, KINDS + BEFORE)
+    measure_from_c(calls, work)
     return PASSED
 
 
