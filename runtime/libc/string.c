@@ -207,4 +207,4 @@ void bcopy(const void *from, void *to, size_t size) { memmove(to, from, size); }
 void bzero(void *to, size_t size) { memset(to, 0, size); }
 char *index(const char *text, int c) { return strchr(text, c); }
 char *rindex(const char *text, int c) { return strrchr(text, c); }
-int ffs(int word) { return __builtin_ffs(word); }
+int ffs(int word) { return word == 0 ? 0 : __builtin_ctz((unsigned)word) + 1; }
