@@ -32,6 +32,18 @@
 #define DBL_TRUE_MIN 0x1p-1074
 #define DBL_EPSILON 0x1p-52
 
-/* Nothing of LDBL_: there is no arithmetic of long double here. */
+/* (a long double is a double here) */
+#define LDBL_MANT_DIG __LDBL_MANT_DIG__
+#define LDBL_DIG __LDBL_DIG__
+#define LDBL_DECIMAL_DIG __LDBL_DECIMAL_DIG__
+#define LDBL_MIN_EXP __LDBL_MIN_EXP__
+#define LDBL_MIN_10_EXP __LDBL_MIN_10_EXP__
+#define LDBL_MAX_EXP __LDBL_MAX_EXP__
+#define LDBL_MAX_10_EXP __LDBL_MAX_10_EXP__
+#define LDBL_HAS_SUBNORM 1
+#define LDBL_MAX __LDBL_MAX__
+#define LDBL_MIN __LDBL_MIN__
+#define LDBL_TRUE_MIN __LDBL_DENORM_MIN__
+#define LDBL_EPSILON __LDBL_EPSILON__
 
 #endif

@@ -115,6 +115,34 @@ float fmaxf(float, float);
 float fdimf(float, float);
 float nanf(const char *);
 
+long double fabsl(long double);
+long double sqrtl(long double);
+long double floorl(long double);
+long double ceill(long double);
+long double truncl(long double);
+long double roundl(long double);
+long double rintl(long double);
+long double nearbyintl(long double);
+long double logbl(long double);
+long double fmodl(long double, long double);
+long double remainderl(long double, long double);
+long double copysignl(long double, long double);
+long double nextafterl(long double, long double);
+long double fminl(long double, long double);
+long double fmaxl(long double, long double);
+long double fdiml(long double, long double);
+long lroundl(long double);
+long long llroundl(long double);
+long lrintl(long double);
+long long llrintl(long double);
+int ilogbl(long double);
+long double frexpl(long double, int *);
+long double ldexpl(long double, int);
+long double scalbnl(long double, int);
+long double scalblnl(long double, long);
+long double modfl(long double, long double *);
+long double nanl(const char *);
+
 /* The library has none of these: a program that calls one names a source that has it. */
 #ifndef __cplusplus
 double acos(double);

@@ -1,9 +1,9 @@
 /* Streams over the three services of a sandbox: stdin reads the input, stdout puts out, each byte at once, and stderr
-   takes what it is given and throws it away. There are no files: fopen and kin fail as the standard has them fail,
-   and the compiler says so at the call. perror, which could tell nobody anything, is refused.
+   takes what it is given and throws it away, as perror does. There are no files: fopen and kin fail as the standard has
+   them fail, and the compiler says so at the call.
 
-   printf and scanf know no long double (L), no characters of several bytes (%lc, %ls, %l[) and no positions (%1$d);
-   such a conversion ends the run as abort does, so that nothing wrong is put out. */
+   printf and scanf know no characters of several bytes (%lc, %ls, %l[) and no positions (%1$d); such a conversion ends
+   the run as abort does, so that nothing wrong is put out. */
 #ifndef GEYSERPAN_STDIO_H
 #define GEYSERPAN_STDIO_H
 
@@ -102,7 +102,7 @@ int fseek(FILE *, long, int) __FAILS("the input is read once, from its begin: it
 long ftell(FILE *) __FAILS("the input is read once, from its begin: it returns -1");
 void rewind(FILE *) __FAILS("the input is read once, from its begin: nothing is done");
 int fclose(FILE *);
-void perror(const char *) __REFUSED("what goes to stderr is thrown away: print to stdout, or leave it out");
+void perror(const char *);
 
 #ifdef __cplusplus
 }

@@ -56,6 +56,7 @@ unsigned long long strtoull(const char *, char **, int);
 double atof(const char *);
 double strtod(const char *, char **);
 float strtof(const char *, char **);
+long double strtold(const char *, char **);
 
 /* The standard's example of a generator, so that each seed gives the same numbers everywhere. */
 int rand(void);

@@ -6,7 +6,6 @@
 void __print_any(const char *format, va_list arguments) {
     va_copy(__print_arguments, arguments);
     for (const char *at = format; (at = __print_on(at)) != NULL;) {
-        if (__asked.length == 'L') abort();
         __print_double(va_arg(__print_arguments, double));
     }
     va_end(__print_arguments);

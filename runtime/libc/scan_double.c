@@ -67,7 +67,6 @@ static int keep_number(void) {
 }
 
 enum outcome __scan_double(void) {
-    if (__scan.length == 'L') abort();
     item.size = 0;
     item.next = take_of_field();
     if (item.next < 0) return ENDED;
@@ -76,7 +75,7 @@ enum outcome __scan_double(void) {
     if (!is_number) return FAILED;
     item.text[item.size] = 0;
     if (!__scan.is_kept) return MATCHED;
-    if (__scan.length == 'l') *va_arg(__scan.arguments, double *) = strtod(item.text, NULL);
+    if (__scan.length == 'l' || __scan.length == 'L') *va_arg(__scan.arguments, double *) = strtod(item.text, NULL);
     else *va_arg(__scan.arguments, float *) = strtof(item.text, NULL);
     return MATCHED;
 }

@@ -4,6 +4,9 @@
 
 FILE __stdin = {INPUT, EOF, 0, 0}, __stdout = {OUTPUT, EOF, 0, 0}, __stderr = {NOWHERE, EOF, 0, 0};
 
+/* (it would go to stderr) */
+void perror(const char *text) { (void)text; }
+
 int fgetc(FILE *stream) { return next_byte(stream); }
 int getc(FILE *stream) { return next_byte(stream); }
 int getchar(void) { return next_byte(stdin); }

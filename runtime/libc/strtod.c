@@ -331,4 +331,7 @@ float strtof(const char *text, char **end) {
     return float_from();
 }
 
+/* (a long double is a double) */
+long double strtold(const char *text, char **end) { return strtod(text, end); }
+
 double atof(const char *text) { return strtod(text, NULL); }

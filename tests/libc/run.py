@@ -30,7 +30,8 @@ CASES = sorted(HERE.glob("case_*.c"))
 FREESTANDING = ["-std=gnu11", "-ffreestanding", "-fno-strict-aliasing", "-fno-tree-loop-distribute-patterns",
                 "-nostdinc", "-isystem", str(HEADERS), "-Wall", "-Wextra"]
 NATIVE = ["gcc", "-O2", "-g"]
-SPARC = ["sparc64-linux-gnu-gcc", "-O2", "-g", "-m32", "-mcpu=v8", "-msoft-float", "-fno-pic", "-fno-pie", "-fwrapv"]
+SPARC = ["sparc64-linux-gnu-gcc", "-O2", "-g", "-m32", "-mcpu=v8", "-msoft-float", "-mlong-double-64",
+         "-fno-pic", "-fno-pie", "-fwrapv"]
 QEMU = "qemu-sparc32plus"
 # What ./cc passes on, as far as it changes what is counted.
 AS_CC = ["-mno-app-regs", "-ffixed-o7", "-fno-delayed-branch", "-fno-jump-tables", "-fno-optimize-sibling-calls",

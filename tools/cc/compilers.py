@@ -20,9 +20,9 @@ SECONDS = 60
 # left to the tests, %o7 to the calls, %g2 to %g4 to the stack of functions that call themselves, and to the meter.
 # What C leaves open and programs rely on is as most compilers had it for long: sums that wrap, pointers of other types
 # to one place, a null pointer that is read where it is read.
-PLAIN = """-g1 -m32 -mcpu=v8 -msoft-float -mno-app-regs -ffixed-o7 -fno-delayed-branch -fno-pic -fno-pie
-    -fno-jump-tables -fno-optimize-sibling-calls -fno-asynchronous-unwind-tables -fno-stack-protector -fno-common
-    -fno-ipa-icf -fno-ipa-ra -fno-strict-aliasing -fwrapv -fno-isolate-erroneous-paths-dereference
+PLAIN = """-g1 -m32 -mcpu=v8 -msoft-float -mlong-double-64 -mno-app-regs -ffixed-o7 -fno-delayed-branch -fno-pic
+    -fno-pie -fno-jump-tables -fno-optimize-sibling-calls -fno-asynchronous-unwind-tables -fno-stack-protector
+    -fno-common -fno-ipa-icf -fno-ipa-ra -fno-strict-aliasing -fwrapv -fno-isolate-erroneous-paths-dereference
     -Wreturn-type""".split()
 # These keep an index in a register that counts from an object, so that fewer tests are needed; small functions become
 # parts of their callers also where these are cold, since a call costs more than it does elsewhere.
@@ -37,6 +37,9 @@ CLANG = """--target=sparc-linux-gnu -mcpu=v8 -msoft-float -g1 -gdwarf-4 -fno-pic
     -mllvm -sparc-reserve-app-registers""".split()
 # C++ without what needs tables: no exceptions, no types at run time, one thread.
 PLUS = "-fno-exceptions -fno-rtti -fno-threadsafe-statics -nostdinc++".split()
+# C with one thread, whose own variables are like others: these words of C stand beside static and extern, or outside of
+# functions.
+ALONE = ["-D_Thread_local=", "-D__thread="]
 # The headers are those of runtime/include alone, and the compiler's own for C++ behind them.
 HEADERS = ["-nostdinc", "-isystem", f"{TOP}/runtime/include", "-idirafter", f"{TOP}/runtime"]
 PLUS_HEADERS = ["-isystem", f"{TOP}/runtime/cxx/include"]
@@ -130,7 +133,7 @@ class Compiler:
         """The words before all others to compile a source; as c++, C is C++, but for that of the library."""
         kind = ["-x", "c++"] if self.request.name == "c++" and source in self.request.files else []
         if not is_plus(source) and not kind:
-            return [self.path, *self.target, *HEADERS]
+            return [self.path, *self.target, *ALONE, *HEADERS]
         return [self.plus, *kind, *self.target, *PLUS, *PLUS_HEADERS, *HEADERS, *self.plus_headers]
 
     def words(self, source, level, flags, *more):
@@ -273,7 +276,8 @@ class Gcc(Compiler):
             text = text.replace(os.path.relpath(os.path.abspath(source), os.path.realpath(work)), source)
         text = re.sub(re.escape(f"{work}/library.a(") + r"(\S+\.c)(?:\.told)?\.s(\.o)\)", r"\1\2", text)
         lines = [re.sub(r"^\S*/ld: ", "", it) for it in text.splitlines()]
-        of_tools = r"collect2: |lto-wrapper: |compilation terminated|error: lto-wrapper|.* defaulting to "
+        of_tools = ("collect2: |lto-wrapper: |compilation terminated|error: lto-wrapper|.* defaulting to "
+                    "|warning: .* requires executable stack")
         return "\n".join(it for it in lines if not re.match(of_tools, it))
 
 

@@ -10,6 +10,7 @@ inline long abs(long x) { return x < 0 ? -x : x; }
 inline long long abs(long long x) { return x < 0 ? -x : x; }
 inline float abs(float x) { return __builtin_fabsf(x); }
 inline double abs(double x) { return __builtin_fabs(x); }
+inline long double abs(long double x) { return __builtin_fabsl(x); }
 } // namespace std
 
 #endif
