@@ -172,6 +172,7 @@ def try_options(author):
     author.puts(author.at("again.img"), b"3\n")
     author.called(0, "tests were added (first 7, second 4): --notes tells each", "notes.c", "-o", "notes.img")
     author.called(0, "notes.c:5: note: the index into table", "notes.c", "--notes", "-o", "notes.img")
+    author.called(0, "tests were added (first 7, second 4): --notes tells each", "old.c", "-o", "old.img")
     author.called(1, "differs: byte 0, in line 1, is 34, natively 38", "size.c", "--against", "size.in")
     author.called(1, "2 inputs, 2 differ", "size.c", "--against", "inputs")
     author.called(1, "natively status 8, here the exit word is 4", "size.c", "--against", "size.in", "-DQUIET")

@@ -57,12 +57,17 @@ int main(void) {
     "    table[i + 1] = 1;\n    table[i * 3 + 1] = 2;\n    table[i * 5 + 1] = 3;\n    table[i * 7 + 1] = 4;\n"
     "    table[i * 9 + 1] = 5;\n    table[i * 11 + 1] = 6;\n    table[i * 13 + 1] = 7;\n}\n"
     "int main(void) { first(get()); second(get()); put(table[get() & 7]); return 0; }\n",
+    "told.c": "#include <stdio.h>\n/* stderr */\nint main(void) {\n    int c = getchar();\n"
+    '    if (c < 0) perror("stderr");\n    return 0;\n}\n',
     "size.c": "#include <stdio.h>\nint main(void) {\n#ifndef QUIET\n"
     '    printf("%d\\n", (int)sizeof(long));\n#endif\n    return sizeof(long);\n}\n',
     "size.in": "",
     "inputs/one": "1",
     "inputs/two": "2",
 }
+# The same functions with their names at the begin of a line, as they were written once.
+SOURCES["old.c"] = SOURCES["notes.c"].replace("static void first(int i) {", "static void\nfirst(i)\n    int i;\n{") \
+    .replace("static void second(int i) {", "static void\nsecond (int i)\n{")
 
 # Three of the programs as one, of which the first byte of the input chooses.
 THREE = """#define main json

@@ -146,7 +146,7 @@ class Teller:
         """The function that a line of C stands in, as well as the text tells; else the file's name."""
         for text in reversed(self.lines_of(name)[:line]):
             text = re.sub(r"__attribute__\(\(.*?\)\)\s*", "", text)
-            head = re.match(r"(?!typedef|#|//|/\*| \*)[A-Za-z_][^;={}]*?(\w+)\s*\((?!.*;\s*$)", text)
+            head = re.match(r"(?!typedef|#|//|/\*| \*)(?=[A-Za-z_])[^;={}]*?\b(\w+)\s*\((?!.*;\s*$)", text)
             if head and head[1] not in ("if", "for", "while", "switch", "__attribute__", "sizeof", "return"):
                 return head[1]
         return name
