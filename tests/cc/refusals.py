@@ -31,6 +31,12 @@ REFUSED = {
     "last.c": ('#include "plug.h"\n__attribute__((destructor)) static void last(void) { put(65); }\n'
                "int main(void) { return 0; }\n",
                "an __attribute__((destructor)) isn't taken: tell atexit of the function"),
+    "inside.c": ("int called(int (*how)(int)) { return how(3); }\nint main(int count, char **words) {\n"
+                 "    int more(int by) { return by + count; }\n    return called(more);\n}\n",
+                 "a pointer to a function that stands in another one isn't taken: write it outside of it"),
+    "distance.c": ("#include <stdio.h>\nint main(void) {\n    static const int to[] = {&&one - &&one, &&two - &&one};\n"
+                   "    goto *(&&one + to[getchar() & 1]);\none:\n    puts(\"one\");\ntwo:\n    return 0;\n}\n",
+                   "refused: main: a distance between labels isn't taken: have a table of their addresses, &&name"),
     "wrong.c": ("int main(void) { return x; }\n", "wrong.c:1:25: error: ‘x’ undeclared"),
 }
 
@@ -41,6 +47,9 @@ REFUSED_PLUS = {
     "thrown.cc": ("int main() { throw 1; }\n", "exception handling disabled"),
     "type.cc": ("#include <typeinfo>\nstruct S { virtual ~S() {} };\n"
                 "int main() { S s; return typeid(s).name()[0]; }\n", "cannot use ‘typeid’ with ‘-fno-rtti’"),
+    "own.cc": ("#include <cstdio>\nthread_local int own;\nint main() { own += std::getchar(); return own; }\n",
+               "own.cc:3: refused: the operands of sethi can't be read: neither thread_local of C++ nor inline "
+               "assembly is taken"),
     "threads.cc": ("#include <thread>\nint main() { return 0; }\n",
                    "<thread> is not here: a program of a sandbox is one thread"),
 }

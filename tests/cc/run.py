@@ -149,6 +149,7 @@ def try_ends(author):
                   given=b"1 2")
     author.called(1, "dense.c:4: a divisor is 0", "dense.c", "--run", given=b"1 2")
     author.called(0, "within.c:11: note: what goes to stderr is dropped", "within.c", "--run", given=b"1")
+    author.called(0, "told.c:5: note: what goes to stderr is dropped", "told.c", "--run")
     author.called(1, "deep.c:2: calls go too deep: ask for more by --stack", "deep.c", "--run")
     author.called(0, "accepted", "deep.c", "--run", "--stack", "65536")
     author.called(1, "the loops have used up their turns: ask for more by --turns", "deep.c", "--run", "--stack",

@@ -3,6 +3,8 @@ import functools
 import os
 import re
 
+from labels import with_labels_looked_up
+
 FILE = re.compile(r'\s*\.file\s+(\d+)\s+"([^"]*)"(?:\s+"([^"]*)")?')
 PLACE = re.compile(r"\s*\.loc\s+(\d+)\s+(\d+)")
 LABEL = re.compile(r"([A-Za-z_$][\w.$]*):")
@@ -285,7 +287,7 @@ def calls_main(text):
 
 def started(text, has_parameters):
     """Puts a start before main where something runs before it or behind it, where it has parameters, or is called."""
-    text = DIVISION.sub(with_divisor_first, text)
+    text = with_labels_looked_up(DIVISION.sub(with_divisor_first, text))
     text, before = without_lists(without_frame_sums(without_aliases(without_options(text))))
     is_told = "__exit_" in text and AT_EXIT.search(text) is not None
     if not (before or is_told or has_parameters or calls_main(text)):

@@ -9,6 +9,7 @@ import tempfile
 from assembly import Assembly, at_callers, destructor_of, started, where, without_traps
 from compilers import TOP, compiler_of, found_compiler, limited
 from fault import Fault
+from labels import distant_label
 from request import ending_of, request_of
 from runtime import Runtime
 from telling import Teller, demangled, in_plain_names
@@ -26,6 +27,8 @@ TOO_DENSE = re.compile(INSIDE + r"(no place for a test|condition codes of severa
 LIMITS = "a program has at most 4096 blocks, 65536 words and 256 functions"
 USAGE = f"{TOP}/tools/cc/usage"
 MAIN = re.compile(r"^[\w\s*]*?\bmain\s*\(([^)]*)\)", re.M)
+# What names what is dropped.
+USE_OF_ERRORS = re.compile(r"\b(?:stderr|perror)\b")
 # Comments and strings of C.
 APART = re.compile(r"//[^\n]*|/\*.*?\*/|\"(?:\\.|[^\"\\\n])*\"", re.S)
 
@@ -61,9 +64,11 @@ class Build:
         return None
 
     def use_of_errors(self):
-        """Where stderr is named first, and what becomes of it; None where it isn't."""
+        """Where stderr or perror is named first, and what becomes of it; None where none is."""
         for path, text in self.texts():
-            found = "stderr" in text and re.search(r"\bstderr\b", APART.sub(lambda it: "\n" * it[0].count("\n"), text))
+            found = USE_OF_ERRORS.search(text)
+            if found:
+                found = USE_OF_ERRORS.search(APART.sub(lambda it: "\n" * it[0].count("\n"), text))
             if found:
                 line = found.string[: found.start()].count("\n") + 1
                 return f"{path}:{line}: note: what goes to stderr is dropped: print to stdout what has to be read"
@@ -102,6 +107,7 @@ class Build:
         if last:
             raise Fault(2, f"{self.request.name}: refused: {last}: an __attribute__((destructor)) isn't taken: tell "
                         "atexit of the function")
+        self.refuse_distances(text)
         assembly = Assembly(started(text, self.has_parameters))
         helpers = [*self.compiler.taken(self.work), *runtime.helpers()]
         self.teller = Teller(self.request, assembly, helpers, self.work)
@@ -112,6 +118,16 @@ class Build:
         self.teller.assembly = assembly
         written = [it for it in self.request.files if ending_of(it) == ".s"]
         return [*written, self.program, *helpers]
+
+    def refuse_distances(self, text):
+        """Ends where a label's address is taken in a distance."""
+        number = distant_label(text)
+        if number:
+            assembly = Assembly(text)
+            path, line = assembly.place(number) or (self.request.files[0], None)
+            shown = Teller(self.request, assembly, [], self.work).shown(path)
+            raise Fault(2, f"{where(shown, line)}: refused: {assembly.function(number)}: a distance between labels "
+                        "isn't taken: have a table of their addresses, &&name")
 
     def trap(self, number):
         """What is told of a trap that a compiler put in."""

@@ -23,6 +23,9 @@ ADVICE = (
     (r"words of code|would be \d+, above 65536", "compile by -Os"),
     (r"isn't defined", "it is neither in the sources that are named nor in the library: name its source"),
     (r"there is no function main", "one of the sources has to have it"),
+    (r"the instruction iflush", "a pointer to a function that stands in another one isn't taken: write it outside of "
+     "it"),
+    (r"the operands of sethi", "neither thread_local of C++ nor inline assembly is taken"),
     (r"the instruction .* isn't known|an instruction that sandboxed code|the operands of",
      "inline assembly isn't taken: write it in C"),
     (r"one of %g5 to %g7", "inline assembly that names these isn't taken: write it in C"),
