@@ -117,6 +117,7 @@ def try_sources(author):
     author.called(4, "none.c: no such file", "none.c", "-o", "none.img")
     author.puts(author.makes("accepted", "library.c"), b"1 2 3 5 8 00005|ff\n", b"3 1 8 5 2")
     author.puts(author.makes("accepted", "limits.c"), b"A")
+    author.puts(author.makes("accepted", "cell.c"), b"-3 -10 -2\n3 15 4\n-1 0 0\n", b"-2.5 3.6 -0.1")
     author.puts(author.makes("accepted", "two.c", author.at("one.c"), "-DFACTOR=2"), b"B")
     for level in ("-O1", "-O2", "-Os"):
         image = author.at("rot13.img")

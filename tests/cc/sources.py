@@ -59,6 +59,10 @@ int main(void) {
     "int main(void) { first(get()); second(get()); put(table[get() & 7]); return 0; }\n",
     "told.c": "#include <stdio.h>\n/* stderr */\nint main(void) {\n    int c = getchar();\n"
     '    if (c < 0) perror("stderr");\n    return 0;\n}\n',
+    "cell.c": "#include <math.h>\n#include <stdio.h>\nint main(void) {\n    double x;\n"
+    '    while (scanf("%lf", &x) == 1)\n'
+    '        printf("%d %lld %d\\n", (int)floor(x), (long long)ceil(x * 4), (int)floorf((float)x + 0.5f));\n'
+    "    return 0;\n}\n",
     "size.c": "#include <stdio.h>\nint main(void) {\n#ifndef QUIET\n"
     '    printf("%d\\n", (int)sizeof(long));\n#endif\n    return sizeof(long);\n}\n',
     "size.in": "",

@@ -50,6 +50,8 @@ WHOLE = """-flto -flto-partition=none -fwhole-program -nostdlib -static -save-te
 # goes where nothing calls it.
 KEPT = """memcpy memmove memset memcmp memchr mempcpy strlen strcpy stpcpy strcat strchr strcmp strncmp puts putchar
     fputc fputs fwrite calloc abort exit""".split()
+# What gcc calls as its very last pass for a whole number of a double, (int)floor(x), though nothing called it before.
+LATE = re.compile(r"^\s*call\s+(floorf?|ceilf?)\b", re.M)
 # What clang calls of mathematics in the place of its own operations.
 KEPT_MATH = """fabs floor ceil trunc rint nearbyint round sqrt copysign fmin fmax fmod fabsf floorf ceilf truncf rintf
     nearbyintf roundf sqrtf copysignf fminf fmaxf fmodf""".split()
@@ -229,8 +231,20 @@ class Gcc(Compiler):
 
     def whole(self, objects, library, work):
         """Makes one assembly of all; returns its path."""
+        path, told = f"{work}/program.s", self.told
+        self.join(objects, library, work, KEPT)
+        with open(path, encoding="utf-8", errors="surrogateescape") as file:
+            text = file.read()
+        late = {it for it in LATE.findall(text) if f"\n{it}:" not in text}
+        if late:
+            self.told = told
+            self.join(objects, library, work, [*KEPT, *sorted(late)])
+        return path
+
+    def join(self, objects, library, work, names):
+        """Has the compiler make one assembly of all, in which functions of some names stay up to its last pass."""
         path = self.plus if self.request.is_plus else self.path
-        kept = [f"-Wl,-u,{name}" for name in KEPT]
+        kept = [f"-Wl,-u,{name}" for name in names]
         level = [self.request.level, *self.for_size(self.request.level)]
         words = [path, *level, *self.target, *self.telling, *WHOLE, *kept, "-Wl,-Map=whole.map", "-o", "whole",
                  *objects, *library]
@@ -244,7 +258,6 @@ class Gcc(Compiler):
             raise Fault(2, self.told, *wrong or [self.named(ran.stderr, objects, work).strip()])
         self.told += self.named(ran.stderr, objects, work)
         os.rename(f"{work}/{made[0]}", f"{work}/program.s")
-        return f"{work}/program.s"
 
     def taken(self, work):
         """Those of the library's files that were compiled once and for all, as the linker's map tells."""
