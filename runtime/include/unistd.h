@@ -28,6 +28,12 @@ int access(const char *, int) __FAILS("there are no files in a sandbox: it retur
 int unlink(const char *) __FAILS("there are no files in a sandbox: it returns -1");
 void _exit(int) __attribute__((__noreturn__));
 
+/* The options of a program's words; main is called with none, but a program may have words of its own. Nothing is told
+   of an option that isn't known. */
+int getopt(int, char *const[], const char *);
+extern char *optarg;
+extern int optind, opterr, optopt;
+
 #define __NO_SYSTEM __REFUSED("a program of a sandbox has no operating system: leave it out")
 int fork(void) __NO_SYSTEM;
 int pipe(int[2]) __NO_SYSTEM;
