@@ -18,8 +18,6 @@ mod judging;
 mod policy;
 mod running;
 mod telling;
-#[cfg(test)]
-mod tests;
 mod words;
 
 use cmd_command::{Full, ReadFault, read_whole};

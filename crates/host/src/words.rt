@@ -39,7 +39,7 @@ Status 0: all ran, with the exit word 0. 1: one had another. 2: one is denied, o
 const MOST: u64 = 1_099_511_627_776;
 
 /// What is told on standard error.
-#[derive(Clone, Copy, PartialEq, Eq)]
+#[derive(Clone, Copy)]
 pub enum Report {
     /// What each image asks for, how its run ended, and what is wrong: `host IMG ..`.
     Lines,
@@ -94,7 +94,7 @@ pub struct Asked<'a> {
 }
 
 /// The name of an option.
-#[derive(Clone, Copy, PartialEq, Eq)]
+#[derive(Clone, Copy)]
 pub enum Name {
     Turns,
     Services,
