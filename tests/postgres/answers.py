@@ -9,6 +9,8 @@ from run import CC, EXAMPLES, TOP, built, bytes_of, has, put, run, text_of
 COMPILER = "sparc64-linux-gnu-gcc"
 # The most turns that an image can declare.
 ALL_TURNS = "SET geyserpan.max_turns = 1099511627776; SET geyserpan.max_output = '1000MB';\n"
+# What the path of a line in an access log may be made of.
+NAMES = ("", "a", "index.html", "1234", "q?id=17")
 
 
 def loaded(path, variable="image"):
@@ -117,10 +119,9 @@ def compiled(work, name, source):
     return image if work.tally.check(f"{name}.c", ran.status == 0, ran.said[-1500:]) else None
 
 
-def whole_line(lots):
-    """A line of an access log."""
+def whole_line(lots, names=(*NAMES, "x" * 30)):
+    """A line of an access log, whose path is made of some of these names."""
     address = ".".join(str(lots.randrange(256)) for _ in range(4))
-    names = ("", "a", "index.html", "x" * 30, "1234", "q?id=17")
     path = "/".join(lots.choice(names) for _ in range(lots.randrange(6)))
     status = lots.choice((200,) * 12 + (204, 301, 404, 499, 500, 503, 599, 999))
     request, sent = f'"GET /{path} HTTP/1.1"', lots.randrange(99999)

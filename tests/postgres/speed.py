@@ -2,7 +2,7 @@
 import os
 import random
 
-from answers import COMPILER, RULE, compiled, has_failed, loaded, whole_line
+from answers import COMPILER, NAMES, RULE, compiled, has_failed, loaded, whole_line
 from natively import directory, lacks, object_in
 from run import built, has, put, run
 from server import config
@@ -97,7 +97,7 @@ def native(work):
 def fill(work):
     """Makes the table, and returns how many of its lines have failed."""
     lots = random.Random(80)
-    lines = [whole_line(lots) for _ in range(DISTINCT)]
+    lines = [whole_line(lots, NAMES) for _ in range(DISTINCT)]
     repeats, rest = divmod(work.rows, DISTINCT)
     path = put(work.at("log.txt"), "\n".join(lines * repeats + lines[:rest]) + "\n")
     work.server.ask("DROP TABLE IF EXISTS log;")
