@@ -70,6 +70,14 @@ const COUNTED = page.utf8(`.services exit
     ta 0
 `), UNPLACED = page.utf8('.function main,leaf,0,0,0\n    rd %psr,%o0\n');
 
+// A source gets the annotations that it lacks, and notes tell its lines; a page tells windows, turns and the limit.
+function annotated() {
+  const nothing = new Uint8Array(), image = play.tell('play_assemble', [COUNTED]).bytes;
+  tally.check('the cell of a counter', told('play_annotate', COUNTED).includes('\n.cell %o1,1,3,0\n'));
+  tally.same('the line of its note', told('play_notes', COUNTED).split(' ', 1)[0], '9');
+  tally.check('the head of a page', told('play_page', image, 8, 100n, nothing, COUNTED).includes('\nn8 13 100 1\n'));
+}
+
 // What isn't an image, a source or a count of windows is denied by its status.
 function denials() {
   const nothing = new Uint8Array(), junk = page.bytesOfText('SBX8 and so on');
@@ -85,7 +93,10 @@ function denials() {
   tally.same('why it is none', told('play_notes', UNPLACED).split(' ', 2).join(' '), '2 an');
   for (const name of ['play_assemble', 'play_map', 'play_annotate'])
     tally.same(name, play.tell(name, [page.utf8('no such thing\n')]).status, page.SOURCE);
-  for (const [name, given] of [['play_image', [image]], ['play_check', [hello]]]) {
+  tally.same('a page of no image', told('play_page', nothing, 32, 100n, nothing, nothing), `status ${page.NO_IMAGE}`);
+  const page4 = [image, 4, 100n, nothing, nothing];
+  for (const [name, given] of [['play_image', [image]], ['play_check', [hello]], ['play_annotate', [COUNTED]],
+    ['play_page', page4]]) {
     const whole = play.tell(name, given), cut = play.tell(name, given, 1);
     tally.same(`${name} into little room`, page.textOfBytes(cut.bytes), page.textOfBytes(whole.bytes));
   }
@@ -134,6 +145,7 @@ function growths() {
 checks();
 examples();
 refusals();
+annotated();
 denials();
 growths();
 tally.end();

@@ -9,5 +9,3 @@ mod pages;
 mod room;
 mod runs;
 mod sources;
-#[cfg(test)]
-mod tests;
