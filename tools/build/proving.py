@@ -20,10 +20,10 @@ EACH, A_LINE, A_LINE_BELOW, A_LINE_COMPILED = 17, 0.11, 0.0012, 0.003
 # Once this part of a build is done, its pace is known.
 SOME = 0.1
 # A crate that is checked with several jobs takes so much more memory, and less time, for each further one.
-MORE_MEMORY, GAIN = 0.6, 0.35
-# A crate gets so many jobs even where others wait, if the chain behind it is so many times as long as all that is left
-# takes on all processors.
-LONG, OF_LONG = 2, 2
+MORE_MEMORY, GAIN = 0.6, 0.5
+# Ways to share the processors: a crate gets so many jobs even where others wait, if the chain behind it is so many
+# times as long as all that is left takes on all processors. A plan takes the way by which it is reckoned to end first.
+WAYS = [(jobs, times) for jobs in (1, 2, 3) for times in (1, 1.5, 2)]
 
 
 def lines_in(folder):
@@ -57,6 +57,7 @@ class Plan:
             self.stands(it)
         self.left = [it for it in self.names if it not in self.sums]
         self.behind = self.chains()
+        self.way = min(WAYS, key=lambda way: self.minutes(rt.processors(), self.left, way))
 
     def reckoned(self):
         """The processor seconds that each crate is reckoned to take."""
@@ -96,21 +97,22 @@ class Plan:
         """Those left that wait for none, the longest chain first."""
         return sorted((it for it in left if given.issuperset(self.below[it])), key=lambda it: -self.behind[it])
 
-    def jobs(self, name, left, waiting, lanes, idle):
-        """How many of the processors that are idle a crate gets where so many wait."""
+    def jobs(self, name, left, waiting, lanes, idle, way):
+        """How many of the processors that are idle a crate gets where so many wait, by one of the ways."""
+        most, times = way
         rest = sum(self.seconds[it] for it in left)
-        is_long = self.behind[name] > LONG * rest / lanes
-        return max(1, min(max(idle // waiting, OF_LONG if is_long else 1), idle, MOST_JOBS))
+        is_long = self.behind[name] > times * rest / lanes
+        return max(1, min(max(idle // waiting, most if is_long else 1), idle, MOST_JOBS))
 
-    def minutes(self, lanes, left):
-        """The minutes that so many processors are reckoned to take for crates that are left."""
+    def minutes(self, lanes, left, way):
+        """The minutes that so many processors are reckoned to take for crates that are left, by one of the ways."""
         left, given, running, now = list(left), set(self.names).difference(left), {}, 0
         while left or running:
             ready = self.ready(left, given)
             for at, it in enumerate(ready):
                 idle = lanes - sum(jobs for _, jobs in running.values())
                 if idle > 0:
-                    jobs = self.jobs(it, left, len(ready) - at, lanes, idle)
+                    jobs = self.jobs(it, left, len(ready) - at, lanes, idle, way)
                     left.remove(it)
                     running[it] = now + self.seconds[it] / (1 + GAIN * (jobs - 1)), jobs
             done = min(running, key=running.get)
@@ -124,7 +126,7 @@ class Build:
 
     def __init__(self, rt, children, plan, tell):
         self.rt, self.children, self.plan, self.tell, self.room = rt, children, plan, tell, None
-        self.begun, self.whole = time.monotonic(), plan.minutes(rt.processors(), plan.left)
+        self.begun, self.whole = time.monotonic(), plan.minutes(rt.processors(), plan.left, plan.way)
 
     def made(self, name, jobs):
         """Proves and builds one crate over those below it, which stand in the room; returns a library's sum."""
@@ -156,7 +158,7 @@ class Build:
             if idle < 1 or running and needs > room:
                 continue
             spare = 1 + int(max(0, room / needs - 1) / MORE_MEMORY)
-            jobs = min(self.plan.jobs(it, left, len(ready) - at, lanes, idle), spare)
+            jobs = min(self.plan.jobs(it, left, len(ready) - at, lanes, idle, self.plan.way), spare)
             left.remove(it)
             running[pool.submit(self.given, it, jobs)] = it, jobs, needs * (1 + MORE_MEMORY * (jobs - 1))
 
@@ -180,8 +182,8 @@ class Build:
     def minutes_left(self, left, running):
         """The minutes that the crates left are likely to take, and those that run, of which half is done, by the build's
         own pace; None while that isn't known."""
-        lanes = self.rt.processors()
-        rest = (self.plan.minutes(lanes, left + running) + self.plan.minutes(lanes, left)) / 2
+        lanes, way = self.rt.processors(), self.plan.way
+        rest = (self.plan.minutes(lanes, left + running, way) + self.plan.minutes(lanes, left, way)) / 2
         done = self.whole - rest
         passed = (time.monotonic() - self.begun) / 60
         return rest * passed / done if done > SOME * self.whole else None
