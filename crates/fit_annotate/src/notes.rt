@@ -1,6 +1,6 @@
 //! Notes to the author of a source, of what isn't shown of it.
-use fit_checks::{NotShown, UnshownAccess, needed_alignment};
 use fit_code::Fault;
+use fit_plans::{NotShown, UnshownAccess, needed_alignment};
 use fit_text::FaultWords;
 use inspect_image::Location;
 use sbx_image::Range;

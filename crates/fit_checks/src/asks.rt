@@ -1,55 +1,16 @@
 //! The list of what the verifier would ask of a program's steps, and isn't shown: of locations, of accesses, of
-//! divisors. And sums of which more is known if they are written in another way.
-mod shifted;
-
-use fit_code::{Block, Function, Heap, Program, RegisterSet, SourceLine, Step};
-use fit_graph::{effects_of, read_at_end, return_from, run_to_call, start};
-use fit_ranges::{Origin, Ranges, Trace, end_of, origin_of};
+//! divisors.
+use fit_cells::{return_from, run_to_call, start};
+use fit_code::{Block, Function, Heap, Program, RegisterSet, Step};
+use fit_live::{effects_of, read_at_end};
+use fit_origin::{Origin, Trace, end_of, origin_of};
+use fit_plans::{Ask, NotShown, UnshownAccess, needed_alignment};
+use fit_ranges::Ranges;
 use sbx_domain::State;
 use sbx_range::{Cell, Range, excludes_zero, range_of_address};
-pub use shifted::{live_behind, shorten_steps};
 use std::alloc::{AllocError, Global};
 use v8_formats::{Instr, Operand, Reg};
 use v8_meaning::{Operation, Transfer, bytes_in, operation_of};
-
-/// An access that isn't shown to lie where it has to.
-#[derive(Clone, Copy)]
-pub struct UnshownAccess {
-    /// Its addresses.
-    pub range: Range,
-    /// How many bytes it moves.
-    pub size: u32,
-    pub writes: bool,
-    /// What its address is worked out from.
-    pub origin: Option<Origin>,
-    /// The parts of its address.
-    pub parts: (Reg, Operand),
-}
-
-/// What isn't shown.
-#[derive(Clone, Copy)]
-pub enum NotShown {
-    /// That a location is defined which is read.
-    Defined(u16),
-    /// That a location is defined which a callee takes for granted.
-    Given(u16),
-    /// That an access lies where it has to, at a multiple of its size.
-    Placed(UnshownAccess),
-    /// That a divisor isn't 0, and what is known of it.
-    Divisible(Operand, Range),
-}
-
-/// What isn't shown of a step, by its place in its block; the end of the block stands behind the last step.
-#[derive(Clone, Copy)]
-pub struct Ask {
-    pub function: usize,
-    /// How many bytes the function's frame has.
-    pub frame: u32,
-    pub block: usize,
-    pub place: usize,
-    pub line: SourceLine,
-    pub lack: NotShown,
-}
 
 /// A program and what is known of it.
 #[derive(Clone, Copy)]
@@ -78,11 +39,6 @@ fn lack_of_registers(registers: RegisterSet, is_given: bool, state: &State) -> O
         }
     }
     None
-}
-
-/// How many low bits of an address of so many bytes, a power of 2 up to 8, are 0.
-pub fn needed_alignment(size: u32) -> u8 {
-    size.trailing_zeros().min(3) as u8
 }
 
 impl Asking<'_> {

@@ -1,7 +1,7 @@
 //! Refusals that hold whatever is known of a step: that it reads codes, or Y, which nothing before it in its block has
 //! set.
-use crate::cuts::use_of;
 use fit_code::{Block, End, Fault, Function, Program, Reason, RegisterSet, SourceLine};
+use fit_cuts::use_of;
 use fit_ranges::Ranges;
 
 const NO_CODES: &str = "condition codes are read that nothing before in the block sets";

@@ -3,18 +3,11 @@
 #![tactic(auto)]
 
 mod asks;
-mod cuts;
 mod forms;
 mod naming;
-mod plans;
 mod settling;
 mod sweep;
 mod undefined;
-mod upper;
 
-pub use asks::{Asking, NotShown, UnshownAccess, asks_of, needed_alignment};
-pub use cuts::{
-    insert_instr, number_in, push_block, push_instrs, register, shared_end, telling, use_of,
-};
-pub use plans::{Test, TestKind};
+pub use asks::{Asking, asks_of};
 pub use settling::{TestOptions, add_tests};

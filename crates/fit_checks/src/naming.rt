@@ -1,8 +1,10 @@
 //! Addresses outside of an object that steps work out from its own, as `a - 35` where an index counts from 35. They
 //! belong to it, wherever they lie: else an access by such a register would be held to the object that lies there.
+use fit_cells::run_step;
 use fit_code::{Block, Function, Heap, Object, Program, RegisterSet, Step};
-use fit_graph::{effects_in, run_step};
-use fit_ranges::{Ranges, end_of, object_at};
+use fit_live::effects_in;
+use fit_origin::{end_of, object_at};
+use fit_ranges::Ranges;
 use sbx_domain::State;
 use sbx_range::is_single;
 use v8_formats::{Instr, Operand, Reg, Three};

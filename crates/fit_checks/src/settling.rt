@@ -2,21 +2,23 @@
 //! exit word tells kind and line. Nothing rests on them, since the verifier asks all again.
 mod sweeping;
 
-use crate::asks::{Ask, NotShown, UnshownAccess, live_behind, shorten_steps};
-use crate::cuts::{
-    copy_block, drop_compare, in_use, insert_instr, keep_carry, move_reader, move_writer,
-    number_in, push_block, push_instrs, register, set_codes_again, shared_end, spare_register,
-};
 use crate::forms::check_forms;
 use crate::naming::name_derived;
-use crate::plans::{SUM, Test, TestKind, TestPlan, TestWay, plan_of, subtracting, take_division};
 use crate::undefined::clear_undefined;
-use crate::upper::write_upper;
+use fit_cells::{enter, range_in, start};
 use fit_code::{
     Block, End, Fault, Function, Heap, Instruction, NO_LINE, Program, Reason, RegisterSet,
     with_operands,
 };
-use fit_graph::{enter, range_in, start};
+use fit_cuts::{
+    copy_block, drop_compare, in_use, insert_instr, keep_carry, move_reader, move_writer,
+    number_in, push_block, push_instrs, register, set_codes_again, shared_end, spare_register,
+    write_upper,
+};
+use fit_plans::{
+    Ask, NotShown, SUM, Test, TestKind, TestPlan, TestWay, UnshownAccess, live_behind, plan_of,
+    shorten_steps, subtracting, take_division,
+};
 use fit_ranges::Ranges;
 use sbx_domain::State;
 use sbx_range::excludes_zero;

@@ -1,9 +1,8 @@
 //! The knowledge of a function while tests are put into it. Each narrows what comes behind it, which is followed along
 //! the function's order: what a test shows is known before a later one is asked for.
+use fit_cells::{Growth, cells_of, go_along, join, range_in, run_step, start};
 use fit_code::{Block, Function, Heap, RegisterSet, Step};
-use fit_graph::{
-    Growth, LocationSet, cells_of, effects_in, go_along, join, range_in, run_step, start,
-};
+use fit_live::{LocationSet, effects_in};
 use fit_ranges::Ranges;
 use sbx_domain::State;
 use sbx_range::{Cell, Range, is_within};

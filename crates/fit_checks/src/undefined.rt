@@ -1,8 +1,8 @@
 //! Words that may be read before they are written. Each is made 0 where it becomes undefined: at the entry of its
 //! function, or behind the call that loses it. Never where it is read: on another way there it may have been written.
-use crate::cuts::{by_immediate, clearing, insert_instr};
 use fit_code::{Block, Function, Heap, Program, RegisterSet, Step, writes};
-use fit_graph::{LocationSet, effects_of, read_at_end};
+use fit_cuts::{by_immediate, clearing, insert_instr};
+use fit_live::{LocationSet, effects_of, read_at_end};
 use fit_ranges::Ranges;
 use v8_formats::{Instr, Three};
 

@@ -29,11 +29,7 @@ impl Order {
 }
 
 /// Says for each block of an order from one of its places up to another at which it stands.
-pub(crate) fn put_places(
-    places: &mut [Option<usize>],
-    blocks: &[usize],
-    (from, behind): (usize, usize),
-) {
+pub fn put_places(places: &mut [Option<usize>], blocks: &[usize], (from, behind): (usize, usize)) {
     for place in from..behind.min(blocks.len()) {
         let block = blocks[place];
         if block < places.len() {
@@ -55,13 +51,14 @@ pub fn successors_in(function: &Function, block: usize) -> [Option<usize>; 2] {
 /// comes from, and one more where a branch isn't taken; the blocks that these come from, each as often as it stands
 /// there; or the blocks that it leads to, where a branch is taken first.
 #[derive(Clone, Copy)]
-pub(crate) enum Listed {
+pub enum Listed {
     Ways,
     Sources,
     Targets,
 }
 
-pub(crate) fn list(memory: &mut Heap, function: &Function, listed: Listed) -> Vec<Vec<usize>> {
+/// What is listed for each block of a function; no lists where there is no memory for them.
+pub fn list(memory: &mut Heap, function: &Function, listed: Listed) -> Vec<Vec<usize>> {
     let count = function.blocks.len();
     let Ok(mut lists) = vec![in memory.alloc; Vec::new(memory.alloc); count] else {
         memory.is_refused = true;

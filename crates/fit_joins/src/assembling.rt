@@ -1,14 +1,13 @@
 //! The program once functions are joined: their blocks, what they keep, and the soft stack.
 use crate::joining::Joiner;
 use crate::keeping::{CALLER_RETURN, Keep, RETURN};
-use crate::places::{Part, SoftStack};
 use crate::returning::StackPlace;
 use crate::splitting::{joined_callee, split_at_calls};
-use fit_blocks::{Layout, Stops};
-use fit_checks::register;
+use fit_blocks::{Layout, Part, SoftStack, Stops};
 use fit_code::{Block, Function, Heap, NO_LINE, Program, SourceLine};
+use fit_cuts::register;
 use fit_gas::owned;
-use fit_graph::{FunctionShape, Means, RegisterCounts, find_live};
+use fit_live::{FunctionShape, Means, RegisterCounts, find_live};
 
 /// A save area, with which a frame begins.
 const SAVE_AREA: u32 = 64;

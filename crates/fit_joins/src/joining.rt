@@ -2,14 +2,14 @@
 use crate::assembling::Placed;
 use crate::keeping::{BASE, Keep, NUMBER, kept, push_number, push_step};
 use crate::moving::{moves, push_moved, push_way, way_moved};
-use crate::places::{Part, WayBack};
 use crate::returning::{
     StackPlace, push_entry, push_full, push_giving, push_halves, push_open, push_within,
 };
 use crate::splitting::joined_callee;
-use fit_checks::register;
+use fit_blocks::{Part, WayBack};
 use fit_code::{Block, End, Function, Heap, RegisterSet, SourceLine, Step};
-use fit_graph::{Effects, FunctionShape, RegisterCounts, effects_in};
+use fit_cuts::register;
+use fit_live::{Effects, FunctionShape, RegisterCounts, effects_in};
 use std::{mem, slice};
 use v8_formats::{Cond, Instr, Operand, Reg, Three};
 

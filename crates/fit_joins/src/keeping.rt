@@ -1,6 +1,6 @@
 //! Words that functions keep over their calls, and steps that move them.
-use fit_checks::{number_in, push_instrs, register};
 use fit_code::{Heap, Instruction, RegisterSet, SourceLine, Step};
+use fit_cuts::{number_in, push_instrs, register};
 use v8_formats::{Instr, Operand, Reg, Three, Upper};
 
 /// The registers that hold an address, and a number, for the instructions behind them.

@@ -4,18 +4,14 @@
 #![tactic(auto)]
 
 mod assembling;
-mod choice;
 mod joining;
 mod keeping;
 mod moving;
-mod places;
 mod pointing;
 mod returning;
 mod rounds;
 mod splitting;
 
 pub use assembling::join;
-pub use choice::choose;
-pub use places::{Part, SoftStack, WayBack, stack_register};
 pub use pointing::caller_of;
 pub use rounds::{callees_of, in_rounds};

@@ -2,8 +2,8 @@
 //! back to a frame further down. And what keeps a way back, or goes by one that was kept.
 use crate::keeping::{BASE, Keep, NUMBER, push_number, push_step};
 use crate::returning::StackPlace;
-use fit_checks::register;
 use fit_code::{Heap, SourceLine, Step, with_target, writes};
+use fit_cuts::register;
 use v8_formats::{Instr, Operand, Reg, Three};
 
 /// A register that holds how far the pointer may be from the start.

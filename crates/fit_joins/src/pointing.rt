@@ -1,8 +1,8 @@
 //! The function that calls others through pointers.
 use crate::keeping::{BASE, push_step};
 use fit_blocks::{pointer_register, pointer_word, result_register};
-use fit_checks::{push_block, register};
 use fit_code::{Block, End, Function, Heap, Instruction, NO_LINE, Step};
+use fit_cuts::{push_block, register};
 use v8_formats::{Cond, Instr, Operand, Reg, Three, Upper};
 
 /// The exit word of a run that calls through what is no pointer to a function, but for the line.

@@ -1,8 +1,8 @@
 //! Ways into a function that is joined, and back from it.
 use crate::keeping::{BASE, NUMBER, push_number, push_step};
-use crate::places::SoftStack;
-use fit_checks::{number_in, push_block, register};
+use fit_blocks::SoftStack;
 use fit_code::{Block, End, Heap, SourceLine, Step};
+use fit_cuts::{number_in, push_block, register};
 use v8_formats::{Cond, Instr, Operand, Reg, Three};
 
 /// The exit word of a run whose soft stack is full, but for the line.

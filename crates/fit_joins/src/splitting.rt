@@ -1,9 +1,8 @@
 //! A call of a function that is joined ends its block, and so does what moves the soft stack's pointer.
 use crate::moving::moves;
-use crate::places::Part;
-use fit_blocks::Stops;
-use fit_checks::use_of;
+use fit_blocks::{Part, Stops};
 use fit_code::{Block, End, Function, RegisterSet, Step};
+use fit_cuts::use_of;
 use std::mem;
 use v8_formats::Reg;
 

@@ -2,12 +2,9 @@
 //! rests on it: the verifier judges the image, whoever made it.
 #![tactic(auto)]
 
-mod arguments;
 mod calls;
+mod choice;
 mod endless;
-mod frames;
-mod moving;
-mod places;
 mod programs;
 mod ways;
 

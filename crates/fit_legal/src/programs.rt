@@ -1,21 +1,22 @@
 //! Makes a program of code that compilers wrote: blocks without delay slots, what the rules forbid put otherwise,
 //! data laid out, functions in the order of their calls.
-use crate::arguments::{Callees, argument_bytes, leaves_for_soft};
 use crate::calls::order_of_calls;
+use crate::choice::choose;
 use crate::endless::end_behind_calls;
-use crate::frames::{SoftFrames, empty_frame, place_frame};
-use crate::moving::{end_by_kept, moves_stack, take_alignment, way_back_of};
 use crate::ways::free_way_back;
 use fit_blocks::{
-    Layout, Obstacle, Stops, function_of, give_one_entry, layout_of, name_of, push_plain,
-    repeat_compares, result_register, step_of,
+    Layout, Obstacle, Part, SoftStack, Stops, WayBack, function_of, give_one_entry, layout_of,
+    name_of, push_plain, repeat_compares, result_register, stack_register, step_of,
 };
 use fit_code::{Block, End, Fault, Function, Heap, NO_LINE, Program, RegisterSet, Step, named_by};
-use fit_gas::Assembly;
-use fit_graph::{Effects, effects_of, reached_from};
-use fit_joins::{
-    Part, SoftStack, WayBack, callees_of, caller_of, choose, in_rounds, join, stack_register,
+use fit_frames::{
+    Callees, SoftFrames, argument_bytes, empty_frame, end_by_kept, leaves_for_soft, moves_stack,
+    place_frame, take_alignment, way_back_of,
 };
+use fit_gas::Assembly;
+use fit_graph::reached_from;
+use fit_joins::{callees_of, caller_of, in_rounds, join};
+use fit_live::{Effects, effects_of};
 use sbx_domain::State;
 use std::alloc::Global;
 use v8_formats::{Instr, Operand, Three};

@@ -1,10 +1,11 @@
 //! All passes over a program, one after the other: from compiler-made code to an annotated source.
 use crate::metering::{insert_meter, lower_count};
 use crate::placing::{end_unreached, fill, place};
-use fit_checks::{Test, TestOptions, add_tests};
+use fit_checks::{TestOptions, add_tests};
 pub use fit_code::{Fault, Reason};
 use fit_code::{Block, Function, Heap, NO_LINE, Program, SourceLine};
 use fit_fuel::{LoopBounds, Meter, bounds_of, declare, is_of_blocks, refused};
+use fit_plans::Test;
 use fit_ranges::Ranges;
 use fit_text::{Annotations, source_of};
 use sbx_domain::State;

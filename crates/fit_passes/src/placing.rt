@@ -4,8 +4,8 @@ mod merging;
 
 use crate::placing::merging::merge;
 pub use filling::{end_unreached, fill};
-use fit_checks::{insert_instr, push_block};
 use fit_code::{Block, End, Function, Heap, opposite};
+use fit_cuts::{insert_instr, push_block};
 use fit_fuel::counting_step;
 use fit_graph::Graph;
 use std::mem;

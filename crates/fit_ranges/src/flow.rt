@@ -10,11 +10,13 @@ mod visiting;
 use crate::flow::known::{BlockRanges, is_told, touched_in};
 use crate::flow::news::News;
 use crate::flow::pending::Pending;
-use fit_code::{Block, End, Function, Heap, hull};
-use fit_graph::{
-    FunctionShape, Growth, LocationSet, Means, Thresholds, enter, go_along, join, range_from,
-    return_from, run_step, run_to_call, start, successors_in,
+use fit_cells::{
+    Growth, Thresholds, enter, go_along, join, range_from, return_from, run_step, run_to_call,
+    start,
 };
+use fit_code::{Block, End, Function, Heap, hull};
+use fit_graph::successors_in;
+use fit_live::{FunctionShape, LocationSet, Means};
 use sbx_domain::State;
 use sbx_range::{Cell, Range, all};
 use std::alloc::Global;

@@ -1,10 +1,8 @@
 //! Ranges of a program's locations where its blocks begin. Nothing rests on it, since the verifier asks all again.
 use crate::flow::{Analysis, FunctionRanges, WayStates, add_outs, at};
+use fit_cells::{Thresholds, common_thresholds, thresholds_of};
 use fit_code::{Fault, Function, Heap, NO_LINE, Program, Reason};
-use fit_graph::{
-    FunctionShape, LocationSet, Means, RegisterCounts, Thresholds, common_thresholds, find_live,
-    thresholds_of,
-};
+use fit_live::{FunctionShape, LocationSet, Means, RegisterCounts, find_live};
 use sbx_domain::State;
 use sbx_range::{Cell, Range, all, is_within};
 use std::alloc::{AllocError, Global};

@@ -1,12 +1,14 @@
 //! One sweep over a function that answers what isn't shown of it: in an order in which what a test shows is known where
 //! it makes a later one needless.
-use crate::asks::{Ask, Asking, NotShown, asks_behind, asks_beside};
-use crate::cuts::register;
-use crate::plans::{TestKind, plan_of};
+use crate::asks::{Asking, asks_behind, asks_beside};
 use crate::settling::{Answered, LOST_BY_CALL, Looked, Tests};
 use crate::sweep::{Carried, CarriedWord, Chain, NOT_CARRIED, Sweep, cells_along};
+use fit_cells::cells_of;
 use fit_code::{Heap, Program};
-use fit_graph::{LocationSet, cells_of, successors_in};
+use fit_cuts::register;
+use fit_graph::successors_in;
+use fit_live::LocationSet;
+use fit_plans::{Ask, NotShown, TestKind, plan_of};
 use fit_ranges::Ranges;
 use sbx_domain::State;
 use sbx_range::Cell;

@@ -1,8 +1,9 @@
 //! By how much locations change along the ways of a loop.
 use crate::task::FuelTask;
 use crate::ways::{LinearSum, WayOut};
+use fit_cells::range_in;
 use fit_code::Heap;
-use fit_graph::{Loop, range_in, successors_in};
+use fit_graph::{Loop, successors_in};
 use sbx_domain::State;
 use sbx_parts::{Cell, Term};
 

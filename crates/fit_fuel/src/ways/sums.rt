@@ -1,7 +1,7 @@
 //! Sums of multiples of locations, and the values that they can have. A sum past the greatest number stays there, and
 //! is refused as a budget.
 use arrayvec::ArrayVec;
-use fit_graph::range_in;
+use fit_cells::range_in;
 use sbx_domain::State;
 use sbx_form::FormTerm;
 use sbx_parts::{Cell, Range, Term};

@@ -4,8 +4,8 @@
 //! same reason there is one on each way out of a loop behind which a call may come.
 use crate::metering::exits::{LoopExit, dear_exits};
 use crate::metering::registers::free_register;
-use fit_checks::{insert_instr, push_block, register, shared_end, telling};
 use fit_code::{Block, End, Function, Heap, NO_LINE, SourceLine};
+use fit_cuts::{insert_instr, push_block, register, shared_end, telling};
 use fit_fuel::{LoopBounds, Meter, counting, number_in};
 use fit_graph::{Graph, Loop, successors_in};
 use v8_formats::{Cond, Instr, Operand, Reg, Three};

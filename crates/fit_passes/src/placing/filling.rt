@@ -1,6 +1,7 @@
 //! Filling delay slots, and what becomes of blocks that control doesn't come to.
-use fit_checks::{TestKind, number_in, push_instrs, use_of};
 use fit_code::{Block, End, Function, Heap, Program, RegisterSet, Step};
+use fit_cuts::{number_in, push_instrs, use_of};
+use fit_plans::TestKind;
 use fit_ranges::Ranges;
 use v8_meaning::{Operation, Transfer, operation_of};
 

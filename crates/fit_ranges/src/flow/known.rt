@@ -1,8 +1,9 @@
 //! The knowledge of a function's blocks so far.
 use crate::flow::news::News;
 use crate::flow::spread::differing;
+use fit_cells::{place_of, range_from};
 use fit_code::{Block, End, Function, Heap, RegisterSet};
-use fit_graph::{Effects, LocationSet, effects_in, effects_of, place_of, range_from};
+use fit_live::{Effects, LocationSet, effects_in, effects_of};
 use sbx_domain::{LOCATIONS, State};
 use sbx_range::Cell;
 use std::alloc::Global;

@@ -1,6 +1,6 @@
 //! News of a block: the locations of which something else came to it since it was visited.
+use fit_cells::place_of;
 use fit_code::Heap;
-use fit_graph::place_of;
 use sbx_range::{Cell, Range};
 
 /// So many words of 64 bits have a bit for each location that is told by itself: each register, and each word that most

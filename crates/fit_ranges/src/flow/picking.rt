@@ -4,7 +4,8 @@ use crate::flow::known::touched_in;
 use crate::flow::spread::{differing, spread_behind};
 use crate::flow::{Analysis, FunctionRanges, WayStates, add_cells};
 use fit_code::{Block, End, Heap};
-use fit_graph::{LocationSet, successors_in};
+use fit_graph::successors_in;
+use fit_live::LocationSet;
 use sbx_range::Cell;
 
 /// Stretches of fewer blocks are looked at as a whole.

@@ -1,7 +1,8 @@
 //! The spread of a change of some blocks: the locations of which something else may be known elsewhere then, and those
 //! that are worked out from them.
+use fit_cells::range_from;
 use fit_code::{Block, End, RegisterSet, Step};
-use fit_graph::{Effects, LocationSet, effects_in, effects_of, range_from};
+use fit_live::{Effects, LocationSet, effects_in, effects_of};
 use sbx_range::Cell;
 use v8_formats::Instr;
 use v8_meaning::{Operation, operation_of};

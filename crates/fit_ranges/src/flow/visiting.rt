@@ -4,8 +4,10 @@
 use crate::flow::known::{are_same, leave_out};
 use crate::flow::news::{NEWS, News, range_at};
 use crate::flow::{Analysis, FunctionRanges, WayStates, add_cells, at, cells_behind};
+use fit_cells::{Growth, go_along, join, range_in};
 use fit_code::{Heap, hull};
-use fit_graph::{Growth, LocationSet, Means, go_along, join, range_in, successors_in};
+use fit_graph::successors_in;
+use fit_live::{LocationSet, Means};
 use sbx_domain::State;
 use sbx_range::Cell;
 

@@ -1,7 +1,7 @@
 //! The shape of a function, for who goes along its ways.
-use crate::graph::{Graph, Listed, Loop, Order, list, put_places};
-use crate::live::LocationSet;
+use crate::locations::LocationSet;
 use fit_code::{Function, Heap};
+use fit_graph::{Graph, Listed, Loop, Order, list, put_places};
 
 /// What stays the same while a function's ranges are looked for.
 #[derive(Drop)]

@@ -5,7 +5,7 @@ use fit_code::{
     Block, End, Heap, Instruction, RegisterSet, SourceLine, Step, fields_of, is_compare,
     operands_read, with_operands, with_target,
 };
-use fit_graph::effects_in;
+use fit_live::effects_in;
 use v8_formats::{Cond, Instr, Operand, Reg, Three};
 
 /// What a step reads and what it writes. A call is taken to read nothing.

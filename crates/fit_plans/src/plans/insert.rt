@@ -1,11 +1,11 @@
 //! The blocks of tests.
-use crate::cuts::{
+use crate::plans::plan::{SUM, Test, TestWay};
+use fit_code::{Block, End, Heap, Instruction, RegisterSet, Step};
+use fit_cuts::{
     Writer, by_immediate, in_use, last_writer, number_in, push_block, push_branch, register,
     telling, use_of,
 };
-use crate::plans::plan::{SUM, Test, TestWay};
-use fit_code::{Block, End, Heap, Instruction, RegisterSet, Step};
-use fit_graph::effects_of;
+use fit_live::effects_of;
 use v8_formats::{Cond, Instr, Operand, Reg, Three, Two};
 use v8_meaning::{Operation, operation_of};
 

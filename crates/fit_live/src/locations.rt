@@ -1,5 +1,5 @@
 //! Sets of locations.
-use crate::live::effects::Effects;
+use crate::effects::Effects;
 use fit_code::RegisterSet;
 
 /// So many words of 64 bits have a bit for each location.

@@ -1,9 +1,10 @@
 //! Sums of which only low bits are asked for, since nothing but shifts to the left reads them. A compiler may add any
 //! number there whose low bits are right, as 1,073,741,823 for -1 before a shift by 2; with the small one the sum
 //! doesn't overflow.
-use crate::cuts::by_immediate;
+use fit_cells::run_step;
 use fit_code::{End, Instruction, RegisterSet, Step};
-use fit_graph::{LocationSet, effects_of, run_step};
+use fit_cuts::by_immediate;
+use fit_live::{LocationSet, effects_of};
 use sbx_domain::State;
 use sbx_range::{Range, is_single};
 use v8_formats::{Instr, Operand, Three};

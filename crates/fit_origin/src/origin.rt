@@ -5,7 +5,7 @@ mod trace;
 
 use crate::origin::trace::OperandRanges;
 use fit_code::{Block, Program, RegisterSet, Step};
-use fit_graph::{Effects, effects_in};
+use fit_live::{Effects, effects_in};
 pub use objects::{WordBounds, bounds_in_constants, bounds_of, end_of, object_at};
 use sbx_range::{Range, is_single};
 pub use trace::{Trace, operands_of};

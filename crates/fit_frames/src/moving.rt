@@ -1,11 +1,10 @@
 //! Functions that move the stack pointer on: for arrays whose size isn't constant, whose room lies on the soft stack.
 //! And those that keep their way back, or go by one that was kept: `setjmp` and `longjmp`.
 use crate::frames::{push_address, push_softened};
-use fit_blocks::{access_of, signed, step_of};
+use fit_blocks::{WayBack, access_of, signed, step_of};
 use fit_code::{
     Block, End, Function, Heap, Instruction, RegisterSet, SourceLine, Step, is_same, reads, writes,
 };
-use fit_joins::WayBack;
 use std::slice;
 use v8_formats::{Instr, Operand, Three};
 use v8_word::{Reg, reg_at};

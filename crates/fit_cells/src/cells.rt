@@ -2,15 +2,13 @@
 //! common, and how far a range that grows may grow at once.
 mod compared;
 mod run;
-mod shape;
 mod thresholds;
 
-use crate::live::LocationSet;
 use fit_code::{Heap, hull};
+use fit_live::LocationSet;
 pub use run::{enter, go_along, return_from, run_step, run_to_call, start};
 use sbx_domain::State;
 use sbx_range::{Cell, Range};
-pub use shape::FunctionShape;
 pub use thresholds::{Growth, Thresholds, common_thresholds, thresholds_of};
 
 /// The range of a location among cells that stand by location.

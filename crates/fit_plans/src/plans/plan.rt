@@ -1,7 +1,7 @@
 //! Tests, where the run ends if one fails, and how what isn't shown is tested.
-use crate::asks::{Ask, NotShown, UnshownAccess, needed_alignment};
+use crate::lacks::{Ask, NotShown, UnshownAccess, needed_alignment};
 use fit_code::{Program, RegisterSet, SourceLine};
-use fit_ranges::{Origin, WordBounds, bounds_in_constants, bounds_of};
+use fit_origin::{Origin, WordBounds, bounds_in_constants, bounds_of};
 use sbx_range::{Range, all};
 use v8_formats::Operand;
 

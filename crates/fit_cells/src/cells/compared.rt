@@ -1,8 +1,8 @@
 //! The numbers that a function compares the words of its locations with: where a range that grows in a loop is to stop,
 //! one of these mostly ends it.
 use crate::cells::thresholds::Thresholds;
-use crate::live::effects_in;
 use fit_code::{Block, Function, RegisterSet, Step};
+use fit_live::effects_in;
 use sbx_domain::frame_word_of;
 use v8_formats::{Instr, Operand};
 use v8_meaning::{Loading, Op, Operation, Transfer, operation_of};

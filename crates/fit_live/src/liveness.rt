@@ -1,8 +1,8 @@
 //! Liveness: the locations that are read later before they are written, whatever the words on the way are.
-use crate::cells::FunctionShape;
-use crate::live::effects::{Effects, effects_of, of_registers};
-use crate::live::locations::LocationSet;
+use crate::effects::{Effects, effects_of, of_registers};
+use crate::locations::LocationSet;
 use crate::means::Means;
+use crate::shape::FunctionShape;
 use fit_code::{Block, End, Function, Heap, NO_LINE, Program, RegisterSet, Step, operands_read};
 use v8_formats::Three;
 use v8_word::Reg;

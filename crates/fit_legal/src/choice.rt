@@ -1,5 +1,5 @@
 //! The choice of the functions that become parts of the first one.
-use crate::places::{Part, WayBack};
+use fit_blocks::{Part, WayBack};
 use fit_code::{Block, Function, Heap, Program};
 use fit_fuel::bounds_of;
 use fit_graph::{Graph, successors_in};
