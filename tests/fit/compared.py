@@ -4,7 +4,7 @@ import os
 import re
 import struct
 
-from run import EXAMPLES, FIT, SANDBOX, TOP, Ran, has, put, run_within
+from run import EXAMPLES, FIT, SANDBOX, TOP, Ran, bytes_of, has, put, run_within
 
 HERE = os.path.dirname(os.path.abspath(__file__))
 SPARC = "sparc64-linux-gnu-gcc"
@@ -174,7 +174,10 @@ class Comparison:
                                 (source, *files))
 
     def fitted(self, name, sources, made, image, files=()):
-        """Whether sources are fitted, and what is made of them is accepted."""
-        told = run_within([FIT, *sources, "-o", made])
+        """Whether sources are fitted, what is made of them is accepted, and `--image` gives the same image."""
+        own = f"{image}.own"
+        told = run_within([FIT, *sources, "-o", made, "--image", own])
         return self.tally.check(name, told.status == 0, f"wanted a source, came {told}", files or sources) \
-            and self.accepted(name, made, image, files or sources)
+            and self.accepted(name, made, image, files or sources) \
+            and self.tally.check(f"{name}: --image", bytes_of(own) == bytes_of(image),
+                                 "wanted the image of sandbox asm, came another one", (made, own))

@@ -174,9 +174,11 @@ def try_wrong_words(to):
     """What is said of words that ask for nothing."""
     one, turns = f"{STORED}/upper.s", "--turns wants a decimal number from 1 to 1000000000000, once"
     for words, why in [
-        (["-o", "x"], "the path of a source is wanted"), ([one], "-o and the path of a file are wanted"),
+        (["-o", "x"], "the path of a source is wanted"), ([one], "-o or --image, and the path of a file, are wanted"),
         ([one, "-o"], "-o wants the path of a file, once"),
         ([one, "-o", "x", "-o", "y"], "-o wants the path of a file, once"),
+        ([one, "--image"], "--image wants the path of a file, once"),
+        ([one, "--image", "x", "--image", "y"], "--image wants the path of a file, once"),
         ([one, "-o", "x", "--turns", "0"], turns), ([one, "-o", "x", "--turns", "5", "--turns", "5"], turns),
         ([one, "-o", "x", "--stack", "1000"], "--stack wants a power of 2 from 1024 to 131072, once"),
         ([one, "-o", "x", "--frob"], "--frob is no option"),
@@ -185,6 +187,7 @@ def try_wrong_words(to):
         (["annotate", one, "--turns", "5"], "annotate takes no --turns"),
         (["annotate", one, "--stack", "1024"], "annotate takes no --stack"),
         (["annotate", one, "--region"], "annotate takes no --region"),
+        (["annotate", one, "--image", "x"], "annotate takes no --image"),
     ]:
         told = run_within([FIT, *words], cwd=to.work)
         to.tally.same(f"fit {' '.join(words)}: what is said", (told.status, told.err), (3, f"fit: {why}\n".encode()))
@@ -209,6 +212,40 @@ def try_words(to):
     told = run_within([FIT, stored, "-o", "-"], cwd=to.work)
     holds = told.status == 0 and told.out == bytes_of(x) and not os.path.exists(f"{to.work}/-")
     tally.check("fit -o -", holds, f"wanted the source on standard output and no file, came status {told.status}")
+
+
+def try_images(to):
+    """Where the image goes: an accepted one alone, behind the source, and never over a source."""
+    at, tally, written = (lambda name: f"{to.work}/{name}"), to.tally, "can't be written"
+    stored, one, itself = f"{STORED}/upper.s", at("one.s"), f"{written}: it is a source itself; name another file"
+    put(one, text_of(stored))
+    to.fitted("--image", [one], at("made.s"), at("asm.img"))
+    source, image = bytes_of(at("made.s")), bytes_of(at("asm.img"))
+    for words, status, out, err, left in [
+        ([one, "--image", "x"], 0, b"", "", image), ([one, "-o", "-", "--image", "x"], 0, source, "", image),
+        ([one, "--image", "-"], 0, image, "", None), ([one, "--image", "."], 4, b"", f"fit: .: {written}\n", None),
+        ([one, "--image", "none/x"], 4, b"", f"fit: none/x: {written}\n", None),
+        ([one, "--image", "/dev/full"], 4, b"", f"fit: /dev/full: {written}\n", None),
+        ([one, "--image", "one.s"], 4, b"", f"fit: one.s: {itself}\n", None),
+        ([one, "-o", "x", "--image", "./x"], 4, b"", f"fit: ./x: {itself}\n", source),
+        ([one, "-o", "none/x", "--image", "x"], 4, b"", f"fit: none/x: {written}\n", None),
+    ]:
+        told = run_within([FIT, *words], cwd=to.work)
+        came = told.status, told.out, told.err, left_of(at("x"))
+        tally.same(f"fit {' '.join(words)}", came, (status, out, err.encode(), left))
+    tally.same("the source itself", text_of(one), text_of(stored))
+    put(at("x"), "older")
+    told = run_within([FIT, f"{STORED}/csv.s", "-o", at("y"), "--image", at("x"), "--strict"])
+    tally.same("--strict: nothing is written", (told.status, left_of(at("x")), left_of(at("y"))), (1, b"older", None))
+
+
+def left_of(path):
+    """What a call left in a file, which is removed; None where there is none."""
+    if not os.path.exists(path):
+        return None
+    found = bytes_of(path)
+    os.remove(path)
+    return found
 
 
 def try_entries(to):
@@ -269,6 +306,7 @@ def try_faults(to, options):
     for file in sorted(os.listdir(f"{HERE}/found")):
         try_found(to, file)
     try_words(to)
+    try_images(to)
     try_budgets(to)
     try_entries(to)
     try_changed(to, options)
@@ -353,7 +391,8 @@ MOST_KB, SECONDS_EACH, SECONDS_LONG = 256_000, 0.3, 3.0
 def measured(to, name, sources, seconds):
     """Fits a program, which has to be accepted, in so much processor time and no more than that memory."""
     out = f"{to.work}/size.s"
-    words = ["sh", "-c", f'ulimit -v {MOST_KB}; exec "$@"', "sh", FIT, *sources, "-o", out, "--turns", str(10**12)]
+    words = ["sh", "-c", f'ulimit -v {MOST_KB}; exec "$@"', "sh", FIT, *sources, "-o", out, "--image", f"{out}.own",
+             "--turns", str(10**12)]
     with subprocess.Popen(words, stdout=subprocess.DEVNULL, stderr=subprocess.DEVNULL) as made:
         _, status, used = os.wait4(made.pid, 0)
         made.returncode = os.waitstatus_to_exitcode(status)

@@ -148,6 +148,8 @@ FAULTS = {
     "an alignment up to so many bytes": ('\t.section ".data"\nx:\t.byte 1\n\t.align 8,,3\n',
                                          "an alignment that is left out"),
     "many blocks": (main_of("ta 1; " + steps("", "%o0", 5000)), "the blocks of a function would be"),
+    "blocks that fit": (main_of("ta 1; " + steps("", "%o0", 2000)), None),
+    "words that fit": (HEAD + "\tadd %o0,1,%o0\n" * 65_500 + TAIL, None),
     "many labels": ("".join(f".L{number}:\n" for number in range(1_200_000)), ""),
     "many words": (HEAD + "\tadd %o0,1,%o0\n" * 70_000 + TAIL, "the words of code"),
     "many functions": (calls_of([f"f{number}" for number in range(300)]), "more than 256 functions"),

@@ -93,6 +93,7 @@ ROWS = {
     "fit": [
         ("ROT13.s PLUG.s -o -", b"", 0),
         ("FIR.s PLUG.s -o -", b"", 0),
+        ("ROT13.s PLUG.s --image -", b"", 0),
         ("annotate ECHO.s", b"", 0),
         ("annotate BAD.s", b"", 2),
         ("BAD.s -o -", b"", 2),

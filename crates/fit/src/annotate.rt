@@ -1,5 +1,5 @@
 //! `fit annotate`: a source in the project's own language gets the annotations that it hasn't got.
-use crate::files::{NO_MEMORY, REFUSED, bytes_of, refused, write_source};
+use crate::files::{LACKING, NO_MEMORY, REFUSED, bytes_of, refused, write_source};
 use crate::words::Arguments;
 use fit_annotate::{Note, find};
 use fit_kept::{AnnotationRefusal, annotate};
@@ -47,7 +47,8 @@ fn tell_refusal(rt: &HostRuntime, path: &str, refusal: &AnnotationRefusal) -> u8
     REFUSED
 }
 
-/// Gives the source at a path its annotations, tells each note, and gives the exit status.
+/// Gives the source at a path its annotations, tells each note, and gives the exit status. Where there are notes, and
+/// the words say that this is an error, no source is written.
 pub fn perform(rt: &HostRuntime, words: &Arguments<'_>, path: &str) -> u8 {
     let bytes = match bytes_of(rt, path) {
         Ok(bytes) => bytes,
@@ -64,7 +65,10 @@ pub fn perform(rt: &HostRuntime, words: &Arguments<'_>, path: &str) -> u8 {
             for Note { line, asked } in found.notes.as_slice() {
                 let _ = eprintln!(rt; "{path}:{line}: note: {asked}");
             }
-            write_source(rt, words, !found.notes.is_empty(), made.as_slice())
+            if words.is_strict && !found.notes.is_empty() {
+                return LACKING;
+            }
+            write_source(rt, words, made.as_slice())
         }
         Err(refusal) => tell_refusal(rt, path, &refusal),
     }

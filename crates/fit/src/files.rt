@@ -12,6 +12,9 @@ use std::{fs, io};
 /// The most bytes that a file may have.
 const MOST: u64 = 64_000_000;
 
+/// The exit status where something isn't shown, and words say that this is an error.
+pub const LACKING: u8 = 1;
+
 /// The exit status where the program is refused, or a file is too long, which was told.
 pub const REFUSED: u8 = 2;
 
@@ -67,45 +70,64 @@ pub fn bytes_of(rt: &HostRuntime, path: &str) -> Result<Vec<u8>, u8> {
     }
 }
 
+/// Whether two paths have the same plain file.
+fn is_same_file(rt: &HostRuntime, one: &str, other: &str) -> bool {
+    match (fs::metadata(rt, one), fs::metadata(rt, other)) {
+        (Ok(one), Ok(other)) => {
+            one.is_file() && one.dev() == other.dev() && one.ino() == other.ino()
+        }
+        _ => false,
+    }
+}
+
 /// Whether a path has the plain file of one of the sources that words name.
 fn is_source(rt: &HostRuntime, words: &Arguments<'_>, path: &str) -> bool {
-    let Ok(out) = fs::metadata(rt, path) else {
-        return false;
-    };
     let mut is_source = false;
     for source in words.sources.as_slice() {
-        if let Ok(found) = fs::metadata(rt, *source) {
-            is_source |= out.is_file() && found.dev() == out.dev() && found.ino() == out.ino();
-        }
+        is_source |= is_same_file(rt, *source, path);
     }
     is_source
 }
 
-/// Writes a source to the file that words name, or to standard output where they name none or `-`, and gives the exit
-/// status; what is wrong with the file is told, as that it is a source itself. Where something isn't shown, and the
-/// words say that this is an error, none is written.
-pub fn write_source(rt: &HostRuntime, words: &Arguments<'_>, has_lacks: bool, text: &[u8]) -> u8 {
-    if words.is_strict && has_lacks {
-        return 1;
-    }
-    let written = match words.out {
-        None | Some("-") => put_through(&mut rt.stdout(), text),
-        Some(path) if is_source(rt, words, path) => {
-            let _ = eprintln!(rt;
-                "fit: {path}: can't be written: it is a source itself; name another file"
-            );
-            return NO_FILE;
-        }
+/// Tells that the file at a path has a source, and gives the exit status.
+fn unwritten_source(rt: &HostRuntime, path: &str) -> u8 {
+    let _ = eprintln!(rt;
+        "fit: {path}: can't be written: it is a source itself; name another file"
+    );
+    NO_FILE
+}
+
+/// Writes bytes to the file at a path, or to standard output for none or `-`, and gives the exit status; what is wrong
+/// with the file is told, as that it is one of the sources that words name.
+fn write_bytes(rt: &HostRuntime, words: &Arguments<'_>, path: Option<&str>, bytes: &[u8]) -> u8 {
+    let written = match path {
+        None | Some("-") => put_through(&mut rt.stdout(), bytes),
+        Some(path) if is_source(rt, words, path) => return unwritten_source(rt, path),
         Some(path) => match fs::create(rt, path) {
             Ok(file) => {
                 let mut file: File = file;
-                put_through(&mut file, text)
+                put_through(&mut file, bytes)
             }
             Err(error) => Err(error),
         },
     };
     match written {
         Ok(()) => 0,
-        Err(error) => unwritten(rt, words.out.unwrap_or("standard output"), &error),
+        Err(error) => unwritten(rt, path.unwrap_or("standard output"), &error),
+    }
+}
+
+/// Writes a source to the file that words name, or to standard output where they name none or `-`, and gives the exit
+/// status; what is wrong with the file is told, as that it is a source itself.
+pub fn write_source(rt: &HostRuntime, words: &Arguments<'_>, text: &[u8]) -> u8 {
+    write_bytes(rt, words, words.out, text)
+}
+
+/// Writes an image to the file at a path, or to standard output for `-`, behind the source that was made of the words,
+/// and gives the exit status; what is wrong with the file is told, as that it has that source or one of its own.
+pub fn write_image(rt: &HostRuntime, words: &Arguments<'_>, path: &str, bytes: &[u8]) -> u8 {
+    match words.out {
+        Some(out) if is_same_file(rt, out, path) => unwritten_source(rt, path),
+        _ => write_bytes(rt, words, Some(path), bytes),
     }
 }

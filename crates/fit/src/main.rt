@@ -1,24 +1,29 @@
-//! The program `fit`: compiler-made SPARC assembly as an annotated source. Nothing rests on it: the verifier judges the
-//! image, whoever made it.
+//! The program `fit`: compiler-made SPARC assembly as an annotated source, and the image of that. Nothing rests on what
+//! it makes: the verifier judges the image, whoever made it. An image that it writes was accepted by that verifier.
 #![tactic(auto)]
 
 mod annotate;
 mod excess;
 mod files;
+mod image;
 mod words;
 
 use cmd_files::command_words;
 use excess::tell_refusal;
-use files::{NO_MEMORY, bytes_of, refused, unread, write_source};
+use files::{LACKING, NO_MEMORY, bytes_of, refused, unread, write_image, write_source};
 use fit_gas::Assembly;
 use fit_legal::{JoinPlan, Legal, program_of};
 use fit_passes::{FitPlan, Made, Reason, Refusal, make};
+use image::{NoImage, image_bytes};
 use std::alloc::Global;
 use std::process::ExitCode;
 use words::{ArgumentFault, Arguments, STACK, TURNS, USAGE};
 
 /// The exit status where words ask for nothing.
 const WRONG_WORDS: u8 = 3;
+
+/// The exit status where what was made isn't accepted.
+const NOT_ACCEPTED: u8 = 6;
 
 /// Reads the sources that words name. What is wrong with one is told: the exit status of that.
 fn read_sources(rt: &HostRuntime, words: &Arguments<'_>, source: &mut Assembly) -> Result<(), u8> {
@@ -115,12 +120,37 @@ fn make_source(alloc: Global, source: &Assembly, words: &Arguments<'_>) -> Resul
     }
 }
 
-/// Tells each test, and writes the source; gives the exit status.
+/// Makes an image of the source that was made, and writes it where it is accepted; else that is told. Gives the exit
+/// status.
+fn finish_image(rt: &HostRuntime, words: &Arguments<'_>, path: &str, text: &[u8]) -> u8 {
+    match image_bytes(rt.alloc(), text) {
+        Ok(bytes) => write_image(rt, words, path, bytes.as_slice()),
+        Err(NoImage::Memory) => NO_MEMORY,
+        Err(lack) => {
+            let _ = eprintln!(rt; "fit: {path}: what was made isn't accepted: {lack}");
+            NOT_ACCEPTED
+        }
+    }
+}
+
+/// Tells each test, and writes what the words ask for, the source first; gives the exit status. Where there are tests,
+/// and the words say that this is an error, nothing is written.
 fn finish(rt: &HostRuntime, words: &Arguments<'_>, made: &Made) -> u8 {
     for test in made.tests.as_slice() {
         let _ = rt.eprintln(&test.shown(&made.program));
     }
-    write_source(rt, words, !made.tests.is_empty(), made.text.as_bytes())
+    if words.is_strict && !made.tests.is_empty() {
+        return LACKING;
+    }
+    let text = made.text.as_bytes();
+    let status = match words.out {
+        Some(_) => write_source(rt, words, text),
+        None => 0,
+    };
+    match words.image {
+        Some(path) if status == 0 => finish_image(rt, words, path, text),
+        _ => status,
+    }
 }
 
 /// Makes one source of assembly, and gives the exit status.

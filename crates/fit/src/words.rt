@@ -17,17 +17,19 @@ const MOST: u64 = 1_000_000_000_000;
 
 /// What is printed where words ask how the program is called.
 pub const USAGE: &str =
-    "Usage: fit SRC.s.. -o OUT.s [--turns N] [--stack BYTES] [--strict] [--region]
+    "Usage: fit SRC.s.. [-o OUT.s] [--image OUT.img] [--turns N] [--stack BYTES] [--strict] [--region]
        fit annotate SRC.s [-o OUT.s] [--strict]
 
 Turns compiler-made SPARC assembly, the files as one program, into an annotated source
 that `sandbox asm` and `sandbox verify` accept. What isn't shown is tested at run time.
 
   -o OUT.s     where the source goes; - is standard output
+  --image OUT.img  assembles and verifies what was made, and writes the image where it is accepted;
+               without -o no source is written then
   --turns N    the turns that a run may take in all (1000000000), up to 10^12: the image declares them
   --stack BYTES  the stack of functions that call each other in a round, or that are called
                through pointers (16384): a power of 2 from 1024 to 131072
-  --strict     where a test would be added, no source is made
+  --strict     where a test would be added, nothing is made
   --region     an access has to lie in the data, and not in the object that it names
 
 fit annotate takes a source in the project's own language, and gives it the annotations that it
@@ -37,12 +39,14 @@ with --strict no source is made then. Without -o it goes to standard output.
 
 Status 0: made. 1: a test would be added, or something isn't shown, and --strict says no.
 2: refused, with a line and a reason. 3: wrong arguments. 4: a file can't be read or written. 5: memory.
+6: what was made isn't accepted, and no image is written.
 ";
 
 /// An option that has a value.
 #[derive(Clone, Copy)]
 pub enum ValuedOption {
     Out,
+    Image,
     Turns,
     Stack,
 }
@@ -52,6 +56,7 @@ impl ValuedOption {
     fn of(word: &str) -> Option<ValuedOption> {
         match word {
             "-o" => Some(ValuedOption::Out),
+            "--image" => Some(ValuedOption::Image),
             "--turns" => Some(ValuedOption::Turns),
             "--stack" => Some(ValuedOption::Stack),
             _ => None,
@@ -62,6 +67,7 @@ impl ValuedOption {
     fn wanted(self) -> &'static str {
         match self {
             ValuedOption::Out => "-o wants the path of a file",
+            ValuedOption::Image => "--image wants the path of a file",
             ValuedOption::Turns => "--turns wants a decimal number from 1 to 1000000000000",
             ValuedOption::Stack => "--stack wants a power of 2 from 1024 to 131072",
         }
@@ -79,7 +85,7 @@ pub enum ArgumentFault<'a> {
     Value(ValuedOption),
     /// There is no source.
     Sources,
-    /// There is no place for the source that is made.
+    /// There is no place for what is made.
     Out,
     /// `fit annotate` has another number of sources than one.
     OneSource,
@@ -96,7 +102,7 @@ impl Display for ArgumentFault<'_> {
             ArgumentFault::Unknown(word) => write!(f, "{word} is no option"),
             ArgumentFault::Value(name) => write!(f, "{}, once", name.wanted()),
             ArgumentFault::Sources => f.write_str("the path of a source is wanted"),
-            ArgumentFault::Out => f.write_str("-o and the path of a file are wanted"),
+            ArgumentFault::Out => f.write_str("-o or --image, and the path of a file, are wanted"),
             ArgumentFault::OneSource => f.write_str("annotate wants the path of one source"),
             ArgumentFault::OfOther(name) => write!(f, "annotate takes no {name}"),
             ArgumentFault::Memory => f.write_str("memory"),
@@ -109,6 +115,7 @@ impl Display for ArgumentFault<'_> {
 pub struct Arguments<'a> {
     pub sources: Vec<&'a str>,
     pub out: Option<&'a str>,
+    pub image: Option<&'a str>,
     pub turns: Option<u64>,
     pub stack: Option<u32>,
     pub is_strict: bool,
@@ -138,6 +145,7 @@ impl<'a> Arguments<'a> {
         Arguments {
             sources: Vec::new(alloc),
             out: None,
+            image: None,
             turns: None,
             stack: None,
             is_strict: false,
@@ -149,12 +157,13 @@ impl<'a> Arguments<'a> {
     fn take_value(&mut self, name: ValuedOption, text: &'a str) -> Result<(), ArgumentFault<'a>> {
         match name {
             ValuedOption::Out if self.out.is_none() => self.out = Some(text),
+            ValuedOption::Image if self.image.is_none() => self.image = Some(text),
             ValuedOption::Turns if self.turns.is_none() => self.turns = turns_in(text),
             ValuedOption::Stack if self.stack.is_none() => self.stack = stack_in(text),
             _ => return Err(ArgumentFault::Value(name)),
         }
         let is_taken = match name {
-            ValuedOption::Out => true,
+            ValuedOption::Out | ValuedOption::Image => true,
             ValuedOption::Turns => self.turns.is_some(),
             ValuedOption::Stack => self.stack.is_some(),
         };
@@ -206,9 +215,9 @@ impl<'a> Arguments<'a> {
         if self.sources.is_empty() {
             return Err(ArgumentFault::Sources);
         }
-        match self.out {
-            Some(_) => Ok(()),
-            None => Err(ArgumentFault::Out),
+        match (self.out, self.image) {
+            (None, None) => Err(ArgumentFault::Out),
+            _ => Ok(()),
         }
     }
 
@@ -222,6 +231,9 @@ impl<'a> Arguments<'a> {
         }
         if self.by_region {
             return Err(ArgumentFault::OfOther("--region"));
+        }
+        if self.image.is_some() {
+            return Err(ArgumentFault::OfOther("--image"));
         }
         match self.sources.as_slice() {
             [source] => Ok(*source),
