@@ -29,6 +29,24 @@ COMPILER, COMPILER_PLUS = "sparc64-linux-gnu-gcc", "sparc64-linux-gnu-g++"
 MOST_SECONDS = 4
 
 
+# A fit that changes the fuel in the source that it made, and so ends as where the verifier refuses the image; and one
+# that ends as where the assembler finds too much of something.
+OUT_OF_FUEL = r"""#!/bin/sh
+TOP/fit "$@" || exit
+source=$(echo "$*" | sed "s/.* -o //; s/ .*//") image=$(echo "$*" | sed "s/.* --image //; s/ .*//")
+sed -i "s/^.fuel [0-9]*$/.fuel 1/" "$source"
+told=$(TOP/sandbox asm "$source" "$image" 2>&1 && TOP/sandbox verify "$image" 2>&1) && exit
+rm "$image"
+echo "fit: $image: what was made isn't accepted: $told" >&2
+exit 6
+"""
+TOO_MUCH = r"""#!/bin/sh
+TOP/fit "$@" || exit
+echo "fit: out.img: what was made isn't accepted: line 9: A3" >&2
+exit 6
+"""
+
+
 class Author:
     """Calls of ./cc in a folder that has the sources."""
 
@@ -182,21 +200,23 @@ def try_options(author):
 
 
 def try_fault_of_fit(author):
-    """What the verifier refuses of fit's is told as a fault of fit's, and never as the program's."""
+    """What the verifier refuses of fit's is told as a fault of fit's, and never as the program's; what passes a limit
+    is compiled for size. No other program is called."""
     farm = author.at("farm")
     os.makedirs(f"{farm}/tools")
     shutil.copy(CC, farm)
     # Nothing that builds is there, as in a release: so what is called is the fit beside it.
     tools = [f"tools/{it}" for it in os.listdir(f"{TOP}/tools") if it != "build"]
-    for name in (*tools, "runtime", "sandbox", "inspect"):
+    for name in (*tools, "runtime"):
         os.symlink(f"{TOP}/{name}", f"{farm}/{name}")
-    put(f"{farm}/fit", f'#!/bin/sh\n{TOP}/fit "$@" && sed -i "s/^.fuel [0-9]*$/.fuel 1/" fitted.s\n')
-    text = text_of(f"{farm}/fit").replace(" fitted.s", ' "$(echo "$*" | sed "s/.*-o //; s/ .*//")"')
-    put(f"{farm}/fit", text)
-    os.chmod(f"{farm}/fit", 0o755)
+    os.chmod(put(f"{farm}/fit", OUT_OF_FUEL.replace("TOP", TOP)), 0o755)
     author.called(1, "a fault of ./fit's, and not of the program: what it made of this line isn't accepted: ",
                   "seven.c", "-o", "farm.img", tool=f"{farm}/cc")
     author.called(1, "bare.c:3: cc: a fault of ./fit's", "bare.c", "-o", "farm.img", tool=f"{farm}/cc")
+    put(f"{farm}/fit", TOO_MUCH.replace("TOP", TOP))
+    most = "a program has at most 4096 blocks, 65536 words and 256 functions"
+    for told in f"compiled again for size, by -Os, since {most}", f"cc: refused: {most}: fewer or smaller functions":
+        author.called(2, told, "seven.c", "-o", "farm.img", tool=f"{farm}/cc")
     author.has_none("farm.img")
 
 

@@ -20,6 +20,9 @@ from standing import called, file_fault, make_stand
 
 # So many seconds of processor ./fit may take.
 SECONDS = 300
+# The status of ./fit where what it made isn't accepted, and how its last line then begins; behind that stands what
+# ./sandbox would tell.
+NOT_ACCEPTED, WHY = 6, ": what was made isn't accepted: "
 # What fit says of code that is compiled for size then, and of code that is compiled more plainly.
 INSIDE = r"refused: (?:[\w.$]+: )?"
 TOO_LARGE = re.compile(INSIDE + r"(the blocks of [a-z ]+ would be|more than \d+ (words|labels|registers))")
@@ -39,7 +42,7 @@ def say(*lines):
 
 
 class Build:
-    """One way from the sources to a source that ./fit made, in a folder for work."""
+    """One way from the sources to a source that ./fit made, and its image, in a folder for work."""
 
     def __init__(self, request, work):
         self.request, self.work = request, work
@@ -154,23 +157,30 @@ class Build:
         from origins import Origins  # (which most calls don't need)
         return Origins(self.made, self.work)
 
-    def fitted(self):
-        """Compiles and fits; returns how ./fit ended."""
+    @property
+    def is_made(self):
+        """Whether ./fit made a source, accepted or not."""
+        return self.ran.returncode in (0, NOT_ACCEPTED)
+
+    def fit(self):
+        """Compiles, and has ./fit make source and image; returns why the image isn't accepted, as ./sandbox tells it,
+        and nothing where it is, or where there is none."""
         self.made = self.assembled()
         self.origins = self.given()
-        words = [called("fit"), *self.origins.given, "-o", self.source, *self.request.fitting]
+        places = ["-o", self.source, "--image", self.image]
+        words = [called("fit"), *self.origins.given, *places, *self.request.fitting]
         ran, is_long = limited(words, SECONDS)
         if is_long:
             raise Fault(2, f"{self.request.name}: ./fit took more than {SECONDS} seconds of processor: compile by -Os, "
                         "or write __attribute__((noinline)) before the greatest functions")
-        self.ran = ran
+        self.ran, told = ran, ran.stderr.rpartition(WHY)[2].strip() if ran.returncode == NOT_ACCEPTED else ""
         self.unmark()
-        return ran
+        return told
 
     def unmark(self):
         """Takes the marks of rows from what ./fit made and told, and keeps the map that they give."""
         notes, self.ran.stderr = self.ran.stderr, self.origins.told(self.ran.stderr, self.teller.shown)
-        if self.ran.returncode == 0:
+        if self.is_made:
             with open(self.source, encoding="utf-8", errors="surrogateescape") as file:
                 source = file.read()
             self.mapped, bare = self.origins.map_of(source, notes, self.teller.shown), self.origins.bare(source)
@@ -191,26 +201,18 @@ class Build:
         text = self.ran.stderr
         refusals = [it for it in text.splitlines() if "refused: " in it]
         notes = self.teller.notes(text)
-        lines = [*notes, self.teller.refusal(refusals[-1])] if refusals else [*notes] if notes else [text.strip()]
-        raise Fault(self.ran.returncode, *lines)
-
-
-def assembled(source, image):
-    """What ./sandbox tells of a source, or of its image; nothing where both are accepted."""
-    for words in (["asm", source, image], ["verify", image]):
-        ran = subprocess.run([called("sandbox"), *words], stdout=subprocess.PIPE, stderr=subprocess.STDOUT, text=True,
-                             errors="replace", check=False)
-        if ran.returncode:
-            return ran.stdout.strip()
-    return ""
+        if refusals:
+            last = self.teller.refusal(refusals[-1])
+        else:
+            last = "" if notes and self.ran.returncode == 1 else text.strip().rpartition("\n")[2]
+        raise Fault(self.ran.returncode, *notes, last)
 
 
 def image_by(request, work):
-    """Makes an image in a folder for work; returns the build, and what ./sandbox tells."""
+    """Makes an image in a folder for work; returns the build, and why the image isn't accepted."""
     os.makedirs(work, exist_ok=True)
     build = Build(request, work)
-    ran = build.fitted()
-    return build, "" if ran.returncode else assembled(build.source, build.image)
+    return build, build.fit()
 
 
 def again_for(build, told):
@@ -235,7 +237,7 @@ def image_of(request, work):
         say(f"{request.name}: compiled again {size}, by {level}, since {why}")
         build, told = image_by(request.at(level), f"{work}/{folder}")
     build.keep()
-    if build.ran.returncode:
+    if not build.is_made:
         build.refuse()
     if told.endswith(": A3"):
         raise Fault(2, f"{request.name}: refused: {LIMITS}: fewer or smaller functions are wanted")
@@ -281,13 +283,18 @@ def left_beside(build):
     return [f"{request.name}: {stem}.elf has lines and no variables: {why}"] if why else []
 
 
+def programs_of(request):
+    """The programs that are called: a run is ./sandbox's, and ./inspect's where it ends in a test."""
+    return ["fit", *["sandbox"] * bool(request.runs or request.inputs)]
+
+
 def perform(request):
     """Does what was asked for; returns the status."""
     if request.prints:
         return preprocess(request)
     for it in request.files:
         open(it, "rb").close()  # (one that isn't there is told before anything is built)
-    status = make_stand(request.name, "fit", "sandbox")
+    status = make_stand(request.name, *programs_of(request))
     if status:
         return status
     with tempfile.TemporaryDirectory() as work:
