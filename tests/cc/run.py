@@ -15,7 +15,7 @@ import tempfile
 sys.dont_write_bytecode = True
 sys.path.insert(0, f"{os.path.dirname(os.path.dirname(os.path.abspath(__file__)))}/lib")
 from refusals import REFUSED, REFUSED_PLUS, WORDS
-from run import CC, EXAMPLES, SANDBOX, TOP, built, has, put, run, text_of
+from run import CC, EXAMPLES, INSPECT, SANDBOX, TOP, built, has, put, run, text_of
 from sources import SOURCES, THREE
 from tally import Tally, Words
 
@@ -241,6 +241,19 @@ def try_programs(author):
             author.called(0, told, *words, tool=PLUS if is_plus else CC, env={**os.environ, "CC_SPARC": "clang"})
 
 
+def try_jumps(author):
+    """Threaded jumps spare turns. Where a program has too many blocks by them it is compiled without, and nothing is
+    told of that."""
+    line = b'10.0.0.1 - - [12/Mar/2024:10:00:00 +0000] "GET /some/path/1234567 HTTP/1.1" 503 1234'
+    told = run([INSPECT, "run", author.makes("accepted", "rule.c")], line).out
+    found = re.search(rb"^turns: (\d+)", told, re.M)
+    author.tally.check("turns of rule.c", found and int(found[1]) < 17.5 * len(line),
+                       f"wanted less than 17.5 a byte, came {told[:200]}")
+    ran = run([CC, f"{HERE}/programs/calculator.c", "-o", author.at("calculator.img")])
+    author.tally.check("calculator.c at its own level", ran.status == 0 and "again" not in ran.said,
+                       f"wanted that nothing is told of another level, came {ran.said}")
+
+
 def seconds_of_processor():
     """What all commands that were called so far took."""
     taken = resource.getrusage(resource.RUSAGE_CHILDREN)
@@ -278,7 +291,8 @@ def try_builds(author):
 
 
 PARTS = {"page": try_page, "sources": try_sources, "refusals": try_refusals, "ends": try_ends, "options": try_options,
-         "fault": try_fault_of_fit, "time": try_time, "builds": try_builds, "programs": try_programs}
+         "fault": try_fault_of_fit, "jumps": try_jumps, "time": try_time, "builds": try_builds,
+         "programs": try_programs}
 
 
 def main(words):

@@ -30,6 +30,9 @@ SHAPED = """-fno-tree-loop-distribute-patterns -fno-ivopts -fno-schedule-insns -
     -fno-tree-vectorize -fno-tree-loop-ivcanon -fno-split-loops -fno-thread-jumps -fno-crossjumping
     -fno-tree-tail-merge --param logical-op-non-short-circuit=0 --param max-inline-insns-auto=30
     --param max-inline-insns-recursive-auto=0 --param early-inlining-insns=60""".split()
+# Of a program's own sources jumps are threaded where that copies few statements, and not by the dominator passes, which
+# thread through the heads of loops, whose bounds `fit` reads.
+THREADED = "-fthread-jumps --param max-jump-thread-duplication-stmts=5 -fno-tree-dominator-opts".split()
 # (clang's debug information of version 5 names all by numbers in further tables)
 CLANG = """--target=sparc-linux-gnu -mcpu=v8 -msoft-float -g1 -gdwarf-4 -fno-pic -fno-pie -fno-jump-tables
     -fno-optimize-sibling-calls -fno-asynchronous-unwind-tables -fno-stack-protector -fno-common -fno-strict-aliasing
@@ -102,6 +105,8 @@ class Compiler:
     """What both have in common."""
 
     target, size_level, library_flags, variables, apart = [], "-Os", [], ["-g"], []
+    # What sources whose jumps are threaded are compiled with beside the level.
+    threaded = []
 
     def __init__(self, path, request):
         self.path, self.request, self.tells = path, request, False
@@ -166,7 +171,7 @@ class Compiler:
 
         def compiled(both):
             source, path = both
-            more = [*self.kind, *self.by_level(), *self.dependencies(f"{path}.d"), "-o", path]
+            more = [*self.kind, *self.of_sources(), *self.dependencies(f"{path}.d"), "-o", path]
             return self.called(source, self.request.level, self.request.flags, *more)
         ran = side_by_side(compiled, list(zip(sources, made)))
         self.told = "".join(it.stderr for it in ran)
@@ -174,9 +179,14 @@ class Compiler:
             raise Fault(2, self.told.rstrip("\n"))
         return made
 
-    def by_level(self):
-        """What sources are compiled with beside the level that is asked for."""
-        return []
+    def of_sources(self):
+        """What a program's own sources are compiled with beside the level that is asked for."""
+        return self.threaded if self.is_threaded else []
+
+    @property
+    def is_threaded(self):
+        """Whether jumps of the program's own sources are threaded."""
+        return bool(self.threaded) and self.request.is_threaded and self.request.level != "-O0"
 
     def taken(self, _work):
         """The files of assembly that a program has of the library beside the one that was made in a folder."""
@@ -201,14 +211,15 @@ class Gcc(Compiler):
     # What is compiled of the library once and for all, and not with each program: long functions, of which gcc makes
     # nearly the same beside any program, and which it would take much of its time for.
     apart = "decimal print_double scan scan_double strtod".split()
+    threaded = THREADED
 
     def plainer(self):
         return super().plainer() or ("-O0" if self.request.level == "-O1" else None)
 
-    def by_level(self):
+    def of_sources(self):
         """At -O0 calls of functions that gcc knows are calls: it doesn't look for those that it knows in the library,
         and the headers' own bodies of printf and the like, which call others, aren't taken there."""
-        return ["-fno-builtin"] if self.request.level == "-O0" else []
+        return ["-fno-builtin"] if self.request.level == "-O0" else super().of_sources()
 
     @property
     def archiver(self):

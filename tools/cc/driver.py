@@ -32,13 +32,16 @@ USAGE = f"{TOP}/tools/cc/usage"
 MAIN = re.compile(r"^[\w\s*]*?\bmain\s*\(([^)]*)\)", re.M)
 # What names what is dropped.
 USE_OF_ERRORS = re.compile(r"\b(?:stderr|perror)\b")
+# What was told.
+SAID = set()
 # Comments and strings of C.
 APART = re.compile(r"//[^\n]*|/\*.*?\*/|\"(?:\\.|[^\"\\\n])*\"", re.S)
 
 
 def say(*lines):
-    """Tells lines on standard error."""
-    print("".join(f"{line}\n" for line in lines if line), end="", file=sys.stderr)
+    """Tells lines on standard error, but for those that were told: what is compiled again is told of again."""
+    print("".join(f"{line}\n" for line in lines if line and line not in SAID), end="", file=sys.stderr)
+    SAID.update(lines)
 
 
 class Build:
@@ -216,25 +219,29 @@ def image_by(request, work):
 
 
 def again_for(build, told):
-    """At which level to compile again, and why; nothing where that asks for nothing else."""
-    said = build.ran.stderr.strip()
+    """At which level to compile again, and why; nothing where that asks for nothing else. What is too large is tried at
+    its own level first, if jumps were threaded."""
+    said, compiler = build.ran.stderr.strip(), build.compiler
     why = in_plain_names(said.splitlines()[-1].rpartition("refused: ")[2]) if said else ""
-    if told.endswith(": A3"):
-        return build.compiler.size_level, LIMITS
-    if TOO_LARGE.search(said):
-        return build.compiler.size_level, why
-    return (build.compiler.plainer(), why) if TOO_DENSE.search(said) else (None, None)
+    has_limits = told.endswith(": A3")
+    if has_limits or TOO_LARGE.search(said):
+        level = build.request.level if compiler.is_threaded else compiler.size_level
+        return level, LIMITS if has_limits else why
+    return (compiler.plainer(), why) if TOO_DENSE.search(said) else (None, None)
 
 
 def image_of(request, work):
-    """Makes the image in the folder for work, at another level where that does it; returns how it was made."""
+    """Makes the image in the folder for work, with plain jumps or at another level where that does it; returns how it
+    was made."""
     build, told = image_by(request, work)
-    for folder in "again", "plainest":
+    for folder in "again", "smaller", "plainest":
         level, why = again_for(build, told)
-        if level in (None, build.request.level):
+        is_same = level == build.request.level
+        if level is None or is_same and not build.compiler.is_threaded:
             break
-        size = "for size" if level == build.compiler.size_level else "more plainly"
-        say(f"{request.name}: compiled again {size}, by {level}, since {why}")
+        if not is_same:
+            size = "for size" if level == build.compiler.size_level else "more plainly"
+            say(f"{request.name}: compiled again {size}, by {level}, since {why}")
         build, told = image_by(request.at(level), f"{work}/{folder}")
     build.keep()
     if not build.is_made:

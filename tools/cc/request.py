@@ -22,15 +22,17 @@ class Request:
     # (the module that writes such classes takes as long to load as all of these)
     out = keep = prints = depends = dependencies = None
     runs = notes = maps = debugs = False
+    # (whether gcc may thread jumps, which takes more blocks)
+    is_threaded = True
     level, arena = "-O2", 65536
 
     def __init__(self, name="cc"):
         self.name, self.files, self.flags, self.fitting, self.inputs = name, [], [], [], []
 
     def at(self, level):
-        """The same call at another level."""
+        """The same call at this level, with all jumps as they are written, which takes the fewest blocks."""
         other = copy.copy(self)
-        other.level = level
+        other.level, other.is_threaded = level, False
         return other
 
     @property
