@@ -26,7 +26,8 @@ NOT_ACCEPTED, WHY = 6, ": what was made isn't accepted: "
 # What fit says of code that is compiled for size then, and of code that is compiled more plainly.
 INSIDE = r"refused: (?:[\w.$]+: )?"
 TOO_LARGE = re.compile(INSIDE + r"(the blocks of [a-z ]+ would be|more than \d+ (words|labels|registers))")
-TOO_DENSE = re.compile(INSIDE + r"(no place for a test|condition codes of several|no register is left)")
+TOO_DENSE = re.compile(INSIDE + r"(no place for a test|condition codes of several|no register is left"
+                       r"|codes of a division|a division whose upper word|two divisions of one upper word)")
 LIMITS = "a program has at most 4096 blocks, 65536 words and 256 functions"
 USAGE = f"{TOP}/tools/cc/usage"
 MAIN = re.compile(r"^[\w\s*]*?\bmain\s*\(([^)]*)\)", re.M)
