@@ -245,6 +245,7 @@ def try_jumps(author):
     """Threaded jumps spare turns. Where a program has too many blocks by them it is compiled without, and nothing is
     told of that."""
     line = b'10.0.0.1 - - [12/Mar/2024:10:00:00 +0000] "GET /some/path/1234567 HTTP/1.1" 503 1234'
+    put(author.at("rule.c"), text_of(f"{TOP}/tests/lib/rule.c"))
     told = run([INSPECT, "run", author.makes("accepted", "rule.c")], line).out
     found = re.search(rb"^turns: (\d+)", told, re.M)
     author.tally.check("turns of rule.c", found and int(found[1]) < 17.5 * len(line),

@@ -68,16 +68,6 @@ int main(void) {
     "size.in": "",
     "inputs/one": "1",
     "inputs/two": "2",
-    "rule.c": """#include "plug.h"
-int main(void) {
-    int c, quotes = 0, status = 0, digits = 0;
-    while (digits < 3 && (c = get()) >= 0) {
-        if (c == '"') quotes++;
-        else if (quotes == 2 && c >= '0' && c <= '9') { status = status * 10 + c - '0'; digits++; }
-    }
-    return status < 500;
-}
-""",
 }
 # The same functions with their names at the begin of a line, as they were written once.
 SOURCES["old.c"] = SOURCES["notes.c"].replace("static void first(int i) {", "static void\nfirst(i)\n    int i;\n{") \
