@@ -1,7 +1,7 @@
 """Words of an image that say which test ended a run. An exit word has the line of its test, and not the file; but the
 word of code that says the line belongs to few tests, mostly to one.
 
-./fit has three forms (crates/fit_cuts, fit_passes and fit_joins): SETHI leaves the exit word in %g5, for an end that
+./fit has three forms (crates/fit_cuts, fit_placing and fit_joins): SETHI leaves the exit word in %g5, for an end that
 the tests of a function share; SETHI and OR leave it in %o0, right before the end; and a call through a pointer leaves
 its line in %g6, for the one end of all such calls."""
 import re

@@ -3,38 +3,17 @@
 #![tactic(auto)]
 
 mod annotate;
-mod excess;
-mod files;
-mod image;
-mod words;
 
 use cmd_files::command_words;
-use excess::tell_refusal;
-use files::{LACKING, NO_MEMORY, bytes_of, refused, unread, write_image, write_source};
+use fit_command::{
+    ArgumentFault, Arguments, LACKING, NO_MEMORY, STACK, TURNS, finish_image, lacking,
+    read_sources, tell_refusal, unread, write_source,
+};
 use fit_gas::Assembly;
 use fit_legal::{JoinPlan, Legal, program_of};
 use fit_passes::{FitPlan, Made, Reason, Refusal, make};
-use image::{NoImage, image_bytes};
 use std::alloc::Global;
 use std::process::ExitCode;
-use words::{ArgumentFault, Arguments, STACK, TURNS, USAGE};
-
-/// The exit status where words ask for nothing.
-const WRONG_WORDS: u8 = 3;
-
-/// The exit status where what was made isn't accepted.
-const NOT_ACCEPTED: u8 = 6;
-
-/// Reads the sources that words name. What is wrong with one is told: the exit status of that.
-fn read_sources(rt: &HostRuntime, words: &Arguments<'_>, source: &mut Assembly) -> Result<(), u8> {
-    for path in words.sources.as_slice() {
-        let bytes = bytes_of(rt, path)?;
-        if let Err(fault) = source.read(path, bytes.as_slice()) {
-            return Err(refused(rt, &fault, source.files.as_slice()));
-        }
-    }
-    Ok(())
-}
 
 /// A program of assembly, whose functions are joined where the counters of loops ask for that, or where they do by the
 /// meter alone.
@@ -120,19 +99,6 @@ fn make_source(alloc: Global, source: &Assembly, words: &Arguments<'_>) -> Resul
     }
 }
 
-/// Makes an image of the source that was made, and writes it where it is accepted; else that is told. Gives the exit
-/// status.
-fn finish_image(rt: &HostRuntime, words: &Arguments<'_>, path: &str, text: &[u8]) -> u8 {
-    match image_bytes(rt.alloc(), text) {
-        Ok(bytes) => write_image(rt, words, path, bytes.as_slice()),
-        Err(NoImage::Memory) => NO_MEMORY,
-        Err(lack) => {
-            let _ = eprintln!(rt; "fit: {path}: what was made isn't accepted: {lack}");
-            NOT_ACCEPTED
-        }
-    }
-}
-
 /// Tells each test, and writes what the words ask for, the source first; gives the exit status. Where there are tests,
 /// and the words say that this is an error, nothing is written.
 fn finish(rt: &HostRuntime, words: &Arguments<'_>, made: &Made) -> u8 {
@@ -159,7 +125,7 @@ fn perform(rt: &HostRuntime, words: &Arguments<'_>) -> u8 {
     match read_sources(rt, words, &mut source) {
         Ok(()) => match &make_source(rt.alloc(), &source, words) {
             Ok(made) => finish(rt, words, made),
-            Err(refusal) => tell_refusal(rt, refusal, &source),
+            Err(Refusal { fault, lines }) => tell_refusal(rt, fault, lines.as_slice(), &source),
         },
         Err(status) => status,
     }
@@ -182,20 +148,6 @@ fn perform_fit<'a>(rt: &HostRuntime, all: &'a [String]) -> Result<u8, ArgumentFa
     words.take(all)?;
     words.ask_for_source()?;
     Ok(perform(rt, &words))
-}
-
-/// Tells why words ask for nothing, and gives the exit status. That memory was refused is told at the end.
-fn lacking(rt: &HostRuntime, lack: ArgumentFault<'_>) -> u8 {
-    match lack {
-        ArgumentFault::Memory => return NO_MEMORY,
-        ArgumentFault::Usage => {
-            let _ = rt.eprint(USAGE);
-        }
-        lack => {
-            let _ = eprintln!(rt; "fit: {lack}");
-        }
-    }
-    WRONG_WORDS
 }
 
 /// Does what the words ask for, and gives the exit status.

@@ -1,10 +1,9 @@
 //! All passes over a program, one after the other: from compiler-made code to an annotated source.
-use crate::metering::{insert_meter, lower_count};
-use crate::placing::{end_unreached, fill, place};
 use fit_checks::{TestOptions, add_tests};
-pub use fit_code::{Fault, Reason};
-use fit_code::{Block, Function, Heap, NO_LINE, Program, SourceLine};
+pub use fit_code::Reason;
+use fit_code::{Block, Fault, Function, Heap, NO_LINE, Program, SourceLine};
 use fit_fuel::{LoopBounds, Meter, bounds_of, declare, is_of_blocks, refused};
+use fit_placing::{end_unreached, fill, insert_meter, lower_count, place};
 use fit_plans::Test;
 use fit_ranges::Ranges;
 use fit_text::{Annotations, source_of};

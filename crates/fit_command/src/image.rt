@@ -5,11 +5,16 @@ ghost use Rattle.sbx_image.specs.Spelling.{spelling};
 ghost use Rattle.sbx_asm.specs.Images.{source_image};
 ghost use Rattle.sbx_rules.specs.Verdicts.{Checked};
 
+use crate::files::{NO_MEMORY, write_image};
+use crate::words::Arguments;
 use sbx_asm::{AsmFault, Cause, assemble};
 use sbx_image::write;
 use sbx_verify::{Cause as Rule, Refusal, verify};
 use std::alloc::{AllocError, Global};
 use std::fmt::{self, Display, Formatter, Write};
+
+/// The exit status where what was made isn't accepted.
+const NOT_ACCEPTED: u8 = 6;
 
 /// Why there is no image of a source. Its text is the line of `sandbox asm`, or of `sandbox verify`.
 #[derive(Clone, Copy)]
@@ -70,4 +75,17 @@ pub fn image_bytes(alloc: Global, source: &[u8]) -> Result<Vec<u8>, NoImage>
         Err((_image, refusal)) => return Err(NoImage::from(refusal)),
     };
     Ok(write(&image, alloc)?)
+}
+
+/// Makes an image of the source that was made, and writes it where it is accepted; else that is told. Gives the exit
+/// status.
+pub fn finish_image(rt: &HostRuntime, words: &Arguments<'_>, path: &str, text: &[u8]) -> u8 {
+    match image_bytes(rt.alloc(), text) {
+        Ok(bytes) => write_image(rt, words, path, bytes.as_slice()),
+        Err(NoImage::Memory) => NO_MEMORY,
+        Err(lack) => {
+            let _ = eprintln!(rt; "fit: {path}: what was made isn't accepted: {lack}");
+            NOT_ACCEPTED
+        }
+    }
 }

@@ -1,8 +1,8 @@
 //! The message where a function has more blocks than there may be: how many too many, and whose lines most of them come
 //! from.
 use crate::files::{REFUSED, refused};
+use fit_code::{Fault, Reason, SourceLine};
 use fit_gas::{Assembly, CodeBody};
-use fit_passes::{Reason, Refusal};
 use fit_text::FaultLine;
 use std::collections::BTreeMap;
 use std::fmt::{Display, Error, Formatter, Write};
@@ -16,7 +16,7 @@ type Share = (usize, usize);
 /// The functions with most blocks, and how many there are too many.
 #[derive(Drop)]
 struct Excess<'a> {
-    refusal: &'a Refusal,
+    fault: &'a Fault,
     source: &'a Assembly,
     shares: &'a [Share],
 }
@@ -32,7 +32,7 @@ fn name_of(source: &Assembly, code: usize) -> &str {
 
 impl Display for Excess<'_> {
     fn fmt<W: Write>(&self, f: &mut Formatter<W>) -> Result<(), Error> {
-        let fault = &self.refusal.fault;
+        let fault = self.fault;
         let files = self.source.files.as_slice();
         let mut told = write!(f, "{}", FaultLine { fault, files });
         if let Reason::TooGreat { count, most, .. } = fault.reason {
@@ -93,12 +93,12 @@ fn take_greatest(counts: &mut [usize]) -> Option<Share> {
 }
 
 /// For each function of the assembly how many blocks come from its lines.
-fn counts_of(refusal: &Refusal, source: &Assembly) -> Vec<usize> {
+fn counts_of(lines: &[SourceLine], source: &Assembly) -> Vec<usize> {
     let mut memory = source.memory;
     let codes = codes_by_line(source);
     let mut counted = memory.repeat(0usize, source.codes.len());
     let counts = counted.as_mut_slice();
-    for line in refusal.lines.as_slice() {
+    for line in lines {
         if let Some(code) = codes.get(&key_of(line.file, line.number))
             && *code < counts.len()
         {
@@ -109,9 +109,9 @@ fn counts_of(refusal: &Refusal, source: &Assembly) -> Vec<usize> {
 }
 
 /// The functions of the assembly from whose lines most blocks come, the greatest one first.
-fn shares_of(refusal: &Refusal, source: &Assembly) -> Vec<Share> {
+fn shares_of(lines: &[SourceLine], source: &Assembly) -> Vec<Share> {
     let mut memory = source.memory;
-    let mut counts = counts_of(refusal, source);
+    let mut counts = counts_of(lines, source);
     let mut shares = Vec::new(memory.alloc);
     for _ in 0..NAMED {
         if let Some(share) = take_greatest(counts.as_mut_slice()) {
@@ -123,14 +123,19 @@ fn shares_of(refusal: &Refusal, source: &Assembly) -> Vec<Share> {
 
 /// Tells why there is no source and, where that is that a function has more blocks than there may be, how many too
 /// many, and the functions of the assembly that most of them come from; gives the exit status.
-pub fn tell_refusal(rt: &HostRuntime, refusal: &Refusal, source: &Assembly) -> u8 {
-    if refusal.lines.is_empty() {
-        return refused(rt, &refusal.fault, source.files.as_slice());
+pub fn tell_refusal(
+    rt: &HostRuntime,
+    fault: &Fault,
+    lines: &[SourceLine],
+    source: &Assembly,
+) -> u8 {
+    if lines.is_empty() {
+        return refused(rt, fault, source.files.as_slice());
     }
-    let shares = shares_of(refusal, source);
+    let shares = shares_of(lines, source);
     let shares = shares.as_slice();
     let _ = rt.eprintln(&Excess {
-        refusal,
+        fault,
         source,
         shares,
     });

@@ -1,7 +1,8 @@
 //! Files that are read and written, and what is told where there is no source.
-use crate::words::Arguments;
+use crate::words::{ArgumentFault, Arguments, USAGE};
 use cmd_files::FileFault;
-use fit_passes::{Fault, Reason};
+use fit_code::{Fault, Reason};
+use fit_gas::Assembly;
 use fit_text::FaultLine;
 use sbx_put::put_through;
 use std::fs::File;
@@ -17,6 +18,9 @@ pub const LACKING: u8 = 1;
 
 /// The exit status where the program is refused, or a file is too long, which was told.
 pub const REFUSED: u8 = 2;
+
+/// The exit status where words ask for nothing.
+const WRONG_WORDS: u8 = 3;
 
 /// The exit status where a file can't be read or written, which was told.
 const NO_FILE: u8 = 4;
@@ -68,6 +72,21 @@ pub fn bytes_of(rt: &HostRuntime, path: &str) -> Result<Vec<u8>, u8> {
         Ok(_count) => Ok(bytes),
         Err(error) => Err(unread(rt, path, &error)),
     }
+}
+
+/// Reads the sources that words name. What is wrong with one is told: the exit status of that.
+pub fn read_sources(
+    rt: &HostRuntime,
+    words: &Arguments<'_>,
+    source: &mut Assembly,
+) -> Result<(), u8> {
+    for path in words.sources.as_slice() {
+        let bytes = bytes_of(rt, path)?;
+        if let Err(fault) = source.read(path, bytes.as_slice()) {
+            return Err(refused(rt, &fault, source.files.as_slice()));
+        }
+    }
+    Ok(())
 }
 
 /// Whether two paths have the same plain file.
@@ -130,4 +149,18 @@ pub fn write_image(rt: &HostRuntime, words: &Arguments<'_>, path: &str, bytes: &
         Some(out) if is_same_file(rt, out, path) => unwritten_source(rt, path),
         _ => write_bytes(rt, words, Some(path), bytes),
     }
+}
+
+/// Tells why words ask for nothing, and gives the exit status. That memory was refused is told at the end.
+pub fn lacking(rt: &HostRuntime, lack: ArgumentFault<'_>) -> u8 {
+    match lack {
+        ArgumentFault::Memory => return NO_MEMORY,
+        ArgumentFault::Usage => {
+            let _ = rt.eprint(USAGE);
+        }
+        lack => {
+            let _ = eprintln!(rt; "fit: {lack}");
+        }
+    }
+    WRONG_WORDS
 }
