@@ -2,9 +2,9 @@
 """usage: tests/cc/run.py [PART ..]
 
 Tries ./cc and ./c++ as an author calls them: the programs and the refusals that docs/use/c.md shows, each option, each
-status, each refusal by its line; programs of 100 lines in C, by gcc and clang, and in C++, beside the same for this
-machine; the time that one of 500 lines takes; a Makefile and CMake. What needs a compiler for SPARC is skipped where
-none is."""
+status, each refusal by its line; what data an image has; programs of 100 lines in C, by gcc and clang, and in C++,
+beside the same for this machine; the time that one of 500 lines takes; a Makefile and CMake. What needs a compiler for
+SPARC is skipped where none is."""
 import os
 import re
 import resource
@@ -25,6 +25,11 @@ PLUS = f"{TOP}/c++"
 USAGE = "Usage: cc [OPTION..] FILE.c.."
 UPPER = f"{EXAMPLES}/c/upper.c"
 COMPILER, COMPILER_PLUS = "sparc64-linux-gnu-gcc", "sparc64-linux-gnu-g++"
+# Programs that read or write where nothing of theirs is: words of ./cc, the regions of the image, and what it puts out
+# before; and addresses before the data, among constants, and behind.
+STRAYS = (("peek.c -DAT=at", [], b""), ("peek.c -DAT=0x80000", [], b""), ("poke.c -DAT=at", [], b""),
+          ("poke.c -DAT=0x80040", [], b""), ("digits.c", ["ro", "rw"], b"0800"))
+PLACES = [it.to_bytes(4, "big") for it in (0, 0x7FFFC, 0x80000, 0x80040, 0x80050, 0x8005C, 0xFFFFFFFC)]
 # So many seconds of processor a program of 500 lines may take: more than twice what it does beside other work.
 MOST_SECONDS = 4
 
@@ -220,6 +225,33 @@ def try_fault_of_fit(author):
     author.has_none("farm.img")
 
 
+def regions_of(author, words, how):
+    """The regions of the image that is made by these words, data.img."""
+    author.called(0, "accepted", *words.split(), "-o", "data.img", "--keep", "kept", **how)
+    return re.findall(r"^\.region (\w+)$", text_of(author.at("kept/fitted.s")), re.M)
+
+
+def try_data(author):
+    """A program that keeps nothing in memory has no data in its image, by each compiler that is there. What reads or
+    writes at an address ends by a test then. So does what writes where there are constants alone."""
+    tally, image = author.tally, author.at("data.img")
+    for compiler in [COMPILER, *["clang"] * has("clang")]:
+        how = {"env": {**os.environ, "CC_SPARC": compiler}}
+        tally.same(f"regions of flip.c by {compiler}", regions_of(author, "flip.c", how), [])
+        author.puts(image, b"aB", b"Ab")
+        for words, regions, put_out in STRAYS:
+            name = f"{words} by {compiler}"
+            tally.same(f"regions of {name}", regions_of(author, words, how), regions)
+            author.puts(image, put_out, b"\0\x08\0\x50")
+            for given in PLACES:
+                told = run([INSPECT, "run", image], given).out
+                tally.check(f"{name} on {given}", re.search(rb"^end: exit with the word 0002\w{4}$", told, re.M),
+                            f"wanted an end by the test of a pointer, came {told[:200]}")
+        for name in "peek.c", "poke.c":
+            author.called(1, f"{name}:5: a pointer leaves the program's data", name, "-DAT=at", "--run",
+                          given=PLACES[2], **how)
+
+
 def try_programs(author):
     """Programs of some 100 lines beside the same for this machine, by each compiler that is there."""
     folder = f"{HERE}/programs"
@@ -292,7 +324,7 @@ def try_builds(author):
 
 
 PARTS = {"page": try_page, "sources": try_sources, "refusals": try_refusals, "ends": try_ends, "options": try_options,
-         "fault": try_fault_of_fit, "jumps": try_jumps, "time": try_time, "builds": try_builds,
+         "data": try_data, "fault": try_fault_of_fit, "jumps": try_jumps, "time": try_time, "builds": try_builds,
          "programs": try_programs}
 
 

@@ -45,6 +45,15 @@ int main(void) {
     "int main(void) {\n    int at;\n    list = calloc(3, sizeof *list);\n    list[1] = 4;\n"
     '    while (scanf("%d", &at) == 1) printf("%d\\n", part(8, at));\n    return 0;\n}\n',
     "bare.c": "int main(void) {\n    return 7;\n}\n",
+    "flip.c": '#include "plug.h"\nint main(void) {\n    for (int c; (c = get()) >= 0;) put(c ^ 32);\n'
+    "    return 0;\n}\n",
+    "peek.c": '#include "plug.h"\nint main(void) {\n    unsigned at = 0;\n'
+    "    for (int c; (c = get()) >= 0;) at = at << 8 | c;\n    put(*(volatile unsigned char *)AT);\n    return 0;\n}\n",
+    "poke.c": '#include "plug.h"\nint main(void) {\n    unsigned at = 0;\n'
+    "    for (int c; (c = get()) >= 0;) at = at << 8 | c;\n    *(volatile int *)AT = 7;\n    return 0;\n}\n",
+    "digits.c": '#include "plug.h"\nstatic const char digits[16] = "0123456789ABCDEF";\nint main(void) {\n'
+    "    unsigned at = 0;\n    for (int c; (c = get()) >= 0; at = at << 8 | c) put(digits[c & 15]);\n"
+    "    *(volatile char *)at = 7;\n    return 0;\n}\n",
     "unused.c": "int main(void) { int unused; return 0; }\n",
     "given.c": '#include <stdio.h>\nint main(void) { printf("%d\\n", GIVEN); return INNER + GIVEN - 3; }\n',
     "given.h": "#define GIVEN three\n#include <inner.h>\n",

@@ -740,7 +740,7 @@ def processes(image, given, count):
 # The kinds of runs that `calls cost` makes, and of calls before a run.
 KINDS = ("once", "kept", "restarted", "engine", "begun")
 BEFORE = ("opened", "readied")
-# Programs from C whose runs begin with 320 bytes of data, and one of a hundred words.
+# Programs from C: one without data, and one of a hundred words with some 400 bytes of them.
 FROM_C = ("upper", "control")
 SESSIONS = 10000
 

@@ -491,8 +491,6 @@ fn functions_of(
         let calls = (called, plan.has_bounds);
         functions = joined(layout, functions, parts, calls, symbols.as_slice(), &stack);
     }
-    check_count(&mut layout.stops, functions.as_slice());
-    layout.end_region(false);
     (functions, stack)
 }
 
@@ -500,6 +498,13 @@ fn functions_of(
 fn check_count(stops: &mut Stops, functions: &[Function]) {
     if let Some(function) = functions.get(FUNCTIONS) {
         stops.note(function.line, Obstacle::TooMany("functions", 256));
+    }
+}
+
+/// Ends the data behind the last object. Without objects there are none, and a run has no bytes to lay out.
+fn end_data(layout: &mut Layout) {
+    if !layout.objects.is_empty() {
+        layout.end_region(false);
     }
 }
 
@@ -529,6 +534,8 @@ pub fn program_of(
     let (order, before) = order_of_calls(&mut stops, source, &layout.linked, taken, entry);
     layout.stops = stops;
     let (functions, stack) = functions_of(&mut layout, order.as_slice(), &plan);
+    check_count(&mut layout.stops, functions.as_slice());
+    end_data(&mut layout);
     let files = layout.stops.made(source.files.clone());
     match layout.stops.fault(source, before.as_str()) {
         Some(fault) => Err(fault),

@@ -5,48 +5,45 @@ use crate::told::are_told;
 /// alone, its first address and its bytes; of each function its name, the bytes of its frame, and its blocks. Of a
 /// block the words of its steps, as binutils assembles what they have to be, and where control goes: `!` ends the run.
 /// A region begins a page. It has 80 bytes before its first object, and 256 behind its last one, and is a multiple of
-/// 8 bytes long.
+/// 8 bytes long. A program without objects has none.
 static PROGRAMS: [(&str, &str); 12] = [
     // A slot's step stands before the return, and main's return ends the run.
-    (
-        " retl\n add %o0,1,%o0",
-        "rw 80000 320\nmain 0: 90022001 !\n",
-    ),
+    (" retl\n add %o0,1,%o0", "main 0: 90022001 !\n"),
     // What stands in a call's slot stands before the call.
     (
         " save %sp,-96,%sp\n call f\n mov 1,%o0\n ret\n restore\nf:\n retl\n nop",
-        "rw 80000 320\nmain 64: 90102001 40000000 90100018 !\nf 0: .\n",
+        "main 64: 90102001 40000000 90100018 !\nf 0: .\n",
     ),
     // An annulled slot has a block of its own on the way on which it runs.
     (
         " cmp %o0,0\n be,a .L1\n mov 1,%o0\n mov 2,%o0\n.L1:\n retl\n nop",
-        "rw 80000 320\nmain 0: 80a22000 ?3,1 90102002 >2 ! 90102001 >2\n",
+        "main 0: 80a22000 ?3,1 90102002 >2 ! 90102001 >2\n",
     ),
     // A compare is repeated where a later block branches on it.
     (
         " cmp %o0,5\n be .L1\n nop\n bg .L1\n mov 3,%o1\n mov 4,%o1\n.L1:\n retl\n nop",
-        "rw 80000 320\nmain 0: 80a22005 ?3,1 80a22005 92102003 ?3,2 92102004 >3 !\n",
+        "main 0: 80a22005 ?3,1 80a22005 92102003 ?3,2 92102004 >3 !\n",
     ),
     // Behind a branch that asks for the sign alone, which a compare of the difference with 0 tells, one that asks for
     // the carry gets the whole compare.
     (
         " subcc %o0,%o1,%o2\n be .L1\n nop\n bneg .L1\n nop\n bcs .L1\n mov 3,%o3\n mov 4,%o3\n.L1:\n retl\n nop",
-        "rw 80000 320\nmain 0: 94a20009 ?4,1 80a2a000 ?4,2 80a20009 96102003 ?4,3 96102004 >4 !\n",
+        "main 0: 94a20009 ?4,1 80a2a000 ?4,2 80a20009 96102003 ?4,3 96102004 >4 !\n",
     ),
     // Plainer forms.
     (
         " tst %o0\n bl .L1\n nop\n add %o0,%o0,%o0\n.L1:\n retl\n nop",
-        "rw 80000 320\nmain 0: 80a22000 ?2,1 912a2001 >2 !\n",
+        "main 0: 80a22000 ?2,1 912a2001 >2 !\n",
     ),
     // A block that control doesn't come to is left out.
     (
         " b .L2\n nop\n mov 9,%o0\n.L2:\n retl\n nop",
-        "rw 80000 320\nmain 0: >1 !\n",
+        "main 0: >1 !\n",
     ),
     // Words that are only spilled stay in the frame.
     (
         " save %sp,-104,%sp\n std %i0,[%fp-8]\n ld [%fp-4],%i0\n ret\n restore",
-        "rw 80000 320\nmain 104: f023a060 f223a064 f003a064 90100018 !\n",
+        "main 104: f023a060 f223a064 f003a064 90100018 !\n",
     ),
     // Where an address in it is taken, the frame's memory lies in the data.
     (
@@ -61,7 +58,7 @@ static PROGRAMS: [(&str, &str); 12] = [
     // A loop that is entered at two places gets one entry: who comes by the other one goes through a copy.
     (
         " cmp %o0,0\n be .L2\n nop\n.L1:\n add %o1,1,%o1\n.L2:\n subcc %o0,1,%o0\n bne .L1\n nop\n retl\n nop",
-        "rw 80000 320\nmain 0: 80a22000 ?4,1 92026001 >2 90a22001 ?1,3 ! 90a22001 ?1,3\n",
+        "main 0: 80a22000 ?4,1 92026001 >2 90a22001 ?1,3 ! 90a22001 ?1,3\n",
     ),
     // Constants lie before what may be written, wherever they stand in the source.
     (
