@@ -7,6 +7,7 @@ READ = (
     ("crates/cmd_files/src/words.rt",
      "let mut words : Vec < String > = env :: args ( rt ) ? . collect ( rt . alloc ( ) ) ?", "d19430e7"),
     ("crates/engine_store/src/code.rt", "alloc , ready . len ( )", "7251597b"),
+    ("crates/engine_store/src/data.rt", "own . len ( ) + rest", "de780c87"),
     ("crates/engine_store/src/each.rt", "alloc , items . len ( )", "57686bb9"),
     ("crates/engine_store/src/frames.rt", "words , 0", "4ad1781c"),
     ("crates/flat_plain/src/frames.rt", "count as usize", "a1974dd5"),
