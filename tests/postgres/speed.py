@@ -11,7 +11,7 @@ HERE = os.path.dirname(os.path.abspath(__file__))
 # So many lines differ; the table repeats them.
 DISTINCT = 5000
 # How often each is measured: the least counts.
-ROUNDS = 3
+ROUNDS = 5
 SETTING = "SET max_parallel_workers_per_gather = 0; SET jit = off;\n"
 REGEX = """'"[^"]*" ([0-9]{3})'"""
 PERL_REGEX = r"""my ($status) = $_[0] =~ /"[^"]*" ([0-9]{3})/; return $status >= 500 ? 't' : 'f';"""
