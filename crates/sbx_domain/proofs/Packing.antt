@@ -1,14 +1,13 @@
 -- Terms in a form's array.
-use Rattle.std.proofs.Common.{◌≡◌, ℕ, zero, suc, ◌-◌, ◌^◌, ◌<◌, ◌≤◌, Bool, true, List, [], ◌∷◌, length, get_or, take, drop, map, replicate, refl, arith}
+use Rattle.std.proofs.Common.{◌≡◌, ℕ, zero, suc, ◌-◌, ◌^◌, ◌<◌, ◌≤◌, Bool, true, List, [], ◌∷◌, length, get_or, take, drop, replicate, refl, arith}
 use Rattle.std.specs.Prelude.{◌&&◌, nat_le, unsigned_abs}
 use Rattle.std.specs.List.{list_all}
 use Rattle.std.proofs.lemmas.Bool.Decides.{nat_tests}
 use Rattle.sbx_form.specs.declared.terms.FormTerm.{FormTerm}
 use Rattle.sbx_form.specs.Forms.{AreWithin}
 use Rattle.sbx_range.proofs.Words.{both_true}
-use Rattle.sbx_domain.specs.declared.lin.KeptTerm.{KeptTerm}
 use Rattle.sbx_domain.specs.Forms.{Form, is_kept, is_small}
-use Rattle.sbx_domain.specs.Packed.{blank, narrowed, no_term, widened}
+use Rattle.sbx_domain.specs.Packed.{blank, no_term}
 
 abbrev pub all_small : List FormTerm → Bool
 all_small ts = list_all (λ t. is_small (2 ^ 32) t.coefficient) ts
@@ -26,12 +25,12 @@ within_small [] h = tt
 within_small (t ∷ ts) h = (let both = both_true (is_small (2 ^ 32) t.coefficient) (all_small ts) h in (small_says _ _ both.0, within_small ts both.1))
 
 -- eight places
-abbrev pub row : List FormTerm → List KeptTerm
+abbrev pub row : List FormTerm → List FormTerm
 row ts =
-    narrowed (get_or ts 0 no_term) ∷ narrowed (get_or ts 1 no_term) ∷ narrowed (get_or ts 2 no_term) ∷ narrowed (get_or ts 3 no_term)
-    ∷ narrowed (get_or ts 4 no_term) ∷ narrowed (get_or ts 5 no_term) ∷ narrowed (get_or ts 6 no_term) ∷ narrowed (get_or ts 7 no_term) ∷ []
+    get_or ts 0 no_term ∷ get_or ts 1 no_term ∷ get_or ts 2 no_term ∷ get_or ts 3 no_term
+    ∷ get_or ts 4 no_term ∷ get_or ts 5 no_term ∷ get_or ts 6 no_term ∷ get_or ts 7 no_term ∷ []
 
-pub row_packs : (ts : List FormTerm) → length ts ≤ 8 → (map widened (take (length ts) (row ts)) ≡ ts) × (drop (length ts) (row ts) ≡ replicate (8 - length ts) blank)
+pub row_packs : (ts : List FormTerm) → length ts ≤ 8 → (take (length ts) (row ts) ≡ ts) × (drop (length ts) (row ts) ≡ replicate (8 - length ts) blank)
 row_packs [] h = (refl, refl)
 row_packs (a ∷ []) h = (refl, refl)
 row_packs (a ∷ b ∷ []) h = (refl, refl)

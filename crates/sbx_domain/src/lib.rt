@@ -14,6 +14,7 @@ mod relation;
 mod results;
 mod rows;
 mod state;
+mod term;
 mod words;
 
 pub use entry::Entry;

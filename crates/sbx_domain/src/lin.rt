@@ -1,5 +1,5 @@
 //! Linear forms as a state keeps them.
-ghost use Rattle.std.specs.Prelude.{◌≡◌, ℕ, ℤ, ◌≤◌, ◌^◌, ◌+◌, ◌-◌, ◌+ℤ◌, ◌*ℤ◌, true, Some, length, take, drop, map};
+ghost use Rattle.std.specs.Prelude.{◌≡◌, ℕ, ℤ, ◌≤◌, ◌^◌, ◌+◌, ◌-◌, ◌+ℤ◌, ◌*ℤ◌, true, Some, length, take, drop};
 ghost use Rattle.std.specs.Prelude.{replicate, unsigned_abs, slice_index_or};
 ghost use Rattle.std.specs.List.{list_all};
 ghost use Rattle.arrayvec.specs.ArrayVec.{array_vec_len};
@@ -7,18 +7,12 @@ ghost use Rattle.sbx_form.specs.declared.terms.FormTerm.{FormTerm};
 ghost use Rattle.sbx_form.specs.Forms.{AreWithin, AscendFrom};
 ghost use Rattle.sbx_domain.specs.Forms.{ascend_from, combined, constant_form, form_of_location, is_kept, is_small};
 ghost use Rattle.sbx_domain.specs.Forms.{kept};
-ghost use Rattle.sbx_domain.specs.Packed.{blank, narrowed, no_term, widened};
+ghost use Rattle.sbx_domain.specs.Packed.{blank, no_term};
 
+use crate::term::{BLANK, KeptTerm};
 use arrayvec::ArrayVec;
 use sbx_form::{FormTerm, add_terms};
 use std::marker::Model;
-
-/// A term as it is kept: its coefficient is small.
-#[derive(Clone, Copy)]
-struct KeptTerm {
-    location: u16,
-    coefficient: i64,
-}
 
 /// A constant plus at most eight terms, by location, over the numbers that a block's cells start with. No coefficient
 /// is above 2^32 in magnitude, and the constant isn't above 2^40. Locations ascend, so each stands once.
@@ -30,27 +24,22 @@ pub struct Lin {
     count: u8,
 }
 
-const BLANK: KeptTerm = KeptTerm {
-    location: 0,
-    coefficient: 0,
-};
-
 impl Model for Lin {
-    ghost use Rattle.std.specs.Prelude.{◌≡◌, ◌≤◌, ◌-◌, ◌++◌, true, Some, length, take, drop, map, replicate};
+    ghost use Rattle.std.specs.Prelude.{◌≡◌, ◌≤◌, ◌-◌, ◌++◌, true, Some, length, take, drop, replicate};
     ghost use Rattle.sbx_domain.specs.Forms.{Form, ascend_from, is_kept};
-    ghost use Rattle.sbx_domain.specs.Packed.{blank, count_back, narrowed, terms_back, widened};
+    ghost use Rattle.sbx_domain.specs.Packed.{blank, count_back, terms_back};
 
     ghost Value = { Form };
 
-    ghost view = { λ f. record { constant = f.constant; terms = map widened (take f.count f.terms) } };
+    ghost view = { λ f. record { constant = f.constant; terms = take f.count f.terms } };
 
     ghost invariant = { λ f. (f.count ≤ 8) × (f.count ≤ length f.terms) × (drop f.count f.terms ≡ replicate (8 - f.count) blank)
-        × (is_kept (record { constant = f.constant; terms = map widened (take f.count f.terms) }) ≡ true)
-        × (ascend_from 0 (map widened (take f.count f.terms)) ≡ true) };
+        × (is_kept (record { constant = f.constant; terms = take f.count f.terms }) ≡ true)
+        × (ascend_from 0 (take f.count f.terms) ≡ true) };
 
     ghost inverse = { λ v. record {
       constant = v.constant;
-      terms = map narrowed v.terms ++ replicate (8 - length v.terms) blank;
+      terms = v.terms ++ replicate (8 - length v.terms) blank;
       count = length v.terms;
     } };
 
@@ -62,33 +51,13 @@ impl Model for Lin {
     } };
 }
 
-/// The term as it is kept.
-fn narrowed(term: FormTerm) -> KeptTerm
-    requires { unsigned_abs term.coefficient ≤ 2 ^ 32 }
-    ensures { result ≡ narrowed term }
-{
-    KeptTerm {
-        location: term.location,
-        coefficient: term.coefficient as i64,
-    }
-}
-
-fn widened(term: KeptTerm) -> FormTerm
-    ensures { result ≡ widened term }
-{
-    FormTerm {
-        location: term.location,
-        coefficient: i128::from(term.coefficient),
-    }
-}
-
 /// The term at a place, as it is kept; blank past the end.
 fn kept_at(terms: &[FormTerm], place: usize) -> KeptTerm
     requires { list_all (λ t. is_small (2 ^ 32) t.coefficient) terms.now ≡ true }
-    ensures { result ≡ narrowed (slice_index_or terms.now place no_term) }
+    ensures { result ≡ slice_index_or terms.now place no_term }
 {
     if place < terms.len() {
-        narrowed(terms[place])
+        KeptTerm::of(terms[place])
     } else {
         BLANK
     }
@@ -99,7 +68,7 @@ fn packed(terms: &[FormTerm]) -> [KeptTerm; 8]
     requires few { length terms.now ≤ 8 }
     requires small { list_all (λ t. is_small (2 ^ 32) t.coefficient) terms.now ≡ true }
     ensures size { length result ≡ 8 }
-    ensures terms { map widened (take (length terms.now) result) ≡ terms.now }
+    ensures terms { take (length terms.now) result ≡ terms.now }
     ensures blanks { drop (length terms.now) result ≡ replicate (8 - length terms.now) blank }
 {
     [
@@ -146,11 +115,11 @@ fn kept(constant: i128, terms: &[FormTerm]) -> Option<Lin>
 /// The terms as they were before they were kept.
 fn unpacked<const N: usize>(kept: &[KeptTerm]) -> ArrayVec<FormTerm, N>
     requires { length kept.now ≤ N }
-    ensures { result.items ≡ map widened kept.now }
+    ensures { result.items ≡ kept.now }
 {
     let mut terms = ArrayVec::new();
     for term in kept {
-        terms.push(widened(*term));
+        terms.push(term.term());
     }
     terms
 }
@@ -209,10 +178,7 @@ impl Lin {
     pub(crate) fn of_location(location: u16) -> Lin
         ensures { result ≡ form_of_location location }
     {
-        let term = KeptTerm {
-            location,
-            coefficient: 1,
-        };
+        let term = KeptTerm::once(location);
         Lin {
             constant: 0,
             terms: [term, BLANK, BLANK, BLANK, BLANK, BLANK, BLANK, BLANK],

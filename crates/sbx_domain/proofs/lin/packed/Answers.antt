@@ -1,6 +1,5 @@
-use Rattle.std.proofs.Common.{◌≡◌, List, ◌∷◌, [], drop, length, map, take, ap, ◌∙◌}
-use Rattle.sbx_domain.specs.declared.lin.KeptTerm.{KeptTerm}
-use Rattle.sbx_domain.specs.Packed.{widened}
+use Rattle.std.proofs.Common.{◌≡◌, List, ◌∷◌, [], drop, length, take, ap, ◌∙◌}
+use Rattle.sbx_form.specs.declared.terms.FormTerm.{FormTerm}
 use Rattle.sbx_domain.proofs.Packing.{row, row_packs}
 use Rattle.sbx_domain.proofs.lin.packed.Goals as goal
 
@@ -9,7 +8,7 @@ is_row : (c : goal.After-kept_at-8)
 is_row c = cc (c.kept_at.ensures, c.kept_at-2.ensures, c.kept_at-3.ensures, c.kept_at-4.ensures, c.kept_at-5.ensures, c.kept_at-6.ensures, c.kept_at-7.ensures, c.kept_at-8.ensures)
 
 pub returns-clause-terms : goal.returns-clause-terms
-returns-clause-terms c = ap (λ (r : List KeptTerm). map widened (take (length c.args.terms.now) r)) (is_row c) ∙ (row_packs c.args.terms.now c.requires.few).0
+returns-clause-terms c = ap (λ (r : List FormTerm). take (length c.args.terms.now) r) (is_row c) ∙ (row_packs c.args.terms.now c.requires.few).0
 
 pub returns-clause-blanks : goal.returns-clause-blanks
-returns-clause-blanks c = ap (λ (r : List KeptTerm). drop (length c.args.terms.now) r) (is_row c) ∙ (row_packs c.args.terms.now c.requires.few).1
+returns-clause-blanks c = ap (λ (r : List FormTerm). drop (length c.args.terms.now) r) (is_row c) ∙ (row_packs c.args.terms.now c.requires.few).1
