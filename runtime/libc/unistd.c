@@ -71,5 +71,3 @@ off_t lseek(int number, off_t offset, int from) {
     errno = ESPIPE;
     return -1;
 }
-
-void _exit(int status) { _Exit(status); }

@@ -167,6 +167,8 @@ def try_ends(author):
     author.called(1, "abort was called", "trap.c", "--run", given=b"a")
     author.called(0, "accepted", "trap.c", "--run", given=b"b")
     author.called(1, "the exit word is 7 (00000007)", "seven.c", "--run")
+    author.puts(author.makes("accepted", "quick.c"), b"now")
+    author.called(1, "the exit word is 4 (00000004)", "quick.c", "--run")
     author.called(1, "within.c:9: a divisor is 0", "within.c", "--run", given=b"1 2")
     author.called(1, "within.c:9: a pointer leaves the program's data", "within.c", "--run", given=b"1 9999999")
     author.called(1, "compiled again more plainly, by -O0, since part: no place for a test", "dense.c", "--run",

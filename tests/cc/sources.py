@@ -44,6 +44,8 @@ int main(void) {
     "__attribute__((noinline)) static int part(int of, int at) { return of / list[at]; }\n"
     "int main(void) {\n    int at;\n    list = calloc(3, sizeof *list);\n    list[1] = 4;\n"
     '    while (scanf("%d", &at) == 1) printf("%d\\n", part(8, at));\n    return 0;\n}\n',
+    "quick.c": "#include <stdlib.h>\n#include <unistd.h>\nstatic void last(void) { write(1, \"never\", 5); }\n"
+    "int main(void) { atexit(last); write(1, \"now\", 3); _exit(4); }\n",
     "bare.c": "int main(void) {\n    return 7;\n}\n",
     "flip.c": '#include "plug.h"\nint main(void) {\n    for (int c; (c = get()) >= 0;) put(c ^ 32);\n'
     "    return 0;\n}\n",
