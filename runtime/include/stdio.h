@@ -60,6 +60,25 @@ void clearerr(FILE *);
 int fflush(FILE *);
 int setvbuf(FILE *, char *, int, size_t);
 void setbuf(FILE *, char *);
+void setlinebuf(FILE *);
+/* 0, 1 or 2. */
+int fileno(FILE *);
+
+/* There is one thread, so that nothing has a lock. */
+#define getchar_unlocked getchar
+#define getc_unlocked getc
+#define fgetc_unlocked fgetc
+#define fread_unlocked fread
+#define putchar_unlocked putchar
+#define putc_unlocked putc
+#define fputc_unlocked fputc
+#define fputs_unlocked fputs
+#define fwrite_unlocked fwrite
+#define feof_unlocked feof
+#define ferror_unlocked ferror
+#define fflush_unlocked fflush
+#define flockfile(stream) ((void)(stream))
+#define funlockfile(stream) ((void)(stream))
 
 #define __PRINTS(format, first) __attribute__((__format__(__printf__, format, first)))
 #define __READS(format, first) __attribute__((__format__(__scanf__, format, first)))
@@ -101,6 +120,8 @@ int rename(const char *, const char *) __FAILS("there are no files in a sandbox:
 int fseek(FILE *, long, int) __FAILS("the input is read once, from its begin: it fails");
 long ftell(FILE *) __FAILS("the input is read once, from its begin: it returns -1");
 void rewind(FILE *) __FAILS("the input is read once, from its begin: nothing is done");
+int fgetpos(FILE *, fpos_t *) __FAILS("the input is read once, from its begin: it fails");
+int fsetpos(FILE *, const fpos_t *) __FAILS("the input is read once, from its begin: it fails");
 int fclose(FILE *);
 void perror(const char *);
 

@@ -25,6 +25,10 @@ void *malloc(size_t) __attribute__((__malloc__));
 void *calloc(size_t, size_t) __attribute__((__malloc__));
 void *realloc(void *, size_t);
 void free(void *);
+void *reallocarray(void *, size_t, size_t);
+/* They take up to the alignment, a power of 2, in bytes beside the block. */
+void *aligned_alloc(size_t, size_t);
+int posix_memalign(void **, size_t, size_t);
 
 /* The exit word is the status; what atexit has been told of runs before, the last one first. A program that returns
    from main without a call of exit runs it only where its start calls exit(main()). */
@@ -61,6 +65,10 @@ long double strtold(const char *, char **);
 /* The standard's example of a generator, so that each seed gives the same numbers everywhere. */
 int rand(void);
 void srand(unsigned);
+int rand_r(unsigned *);
+/* Of POSIX, with 31 bits: three numbers of rand's. */
+long random(void);
+void srandom(unsigned);
 
 /* By heapsort: in place, n log n comparisons at worst, and elements that are equal in no order. */
 void qsort(void *, size_t, size_t, int (*)(const void *, const void *));

@@ -16,6 +16,8 @@ void bzero(void *, size_t);
 char *index(const char *, int);
 char *rindex(const char *, int);
 int ffs(int);
+int ffsl(long);
+int ffsll(long long);
 
 #ifdef __cplusplus
 }

@@ -43,6 +43,18 @@ long ftell(FILE *stream) {
     return -1;
 }
 
+int fgetpos(FILE *stream, fpos_t *place) {
+    (void)stream, (void)place;
+    errno = ESPIPE;
+    return -1;
+}
+
+int fsetpos(FILE *stream, const fpos_t *place) {
+    (void)stream, (void)place;
+    errno = ESPIPE;
+    return -1;
+}
+
 void rewind(FILE *stream) { (void)stream; }
 
 /* What is closed is neither read nor written any more. */

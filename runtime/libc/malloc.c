@@ -107,6 +107,31 @@ void *calloc(size_t count, size_t size) {
     return block;
 }
 
+/* A block lies right from its first unit on, or from a later one: the units before that are a free block. */
+void *aligned_alloc(size_t alignment, size_t size) {
+    if (alignment == 0 || (alignment & (alignment - 1)) != 0) {
+        errno = EINVAL;
+        return NULL;
+    }
+    if (alignment <= UNIT) return malloc(size);
+    int has_room = alignment <= GEYSERPAN_ARENA && size <= GEYSERPAN_ARENA;
+    char *block = malloc(has_room ? size + alignment : GEYSERPAN_ARENA + 1);
+    unsigned before = (unsigned)(-(uintptr_t)block & (alignment - 1)) / UNIT;
+    if (!block || before == 0) return block;
+    unsigned unit = unit_of(block), has = size_at(unit);
+    set(unit, before, 0);
+    set(unit + before, has - before, USED);
+    return block + before * UNIT;
+}
+
+int posix_memalign(void **to, size_t alignment, size_t size) {
+    if (alignment % sizeof(void *) != 0 || alignment == 0 || (alignment & (alignment - 1)) != 0) return EINVAL;
+    void *block = aligned_alloc(alignment, size);
+    if (!block) return ENOMEM;
+    *to = block;
+    return 0;
+}
+
 /* The units of a block in use and of the free ones behind it, which become a part of it. */
 static unsigned grown(unsigned unit) {
     unsigned size = size_at(unit);
@@ -135,4 +160,12 @@ void *realloc(void *block, size_t size) {
     memcpy(other, block, has * UNIT - HEAD);
     free(block);
     return other;
+}
+
+void *reallocarray(void *block, size_t count, size_t size) {
+    if (size != 0 && count > (size_t)-1 / size) {
+        errno = ENOMEM;
+        return NULL;
+    }
+    return realloc(block, count * size);
 }

@@ -84,3 +84,13 @@ int setvbuf(FILE *stream, char *buffer, int mode, size_t size) {
 }
 
 void setbuf(FILE *stream, char *buffer) { (void)stream, (void)buffer; }
+void setlinebuf(FILE *stream) { (void)stream; }
+
+int fileno(FILE *stream) {
+    switch (stream->kind) {
+    case INPUT: return 0;
+    case OUTPUT: return 1;
+    case NOWHERE: return 2;
+    default: errno = EBADF; return -1;
+    }
+}

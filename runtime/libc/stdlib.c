@@ -25,9 +25,18 @@ static unsigned state = 1;
 
 void srand(unsigned seed) { state = seed; }
 
-int rand(void) {
-    state = state * 1103515245 + 12345;
-    return (int)(state >> 16 & RAND_MAX);
+int rand_r(unsigned *seed) {
+    *seed = *seed * 1103515245 + 12345;
+    return (int)(*seed >> 16 & RAND_MAX);
+}
+
+int rand(void) { return rand_r(&state); }
+
+void srandom(unsigned seed) { srand(seed); }
+
+long random(void) {
+    long high = rand(), middle = rand();
+    return high << 16 | middle << 1 | (rand() & 1);
 }
 
 char *getenv(const char *name) {

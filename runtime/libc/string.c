@@ -208,3 +208,5 @@ void bzero(void *to, size_t size) { memset(to, 0, size); }
 char *index(const char *text, int c) { return strchr(text, c); }
 char *rindex(const char *text, int c) { return strrchr(text, c); }
 int ffs(int word) { return word == 0 ? 0 : __builtin_ctz((unsigned)word) + 1; }
+int ffsl(long word) { return word == 0 ? 0 : __builtin_ctzl((unsigned long)word) + 1; }
+int ffsll(long long word) { return word == 0 ? 0 : __builtin_ctzll((unsigned long long)word) + 1; }

@@ -115,6 +115,27 @@ static void coalesce(void) {
     gp_free(zeros);
 }
 
+/* Blocks at multiples of up to 256 bytes; what lies before them is free again. */
+static void align(void) {
+    free_all();
+    for (int i = 0; i < 6; i++) {
+        size_t size = below(200), alignment = (size_t)8 << below(6);
+        void *block;
+        int failed = below(2) ? gp_posix_memalign(&block, alignment, size)
+                              : (block = gp_aligned_alloc(alignment, size)) == NULL;
+        SAME(failed, 0);
+        SAME((uintptr_t)block % alignment, 0);
+        mark(i, block, size);
+    }
+    free_all();
+    SAME(gp_aligned_alloc(24, 8) == NULL, 1);
+    SAME(gp_aligned_alloc(ARENA, 8) == NULL, 1);
+    SAME(gp_reallocarray(NULL, (size_t)-1 / 4, 8) == NULL, 1);
+    void *all = gp_reallocarray(NULL, ARENA / 8 - 2, 8);
+    SAME(all == NULL, 0);
+    gp_free(all);
+}
+
 #ifndef OURS
 static void *bad;
 static void free_bad(void) { gp_free(bad); }
@@ -188,6 +209,7 @@ const struct test memory_tests[] = {
     {"qsort,bsearch", sort, CASES / 2},
     {"malloc at random", heap, CASES * 20L},
     {"malloc, full", coalesce, CASES / 100},
+    {"aligned_alloc", align, CASES / 10},
 #ifndef OURS
 #ifndef THEIRS
     {"abort,exit,assert", ends, 1},

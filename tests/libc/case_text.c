@@ -208,6 +208,8 @@ static void errors(void) {
     int word = (int)some_bits(63);
     word &= (int)random_bits();
     SAME(gp_ffs(word), ffs(word));
+    SAME(gp_ffsl(word), ffs(word));
+    SAME(gp_ffsll((long long)word * 1048576), word ? ffs(word) + 20 : 0);
 }
 
 const struct test text_tests[] = {

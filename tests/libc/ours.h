@@ -26,7 +26,7 @@ char *gp_strstr(const char *, const char *), *gp_strpbrk(const char *, const cha
 size_t gp_strspn(const char *, const char *), gp_strcspn(const char *, const char *);
 char *gp_strsep(char **, const char *), *gp_strtok_r(char *, const char *, char **), *gp_strtok(char *, const char *);
 char *gp_strdup(const char *), *gp_strndup(const char *, size_t), *gp_strerror(int);
-int gp_ffs(int);
+int gp_ffs(int), gp_ffsl(long), gp_ffsll(long long);
 
 extern int gp_errno;
 int gp_abs(int), gp_atoi(const char *), gp_rand(void);
@@ -40,6 +40,8 @@ void gp_srand(unsigned);
 void gp_qsort(void *, size_t, size_t, int (*)(const void *, const void *));
 void *gp_bsearch(const void *, const void *, size_t, size_t, int (*)(const void *, const void *));
 void *gp_malloc(size_t), *gp_calloc(size_t, size_t), *gp_realloc(void *, size_t), gp_free(void *);
+void *gp_aligned_alloc(size_t, size_t), *gp_reallocarray(void *, size_t, size_t);
+int gp_posix_memalign(void **, size_t, size_t);
 void gp_abort(void), gp_exit(int);
 int gp_atexit(void (*)(void));
 char *gp_getenv(const char *);
