@@ -40,6 +40,15 @@ REFUSED = {
     "wrong.c": ("int main(void) { return x; }\n", "wrong.c:1:25: error: ‘x’ undeclared"),
 }
 
+# The same by clang.
+REFUSED_CLANG = {
+    "product.c": ("#include <stdio.h>\nint main(void) {\n    long long a, b;\n"
+                  "    if (scanf(\"%lld%lld\", &a, &b) != 2) return 1;\n"
+                  "    return __builtin_mul_overflow(a, b, &a);\n}\n",
+                  "product.c:5: refused: __multi3 isn't defined: clang calls it for a product of 64 bits with a test of "
+                  "overflow: compare before the product, or compile by gcc"),
+}
+
 # The same of C++.
 REFUSED_PLUS = {
     "stream.cc": ("#include <iostream>\nint main() { std::cout << 1; }\n",

@@ -14,7 +14,7 @@ import tempfile
 
 sys.dont_write_bytecode = True
 sys.path.insert(0, f"{os.path.dirname(os.path.dirname(os.path.abspath(__file__)))}/lib")
-from refusals import REFUSED, REFUSED_PLUS, WORDS
+from refusals import REFUSED, REFUSED_CLANG, REFUSED_PLUS, WORDS
 from run import CC, EXAMPLES, INSPECT, SANDBOX, TOP, built, has, put, run, text_of
 from sources import SOURCES, THREE
 from tally import Tally, Words
@@ -154,6 +154,9 @@ def try_refusals(author):
         put(author.at(name), text)
         for part in told.split("\n"):
             author.called(2, part, name, "-std=gnu++20" if name.endswith(".cc") else "-std=gnu11", "-o", "refused.img")
+    for name, (text, told) in (REFUSED_CLANG if has("clang") else {}).items():
+        put(author.at(name), text)
+        author.called(2, told, name, "-o", "refused.img", env={**os.environ, "CC_SPARC": "clang"})
     author.has_none("refused.img")
 
 

@@ -21,6 +21,8 @@ ADVICE = (
      "bytes and so may take twice as many"),
     (r"the blocks of [a-z ]+ would be", "compile by -Os, or write __attribute__((noinline)) before functions"),
     (r"words of code|would be \d+, above 65536", "compile by -Os"),
+    (r"__multi3 isn't defined", "clang calls it for a product of 64 bits with a test of overflow: compare before the "
+     "product, or compile by gcc"),
     (r"isn't defined", "it is neither in the sources that are named nor in the library: name its source"),
     (r"there is no function main", "one of the sources has to have it"),
     (r"the instruction iflush", "a pointer to a function that stands in another one isn't taken: write it outside of "
