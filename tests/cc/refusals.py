@@ -5,6 +5,8 @@ REFUSED = {
     "hours.c": ("#include <time.h>\nint main(void) { return 0; }\n",
                 "hours.c:1:\n<time.h> is not here: a program of a sandbox has no clock; pass what it needs in its "
                 "input"),
+    "moment.c": ("#include <sys/time.h>\nint main(void) { return 0; }\n",
+                 "moment.c:1:\n<sys/time.h> is not here: a program of a sandbox has no clock"),
     "threads.c": ("#include <pthread.h>\nint main(void) { return 0; }\n",
                   "<pthread.h> is not here: a program of a sandbox is one thread"),
     "child.c": ("#include <unistd.h>\nint main(void) { return fork(); }\n",

@@ -38,7 +38,8 @@ AS_CC = ["-mno-app-regs", "-ffixed-o7", "-fno-delayed-branch", "-fno-jump-tables
          "-fno-common", "-fno-ipa-icf", "-fno-ipa-ra", "-fno-stack-protector"]
 # A block of 4,096 bytes is full soon.
 SMALL_ARENA = "-DGEYSERPAN_ARENA=4096"
-REFUSED = ("time fenv complex tgmath threads pthread stdatomic wchar wctype uchar").split()
+REFUSED = ("time fenv complex tgmath threads pthread stdatomic wchar wctype uchar dirent sys/socket sys/stat sys/time "
+           "sys/wait").split()
 
 MOST_WORDS = 1500
 MOST_INSTRUCTIONS = 600
@@ -226,8 +227,8 @@ def run_headers(work, cases, seed):
                  [SPARC[0], "-m32", "-mcpu=v8", "-msoft-float", "-std=gnu11", "-O2"],
                  ["clang", "--target=sparc-linux-gnu", "-msoft-float", "-std=gnu11", "-O2"]]
     here = [compiler for compiler in compilers if shutil.which(compiler[0])]
-    paths = [path for path in sorted(HEADERS.rglob("*.h")) if path.stem not in [*REFUSED, "whole"]]
-    names = [str(path.relative_to(HEADERS)) for path in paths]
+    names = sorted(str(path.relative_to(HEADERS)) for path in HEADERS.rglob("*.h"))
+    names = [name for name in names if name.removesuffix(".h") not in [*REFUSED, "bits/whole"]]
     common = ["-ffreestanding", "-nostdinc", "-isystem", HEADERS, "-Wall", "-Wextra", "-Werror", "-Wsystem-headers",
               "-Wno-unused-function", "-fsyntax-only"]
     count = 0
