@@ -55,6 +55,9 @@ KEPT = """memcpy memmove memset memcmp memchr mempcpy strlen strcpy stpcpy strca
     fputc fputs fwrite calloc abort exit""".split()
 # What gcc calls as its very last pass for a whole number of a double, (int)floor(x), though nothing called it before.
 LATE = re.compile(r"^\s*call\s+(floorf?|ceilf?)\b", re.M)
+# Where the linker is as it tells of a name that is defined twice, and the name.
+IN_OBJECT = re.compile(r"(\S+?)\)?(?: \(symbol from plugin\))?: in function ")
+TWICE = re.compile(r"multiple definition of `([^']+)'")
 # What clang calls of mathematics in the place of its own operations.
 KEPT_MATH = """fabs floor ceil trunc rint nearbyint round sqrt copysign fmin fmax fmod fabsf floorf ceilf truncf rintf
     nearbyintf roundf sqrtf copysignf fminf fmaxf fmodf""".split()
@@ -238,6 +241,7 @@ class Gcc(Compiler):
         own = f"{runtime.work}/library.a"
         if archive != own:
             os.symlink(archive, own)
+        self.runtime = runtime
         return [own]
 
     def whole(self, objects, library, work):
@@ -260,6 +264,8 @@ class Gcc(Compiler):
         words = [path, *level, *self.target, *self.telling, *WHOLE, *kept, "-Wl,-Map=whole.map", "-o", "whole",
                  *objects, *library]
         ran, is_long = limited(words, cwd=work)
+        if ran.returncode and self.gave_way(ran.stderr, work):
+            ran, is_long = limited(words, cwd=work)
         made = sorted(it for it in os.listdir(work) if it.startswith("whole.lto.o") and it.endswith(".s"))
         if is_long:
             raise Fault(2, f"{self.request.name}: the compiler took more than {SECONDS} seconds for all files at once: "
@@ -269,6 +275,29 @@ class Gcc(Compiler):
             raise Fault(2, self.told, *wrong or [self.named(ran.stderr, objects, work).strip()])
         self.told += self.named(ran.stderr, objects, work)
         os.rename(f"{work}/{made[0]}", f"{work}/program.s")
+
+    def gave_way(self, told, work):
+        """Whether the library gave way to a program that has names of its own: a source of the library has several
+        functions, and comes with all of them where one is wanted. Where the linker tells of such names alone, those of
+        these sources are compiled anew, with other names in their place, in the archive of this call."""
+        ours, doubles, place = {f"{self.runtime.name_of(it)}.o": it for it in self.runtime.sources()}, {}, None
+        for line in told.splitlines():
+            found, name = IN_OBJECT.search(line), TWICE.search(line)
+            place = os.path.basename(found[1]).rpartition("(")[2] if found else place
+            if name:
+                doubles.setdefault(place, []).append(name[1])
+        if not doubles or not doubles.keys() <= ours.keys():
+            return False
+        own, room = f"{self.runtime.work}/library.a", f"{work}/renamed"
+        os.makedirs(room, exist_ok=True)
+        for name, doubled in doubles.items():
+            with open(f"{room}/names.h", "w", encoding="ascii") as file:
+                file.writelines(f"#pragma redefine_extname {it} __library_{it}\n" for it in doubled)
+            self.runtime.make(ours[name], f"{room}/{name}", [*self.kind, "-include", f"{room}/names.h"])
+        shutil.copyfile(own, f"{room}/library.a")
+        subprocess.run([self.archiver, "rs", f"{room}/library.a", *(f"{room}/{it}" for it in doubles)], check=True)
+        os.replace(f"{room}/library.a", own)
+        return True
 
     def taken(self, work):
         """Those of the library's files that were compiled once and for all, as the linker's map tells."""
