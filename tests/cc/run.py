@@ -19,6 +19,9 @@ from run import CC, EXAMPLES, INSPECT, SANDBOX, TOP, built, has, put, run, text_
 from sources import SOURCES, THREE
 from tally import Tally, Words
 
+sys.path.append(f"{TOP}/tools/cc")
+from assembly import with_codes_apart
+
 HERE = os.path.dirname(os.path.abspath(__file__))
 PLUS = f"{TOP}/c++"
 
@@ -44,6 +47,40 @@ told=$(TOP/sandbox asm "$source" "$image" 2>&1 && TOP/sandbox verify "$image" 2>
 rm "$image"
 echo "fit: $image: what was made isn't accepted: $told" >&2
 exit 6
+"""
+# What gcc writes where a function that never returns is called, and what a branch leads to lies behind that.
+FOR_GOOD = """\t.text
+\t.type stop, #function
+stop:
+\tmov\t3, %o0
+\tta\t0
+\t.size stop, .-stop
+\t.global main
+\t.type main, #function
+main:
+\tsave\t%sp, -96, %sp
+\tta\t1
+\tcmp\t%o0, 65
+\tbe\t.L1
+\t nop
+\tcmp\t%o0, 70
+\tbne\t.L2
+\t nop
+\tmov\t1, %i0
+\tret
+\trestore
+.L1:
+\tcall\tstop, 0
+\t nop
+.L2:
+\tmov\t2, %i0
+\tbleu\t.L3
+\t nop
+\tmov\t0, %i0
+.L3:
+\tret
+\trestore
+\t.size main, .-main
 """
 TOO_MUCH = r"""#!/bin/sh
 TOP/fit "$@" || exit
@@ -292,6 +329,17 @@ def try_jumps(author):
                        f"wanted that nothing is told of another level, came {ran.said}")
 
 
+def try_codes(author):
+    """Codes that are read where a test lies behind what sets them, or a call that never returns."""
+    ran = run([CC, "-w", f"{HERE}/programs/turnstile.c", "-o", author.at("turnstile.img")])
+    author.tally.check("turnstile.c at its own level", ran.status == 0 and "again" not in ran.said,
+                       f"wanted that nothing is told of another level, came {ran.said}")
+    put(author.at("forgood.s"), with_codes_apart(FOR_GOOD))
+    author.called(0, "accepted", "forgood.s", "-o", "forgood.img")
+    for given, status in (b"A", 1), (b"B", 1), (b"F", 1), (b"G", 0):
+        author.tally.same(f"forgood.s on {given}", run([SANDBOX, "run", author.at("forgood.img")], given).status, status)
+
+
 def seconds_of_processor():
     """What all commands that were called so far took."""
     taken = resource.getrusage(resource.RUSAGE_CHILDREN)
@@ -329,8 +377,8 @@ def try_builds(author):
 
 
 PARTS = {"page": try_page, "sources": try_sources, "refusals": try_refusals, "ends": try_ends, "options": try_options,
-         "data": try_data, "fault": try_fault_of_fit, "jumps": try_jumps, "time": try_time, "builds": try_builds,
-         "programs": try_programs}
+         "data": try_data, "fault": try_fault_of_fit, "jumps": try_jumps, "codes": try_codes, "time": try_time,
+         "builds": try_builds, "programs": try_programs}
 
 
 def main(words):

@@ -43,8 +43,15 @@ WRAPPED = ("/runtime/include/bits/whole.h", "/runtime/plug.h")
 DIVISION = re.compile(r"""(?:\tsra\t(%\w\d), 31, (%\w\d)\n)?\twr\t(%\w\d), 0, %y
 \tld\t(\[[^\]\n]*\]), (%\w\d)\n\tnop\n\tnop
 \t([us]div(?:cc)?\t(%\w\d), (%\w\d), (%\w\d))\n""")
+# A division whose codes are read.
+CODES_OF_DIVISION = re.compile(r"\t([us]div)cc(\t%\w\d, \S+, (%(?!g0)\w\d))\n")
+# A call, with codes that are read behind it before any are set: so it is of a function that never returns.
+CALL_FOR_GOOD = re.compile(r"(\tcall\t[^%\n]*\n\t ?nop\n)(?=(?:\s*\.loc .*\n|\.L\w+:\n"
+                           r"|\t(?!\w*cc\t|addx\t|subx\t|b|c|j|re|save|t|wr)[a-z].*\n)+"
+                           r"\t(?:b(?:n?[ez]|gu?|leu?|geu?|lu?|cc|cs|pos|neg|vc|vs)|(?:add|sub)x(?:cc)?)\t)")
 # The variables of exit.c of which one is there only where something calls atexit.
 AT_EXIT = re.compile(r"^(?:\s*\.(?:local|comm)\s+)?__exit_(?:functions|told)\b(?!\.\d)", re.M)
+ABORTED = "\tsethi\t%hi(393216), %o0\n\tta\t0\n"
 START = """
 	.section	".text"
 	.align 4
@@ -180,7 +187,7 @@ def without_traps(assembly):
     found = [(at, TRAP.match(line)) for at, line in enumerate(lines) if "5" in line and line.lstrip()[:1] == "t"]
     found = [(at, trap[1]) for at, trap in found if trap]
     for at, condition in found:
-        ended = "\tsethi %hi(393216), %o0\n\tta 0"
+        ended = ABORTED.rstrip("\n")
         if condition != "a":
             ended = f"\tb{OTHERWISE[condition]} .Ltrap{at}\n\tnop\n{ended}\n.Ltrap{at}:"
         lines[at] = ended
@@ -226,6 +233,13 @@ def with_divisor_first(found):
     if sign == high == divisor and of == dividend and quotient not in (dividend, divisor, "%g0"):
         return f"{load}\tsra\t{dividend}, 31, {quotient}\n\twr\t{quotient}, 0, %y\n{nops}\t{division}\n"
     return found[0]
+
+
+def with_codes_apart(text):
+    """Has codes be set right before they are read, where fit wants that: a quotient's by a comparison, since a test of
+    the divisor sets others before it; and has a run end behind a call that never returns, where code lies that is come
+    to by jumps alone."""
+    return CALL_FOR_GOOD.sub(rf"\g<1>{ABORTED}", CODES_OF_DIVISION.sub(r"\t\1\2\n\tcmp\t\3, 0\n", text))
 
 
 def without_lists(text):
@@ -287,7 +301,7 @@ def calls_main(text):
 
 def started(text, has_parameters):
     """Puts a start before main where something runs before it or behind it, where it has parameters, or is called."""
-    text = with_labels_looked_up(DIVISION.sub(with_divisor_first, text))
+    text = with_codes_apart(with_labels_looked_up(DIVISION.sub(with_divisor_first, text)))
     text, before = without_lists(without_frame_sums(without_aliases(without_options(text))))
     is_told = "__exit_" in text and AT_EXIT.search(text) is not None
     if not (before or is_told or has_parameters or calls_main(text)):
