@@ -49,6 +49,8 @@ CODES_OF_DIVISION = re.compile(r"\t([us]div)cc(\t%\w\d, \S+, (%(?!g0)\w\d))\n")
 CALL_FOR_GOOD = re.compile(r"(\tcall\t[^%\n]*\n\t ?nop\n)(?=(?:\s*\.loc .*\n|\.L\w+:\n"
                            r"|\t(?!\w*cc\t|addx\t|subx\t|b|c|j|re|save|t|wr)[a-z].*\n)+"
                            r"\t(?:b(?:n?[ez]|gu?|leu?|geu?|lu?|cc|cs|pos|neg|vc|vs)|(?:add|sub)x(?:cc)?)\t)")
+# What orders accesses between threads, which clang has for any.
+BARRIER = re.compile(r"^\s*stbar\b.*\n", re.M)
 # The variables of exit.c of which one is there only where something calls atexit.
 AT_EXIT = re.compile(r"^(?:\s*\.(?:local|comm)\s+)?__exit_(?:functions|told)\b(?!\.\d)", re.M)
 ABORTED = "\tsethi\t%hi(393216), %o0\n\tta\t0\n"
@@ -201,7 +203,8 @@ def destructor_of(text):
 
 
 def without_options(text):
-    """Takes out what clang leaves for a linker."""
+    """Takes out what clang leaves for a linker, and what orders accesses."""
+    text = BARRIER.sub("", text) if "stbar" in text else text
     if ".linker-options" not in text:
         return text
     kept, inside = [], False

@@ -19,8 +19,8 @@ SECONDS = 60
 # calls, no second name for a function that is like another one, no registers of the floating-point unit. %g5 to %g7 are
 # left to the tests, %o7 to the calls, %g2 to %g4 to the stack of functions that call themselves, and to the meter.
 # What C leaves open and programs rely on is as most compilers had it for long: sums that wrap, pointers of other types
-# to one place, a null pointer that is read where it is read.
-PLAIN = """-g1 -m32 -mcpu=v8 -msoft-float -mlong-double-64 -mno-app-regs -ffixed-o7 -fno-delayed-branch -fno-pic
+# to one place, a null pointer that is read where it is read. One thread needs no order of its accesses.
+PLAIN = """-g1 -m32 -mcpu=v8 -mmemory-model=sc -msoft-float -mlong-double-64 -mno-app-regs -ffixed-o7 -fno-delayed-branch -fno-pic
     -fno-pie -fno-jump-tables -fno-optimize-sibling-calls -fno-asynchronous-unwind-tables -fno-stack-protector
     -fno-common -fno-ipa-icf -fno-ipa-ra -fno-strict-aliasing -fwrapv -fno-isolate-erroneous-paths-dereference
     -Wreturn-type""".split()

@@ -116,7 +116,7 @@ class Build:
                         "atexit of the function")
         self.refuse_distances(text)
         assembly = Assembly(started(text, self.has_parameters))
-        helpers = [*self.compiler.taken(self.work), *runtime.helpers()]
+        helpers = [*self.compiler.taken(self.work), *runtime.helpers(text)]
         self.teller = Teller(self.request, assembly, helpers, self.work)
         assembly, traps = without_traps(assembly)
         say(*(self.trap(it) for it in traps), self.has_parameters, self.use_of_errors())

@@ -1,4 +1,5 @@
 """The library of runtime/, made once for each compiler, and kept."""
+import contextlib
 import glob
 import hashlib
 import os
@@ -46,7 +47,8 @@ class Runtime:
         flags = [*WORDS, f"-DGEYSERPAN_ARENA={self.request.arena}"]
         ran = self.compiler.called(source, self.compiler.size_level, flags, *words, "-o", draft)
         if ran.returncode:
-            os.unlink(draft)
+            with contextlib.suppress(FileNotFoundError):  # (clang itself takes away what it couldn't finish)
+                os.unlink(draft)
             raise Fault(125, f"{self.request.name}: {source} can't be compiled: {ran.stderr}")
         settle(draft, path)
 
@@ -76,7 +78,10 @@ class Runtime:
         apart = [f"{TOP}/runtime/libc/{it}.c" for it in self.compiler.apart]
         return apart if is_apart else [it for it in [*glob.glob(f"{TOP}/runtime/libc/*.c"), *plus] if it not in apart]
 
-    def helpers(self):
-        """What a compiler calls of itself: arithmetic of 64 bits and of floating point; and what no C can say."""
+    def helpers(self, text):
+        """What a compiler calls of itself in an assembly: arithmetic of 64 bits and of floating point; what counts
+        references and the like, where it is called; and what no C can say."""
         sources = [*glob.glob(f"{TOP}/runtime/soft/*.c"), f"{TOP}/runtime/integer.c", f"{TOP}/runtime/plug.c"]
+        if "__atomic_" in text or "__sync_" in text:
+            sources.append(f"{TOP}/runtime/atomic.c")
         return [*self.all(sources, ".s", "-S"), f"{TOP}/runtime/jumps.s"]
