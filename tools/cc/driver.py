@@ -32,7 +32,7 @@ LIMITS = "a program has at most 4096 blocks, 65536 words and 256 functions"
 USAGE = f"{TOP}/tools/cc/usage"
 MAIN = re.compile(r"^[\w\s*]*?\bmain\s*\(([^)]*)\)", re.M)
 # What names what is dropped.
-USE_OF_ERRORS = re.compile(r"\b(?:stderr|perror)\b")
+USE_OF_ERRORS = re.compile(r"\b(?:stderr|perror)\b|<err\.h>")
 # What was told.
 SAID = set()
 # Comments and strings of C.
@@ -71,7 +71,7 @@ class Build:
         return None
 
     def use_of_errors(self):
-        """Where stderr or perror is named first, and what becomes of it; None where none is."""
+        """Where stderr, perror or err.h is named first, and what becomes of it; None where none is."""
         for path, text in self.texts():
             found = USE_OF_ERRORS.search(text)
             if found:
