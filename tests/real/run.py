@@ -132,6 +132,8 @@ class Trial:
             flags += ["-I", self.table()]
         if self.unit.package == "snowball":
             flags += ["-I", self.generated()]
+        if self.unit.package == "msgpack-c":
+            flags += ["-I", self.filled(), "-I", f"{self.work}/msgpack"]
         place = self.sources.of(self.unit.package)
         files = [f"{HERE}/units/{self.unit.name}.c"]
         files += [f"{self.work}/{it}" if it.startswith("gen/") else f"{place}/{it}" for it in self.unit.files]
@@ -157,6 +159,18 @@ class Trial:
         subprocess.run(words, check=True)
         return self.work
 
+    def filled(self):
+        """msgpack's headers in which the order of bytes is filled in, as its CMake does it."""
+        place = self.sources.of("msgpack-c")
+        for name in "sysdep.h", "pack_template.h":
+            text = text_of(f"{place}/cmake/{name}.in")
+            for order in "BIG", "LITTLE":
+                is_so = f"(__BYTE_ORDER__ == __ORDER_{order}_ENDIAN__)"
+                text = text.replace(f"@MSGPACK_ENDIAN_{order}_BYTE@", is_so)
+            os.makedirs(f"{self.work}/msgpack", exist_ok=True)
+            put(f"{self.work}/msgpack/{name}", text)
+        return self.work
+
     def image(self, flags, files):
         """Makes the image; returns its path, or why there is none."""
         image = f"{self.work}/{self.unit.name}.img"
@@ -172,7 +186,7 @@ class Trial:
         library = [it for folder in ("libc", "soft", ".") for it in glob.glob(f"{TOP}/runtime/{folder}/*.c")]
         words = [GCC, *ORACLE, "-isystem", f"{TOP}/runtime/include", "-I", f"{HERE}/qemu", "-I", f"{TOP}/runtime",
                  f"-DGEYSERPAN_ARENA={self.unit.arena}", *flags, *files, f"{HERE}/qemu/start.c", *library,
-                 "-Wl,--unresolved-symbols=ignore-all", "-o", program]
+                 "-Wl,--unresolved-symbols=ignore-all,--allow-multiple-definition", "-o", program]
         ran = run(words, seconds=300)
         if ran.status:
             raise SystemExit(f"{self.unit.name}: the program for qemu can't be made: {ran.said[:2000]}")

@@ -1,0 +1,1 @@
+/* jansson's configuration: no header but the standard ones is asked for. */
