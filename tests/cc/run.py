@@ -337,7 +337,8 @@ def try_codes(author):
     put(author.at("forgood.s"), with_codes_apart(FOR_GOOD))
     author.called(0, "accepted", "forgood.s", "-o", "forgood.img")
     for given, status in (b"A", 1), (b"B", 1), (b"F", 1), (b"G", 0):
-        author.tally.same(f"forgood.s on {given}", run([SANDBOX, "run", author.at("forgood.img")], given).status, status)
+        came = run([SANDBOX, "run", author.at("forgood.img")], given)
+        author.tally.same(f"forgood.s on {given}", came.status, status)
 
 
 def seconds_of_processor():

@@ -20,10 +20,10 @@ SECONDS = 60
 # left to the tests, %o7 to the calls, %g2 to %g4 to the stack of functions that call themselves, and to the meter.
 # What C leaves open and programs rely on is as most compilers had it for long: sums that wrap, pointers of other types
 # to one place, a null pointer that is read where it is read. One thread needs no order of its accesses.
-PLAIN = """-g1 -m32 -mcpu=v8 -mmemory-model=sc -msoft-float -mlong-double-64 -mno-app-regs -ffixed-o7 -fno-delayed-branch -fno-pic
-    -fno-pie -fno-jump-tables -fno-optimize-sibling-calls -fno-asynchronous-unwind-tables -fno-stack-protector
-    -fno-common -fno-ipa-icf -fno-ipa-ra -fno-strict-aliasing -fwrapv -fno-isolate-erroneous-paths-dereference
-    -Wreturn-type""".split()
+PLAIN = """-g1 -m32 -mcpu=v8 -mmemory-model=sc -msoft-float -mlong-double-64 -mno-app-regs -ffixed-o7
+    -fno-delayed-branch -fno-pic -fno-pie -fno-jump-tables -fno-optimize-sibling-calls
+    -fno-asynchronous-unwind-tables -fno-stack-protector -fno-common -fno-ipa-icf -fno-ipa-ra -fno-strict-aliasing
+    -fwrapv -fno-isolate-erroneous-paths-dereference -Wreturn-type""".split()
 # These keep an index in a register that counts from an object, so that fewer tests are needed; small functions become
 # parts of their callers also where these are cold, since a call costs more than it does elsewhere.
 SHAPED = """-fno-tree-loop-distribute-patterns -fno-ivopts -fno-schedule-insns -fno-schedule-insns2
