@@ -1,5 +1,5 @@
-/* What sources that may run beside themselves do to count, to hand over and to lock: builtins of __atomic and __sync, of
-   each size. */
+/* What sources that may run beside themselves do to count, to hand over and to lock: builtins of __atomic and of
+   __sync, of each size. */
 #include <stdbool.h>
 #include <stdint.h>
 #include <stdio.h>
