@@ -5,6 +5,8 @@ typedef unsigned long long u64;
 typedef long long s64;
 typedef unsigned int u32;
 
+int __clzsi2(u32 x);
+
 void *memcpy(void *to, const void *from, size_t n) {
     for (size_t i = 0; i < n; i++) ((char *)to)[i] = ((const char *)from)[i];
     return to;
@@ -52,46 +54,59 @@ s64 __ashrdi3(s64 x, int n) {
     return n ? (s64)joined((u32)(top >> n), low((u64)x) >> n | (u32)top << (32 - n)) : x;
 }
 
-u64 __muldi3(u64 a, u64 b) { return (u64)low(a) * low(b) + joined(low(a) * high(b) + high(a) * low(b), 0); }
+static u64 product(u32 a, u64 b) { return (u64)a * low(b) + joined(a * high(b), 0); }
 
-/* The quotient, bit by bit, and what is left. */
-static u64 divided(u64 n, u64 by, u64 *rest) {
-    u64 quotient = 0, left = 0;
-    for (int i = 0; i < 64; i++) {
-        u32 carry = high(left) >> 31;
-        left = left << 1 | high(n) >> 31;
-        n <<= 1;
-        quotient <<= 1;
-        if (carry || left >= by) {
-            left -= by;
-            quotient |= 1;
-        }
-    }
-    *rest = left;
+u64 __muldi3(u64 a, u64 b) { return product(low(a), b) + joined(high(a) * low(b), 0); }
+
+/* The quotient of two words by one that is above the upper of them, so that it is a word. */
+static u32 quotient_of(u32 upper, u32 lower, u32 by) {
+#ifdef __sparc__
+    u32 quotient;
+    __asm__("wr %1, 0, %%y\n\tnop\n\tnop\n\tnop\n\tudiv %2, %3, %0"
+            : "=r"(quotient) : "r"(upper), "r"(lower), "r"(by));
     return quotient;
+#else
+    return (u32)(joined(upper, lower) / by);
+#endif
+}
+
+/* By two words: the quotient of the 32 bits that a divisor begins with is too great by 1 at the most, so that it is
+   taken one less, and one more where what is left is too much (H. S. Warren, Hacker's Delight, 9-5). */
+static u32 divided_by_two(u64 n, u64 by) {
+    int shift = __clzsi2(high(by));
+    u32 begin = high(by) << shift | low(by) >> 1 >> (31 - shift);
+    u32 quotient = quotient_of(high(n >> 1), low(n >> 1), begin) >> (31 - shift);
+    if (quotient) quotient--;
+    return quotient + (n - product(quotient, by) >= by);
+}
+
+static u64 divided(u64 n, u64 by) {
+    if (high(by)) return divided_by_two(n, by);
+    u32 upper = high(n), first = 0;
+    if (upper >= low(by)) {
+        first = upper / low(by);
+        upper -= first * low(by);
+    }
+    return joined(first, quotient_of(upper, low(n), low(by)));
+}
+
+static u64 left_of(u64 n, u64 by) {
+    u64 quotient = divided(n, by);
+    return high(by) ? n - product(low(quotient), by) : low(n) - low(quotient) * low(by);
 }
 
 static u64 magnitude(s64 x) { return x < 0 ? -(u64)x : (u64)x; }
 
-u64 __udivdi3(u64 n, u64 by) {
-    u64 rest;
-    return divided(n, by, &rest);
-}
-
-u64 __umoddi3(u64 n, u64 by) {
-    u64 rest;
-    divided(n, by, &rest);
-    return rest;
-}
+u64 __udivdi3(u64 n, u64 by) { return divided(n, by); }
+u64 __umoddi3(u64 n, u64 by) { return left_of(n, by); }
 
 s64 __divdi3(s64 n, s64 by) {
-    u64 rest, quotient = divided(magnitude(n), magnitude(by), &rest);
+    u64 quotient = divided(magnitude(n), magnitude(by));
     return (s64)((n < 0) != (by < 0) ? -quotient : quotient);
 }
 
 s64 __moddi3(s64 n, s64 by) {
-    u64 rest;
-    divided(magnitude(n), magnitude(by), &rest);
+    u64 rest = left_of(magnitude(n), magnitude(by));
     return (s64)(n < 0 ? -rest : rest);
 }
 
@@ -99,15 +114,14 @@ s64 __moddi3(s64 n, s64 by) {
 int __cmpdi2(s64 a, s64 b) { return a < b ? 0 : a == b ? 1 : 2; }
 int __ucmpdi2(u64 a, u64 b) { return a < b ? 0 : a == b ? 1 : 2; }
 
+/* (by halves, and not in a loop, which would take from the meter of all that divide or round) */
 int __clzsi2(u32 x) {
     int n = 0;
-    for (int step = 16; step > 0; step >>= 1) {
-        if (x >> (32 - step) == 0) {
-            n += step;
-            x <<= step;
-        }
-    }
-    return n;
+    if (x >> 16 == 0) n += 16, x <<= 16;
+    if (x >> 24 == 0) n += 8, x <<= 8;
+    if (x >> 28 == 0) n += 4, x <<= 4;
+    if (x >> 30 == 0) n += 2, x <<= 2;
+    return n + (x >> 31 == 0);
 }
 
 int __ctzsi2(u32 x) { return 31 - __clzsi2(x & -x); }

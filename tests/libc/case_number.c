@@ -165,6 +165,7 @@ static void arithmetic(void) {
     uint64_t a = some_bits(63), b = some_bits(63);
     if (below(4) == 0) a = -a;
     if (below(4) == 0) b = -b;
+    if (below(4) == 0) a = a * b + below(3) - 1; /* (beside a multiple, where a quotient is off by one first) */
     SAME(gp___muldi3(a, b), a * b);
     SAME(gp___negdi2((long long)a), (long long)-a);
     SAME(gp___cmpdi2((long long)a, (long long)b), (long long)a < (long long)b ? 0 : a == b ? 1 : 2);
